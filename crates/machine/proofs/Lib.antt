@@ -1,0 +1,20 @@
+-- What is proved of images, machines and their runs, by topic: unrefused images and their rules; numbers and counts; runs, terminators and verdicts.
+pub mod Refused
+pub mod CheckGood
+pub mod CheckParts
+pub mod CheckLoops
+pub mod Digits
+pub mod Numbers
+pub mod Nonzero
+pub mod Rules
+pub mod Lookups
+pub mod Inside
+pub mod Runs
+pub mod Ends
+pub mod Kept
+pub mod Terminators
+pub mod OneVerdict
+pub mod Notes
+pub mod NotesOfRun
+pub mod Reach
+pub mod Listing

@@ -1,0 +1,53 @@
+-- Refusals one after another: what it means that none is given, and what the check's answer says of the definition. Assumes nothing.
+use mathlib.Core.Path.{_≡_, refl, sym, ap, _∙_}
+use mathlib.Core.Bool.{Bool, true, false, cond}
+use Prim.Native.Nat.{ℕ, suc}
+use native.Mathlib.Omega.{arith}
+use lib.Dec.{eqb}
+use borrow.Author.Tests.{eqb-true, eqb-false}
+use Rattle.machine.specs.declared.Refusal.{Refusal}
+use Rattle.machine.specs.declared.Checked.{Checked}
+use Rattle.machine.specs.declared.Checked.the-variants.{Good, Refused}
+use Rattle.machine.specs.Refusals.{refusal, or-else, refuse-if}
+use Rattle.machine.specs.Calls.{checked}
+
+-- no refusal, as a record: what is said of a chain of tests is then read off the chain
+pub record Fine (f : Refusal) : Type 0 where
+  pub none-such : f .number ≡ 0
+
+-- a chain of refusals that ends with none: each test said so
+pub passed : (b : Bool) (n p : ℕ) (g : Refusal) → Fine (cond b (refusal (suc n) p) g) → (b ≡ false) × Fine g
+passed true n p g e = absurd (omega (arith, e .none-such))
+passed false n p g e = (refl, e)
+
+pub held : (b : Bool) (n p : ℕ) (g : Refusal) → Fine (cond b g (refusal (suc n) p)) → (b ≡ true) × Fine g
+held true n p g e = (refl, e)
+held false n p g e = absurd (omega (arith, e .none-such))
+
+pub neither : (f g : Refusal) → Fine (or-else f g) → Fine f × Fine g
+unfolding or-else
+neither f g e = go (eqb (f .number) 0) refl e
+  where
+    go : (t : Bool) → eqb (f .number) 0 ≡ t → Fine (cond t g f) → Fine f × Fine g
+    go true q h = (record { none-such = eqb-true _ _ q }, h)
+    go false q h = absurd (eqb-false _ _ q (h .none-such))
+
+pub not-refused : (t : Bool) (n p : ℕ) → Fine (refuse-if t (refusal (suc n) p)) → t ≡ false
+unfolding refuse-if
+not-refused t n p e = passed t n p _ e .0
+
+pub good-number : (f : Refusal) → checked f ≡ Good → f .number ≡ 0
+unfolding checked
+good-number f e = go (eqb (f .number) 0) refl e
+  where
+    go : (t : Bool) → eqb (f .number) 0 ≡ t → cond t Good (Refused f) ≡ Good → f .number ≡ 0
+    go true q h = eqb-true _ _ q
+    go false q h = absurd (let z : _≡_ {A = ℕ} 0 1 = cc in omega arith)
+
+pub refused-number : (f g : Refusal) → checked f ≡ Refused g → (g ≡ f) × (g .number ≡ 0 → ⊥)
+unfolding checked
+refused-number f g e = go (eqb (f .number) 0) refl e
+  where
+    go : (t : Bool) → eqb (f .number) 0 ≡ t → cond t Good (Refused f) ≡ Refused g → (g ≡ f) × (g .number ≡ 0 → ⊥)
+    go true q h = absurd (let z : _≡_ {A = ℕ} 0 1 = cc in omega arith)
+    go false q h = let s : g ≡ f = cc in (s, λ z. eqb-false (f .number) 0 q (sym (ap (λ (x : Refusal). x .number) s) ∙ z))

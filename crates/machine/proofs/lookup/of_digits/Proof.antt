@@ -1,0 +1,26 @@
+-- `machine::lookup::of_digits` meets its contract: no part of the number passes 32 bits. Assumes nothing.
+use native.Mathlib.Omega.{arith}
+use native.Mathlib.Nat.{mul-le-mul}
+use mir.Facts.{fits-below}
+use borrow.Author.Needs.{needs}
+use Rattle.machine.proofs.Digits.{upper-most, number-most}
+use Rattle.machine.proofs.lookup.of_digits.Statement.{statement}
+use Rattle.machine.proofs.lookup.of_digits.Tie as tie
+
+mul-result : tie.Need-mul-result
+mul-result c = fits-below tt (mul-le-mul {n₂ = 32} {m₂ = 65537} (omega arith) (omega arith))
+
+add-result : tie.Need-add-result
+add-result c = fits-below tt (upper-most 32 65537 (omega arith) (omega arith) (omega arith))
+
+mul-result-2 : tie.Need-mul-result-2
+mul-result-2 c = fits-below tt (mul-le-mul {m₂ = 128} (upper-most 32 65537 (omega arith) (omega arith) (omega arith)) (omega arith))
+
+add-result-2 : tie.Need-add-result-2
+add-result-2 c = fits-below tt (number-most 32 65537 128 (omega arith) (omega arith) (omega arith) (omega arith) (omega arith))
+
+returns : tie.Need-returns
+returns c = search needs
+
+pub of-digits-spec : {M : Type 1} → statement M
+of-digits-spec = tie.close (tie.spec mul-result add-result mul-result-2 add-result-2 returns)

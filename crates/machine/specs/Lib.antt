@@ -1,0 +1,9 @@
+-- What a reader must believe of machines, in the order of the paper: the image's format, what an image says, the run, verdicts and notes, refusals.
+pub mod Format
+pub mod Run
+pub mod Image
+pub mod Verdicts
+pub mod Refusals
+pub mod Lookup
+pub mod Calls
+pub mod Promises

@@ -1,0 +1,107 @@
+-- The step-by-step run of a machine: configurations, stack entries, one step, so many steps. Paper 000 calls it the interpreter. Assumes nothing: these are definitions.
+use mathlib.Core.Path.{_≡_}
+use mathlib.Core.Bool.{Bool, true, false, cond}
+use mathlib.Core.List.{List, [], _∷_}
+use mathlib.Core.Option.{Option, none, some}
+use Prim.Native.Nat.{ℕ, zero, suc, _+_, _*_, _/_, _%_, _<_}
+use lib.ListN.{length}
+use Rattle.machine.specs.declared.Config.{Config}
+use Rattle.machine.specs.declared.Sizes.{Sizes}
+use Rattle.machine.specs.declared.Action.{Action}
+use Rattle.machine.specs.declared.Action.the-variants.{Stop, Change, Push, Pop}
+
+abbrev pub config : (state head symbol : ℕ) → Config
+config p i a = record { state = p; head = i; symbol = a }
+
+-- A MACHINE ON ITS TAPE, all that a run sees of an image and a capture: how many states, tape places and symbols there are, what each configuration's rule does, and with which state and head a run that ends accepts
+pub record Machine : Type 0 where
+  pub states : ℕ
+  pub places : ℕ
+  pub symbols : ℕ
+  pub action : Config → Action
+  pub accepting : (state head : ℕ) → Bool
+
+-- a configuration's number: (p (n + 2) + i) G + A
+unfoldable pub number : Machine → Config → ℕ
+number M c = (c .state * M .places + c .head) * M .symbols + c .symbol
+
+-- N, the count of configurations
+unfoldable pub how-many : Machine → ℕ
+how-many M = M .states * M .places * M .symbols
+
+-- a configuration's number by the counts that a lookup keeps, and the configuration of a number
+unfoldable pub config-number : Sizes → Config → ℕ
+config-number s c = (c .state * s .places + c .head) * s .symbols + c .symbol
+
+unfoldable pub config-from : Sizes → (number : ℕ) → Config
+config-from s k = config (k / s .symbols / s .places) (k / s .symbols % s .places) (k % s .symbols)
+
+pub record There (M : Machine) (c : Config) : Type 0 where
+  pub state-below : c .state < M .states
+  pub head-below : c .head < M .places
+  pub symbol-below : c .symbol < M .symbols
+
+-- THE RUN: state, head, and stack entries with the top one first (an instantaneous description)
+pub record Entry : Type 0 where
+  pub symbol : ℕ
+  pub pointer : ℕ
+
+pub record Instant : Type 0 where
+  pub state : ℕ
+  pub head : ℕ
+  pub stack : List Entry
+
+abbrev pub entry : (symbol pointer : ℕ) → Entry
+entry a i = record { symbol = a; pointer = i }
+
+abbrev pub instant : (state head : ℕ) → List Entry → Instant
+instant p i es = record { state = p; head = i; stack = es }
+
+-- one step: stuck, over with the last entry gone, or on
+pub data Outcome : Type 0 where
+  stuck : Outcome
+  over : (state head : ℕ) → Outcome
+  next : Instant → Outcome
+
+-- the head after a pop: back at the removed entry's pointer, or where it is
+abbrev pub returned : (returns : Bool) → (pointer head : ℕ) → ℕ
+returned b i j = cond b i j
+
+unfoldable pub step-by : Action → (head : ℕ) → Entry → List Entry → Outcome
+step-by Stop i e es = stuck
+step-by (Change c) i e es = next (instant (c .state) (c .head) (entry (c .symbol) (e .pointer) ∷ es))
+step-by (Push c) i e es = next (instant (c .state) (c .head) (entry (c .symbol) (c .head) ∷ e ∷ es))
+step-by (Pop p r) i e [] = over p (returned r (e .pointer) i)
+step-by (Pop p r) i e (f ∷ es) = next (instant p (returned r (e .pointer) i) (f ∷ es))
+
+unfoldable pub step-on : Machine → (state head : ℕ) → List Entry → Outcome
+step-on M p i [] = stuck
+step-on M p i (e ∷ es) = step-by (M .action (config p i (e .symbol))) i e es
+
+unfoldable pub step : Machine → Instant → Outcome
+step M x = step-on M (x .state) (x .head) (x .stack)
+
+unfoldable pub start : Instant
+start = instant 0 0 (entry 0 0 ∷ [])
+
+-- where a run is after so many steps, if it goes on so far
+unfoldable pub only-next : Outcome → Option Instant
+only-next stuck = none
+only-next (over p i) = none
+only-next (next y) = some y
+
+unfoldable pub further : Machine → Option Instant → Option Instant
+further M none = none
+further M (some x) = only-next (step M x)
+
+unfoldable pub after : (steps : ℕ) → Machine → Instant → Option Instant
+after zero M x = some x
+after (suc n) M x = further M (after n M x)
+
+-- the configuration that a run is in: with no entry left there is none, and symbol 0 stands for it
+unfoldable pub top : List Entry → ℕ
+top [] = 0
+top (e ∷ es) = e .symbol
+
+unfoldable pub config-of : Instant → Config
+config-of x = config (x .state) (x .head) (top (x .stack))

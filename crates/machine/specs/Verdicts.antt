@@ -1,0 +1,109 @@
+-- What a run enters, terminators, verdicts with their end configurations, and notes; all of the run alone. Assumes nothing: these are definitions.
+use mathlib.Core.Path.{_≡_}
+use mathlib.Core.Bool.{Bool, true, false, cond}
+use mathlib.Core.List.{List, [], _∷_, List·Memᴰ}
+use mathlib.Core.Option.{Option, none, some}
+use Prim.Native.Nat.{ℕ, zero, suc, _+_, _<_, _≤_}
+use lib.Dec.{eqb}
+use lib.ListN.{length, getD}
+use Rattle.machine.specs.declared.Config.{Config}
+use Rattle.machine.specs.declared.Verdict.{Verdict}
+use Rattle.machine.specs.declared.Verdict.the-variants.{Accepted, Ended, Stuck, Looping, Spent, Deep}
+use Rattle.machine.specs.Run.{Machine, There, Instant, instant, entry, Outcome, stuck, over, step, start, after, config, config-of, number}
+
+-- ENTERED: the run is in it after some number of steps
+pub record Entered (M : Machine) (c : Config) : Type 0 where
+  pub steps : ℕ
+  pub place : Instant
+  pub reached : after steps M start ≡ some place
+  pub is : config-of place ≡ c
+
+-- a configuration with an entry of its symbol on top of others
+abbrev pub over-base : Config → (pointer : ℕ) → List Rattle.machine.specs.Run.Entry → Instant
+over-base c i es = instant (c .state) (c .head) (entry (c .symbol) i ∷ es)
+
+-- THE TERMINATOR: from the configuration with that entry alone, with some pointer, the one whose step removes it
+pub record Ends-with (M : Machine) (c : Config) (pointer : ℕ) (d : Config) : Type 0 where
+  pub steps : ℕ
+  pub place : Instant
+  pub reached : after steps M (over-base c pointer []) ≡ some place
+  pub is : config-of place ≡ d
+  pub gone : (p : ℕ) × (i : ℕ) × (step M place ≡ over p i)
+
+abbrev pub Ends-at : Machine → (c d : Config) → Type 0
+Ends-at M c d = Ends-with M c 0 d
+
+abbrev pub No-end : Machine → Config → Type 0
+No-end M c = (d : Config) → Ends-at M c d → ⊥
+
+-- VERDICTS. The run is over: d popped the last entry, with state p and head i then
+pub record Over (M : Machine) (d : Config) (p i : ℕ) : Type 0 where
+  pub steps : ℕ
+  pub place : Instant
+  pub reached : after steps M start ≡ some place
+  pub is : config-of place ≡ d
+  pub last : step M place ≡ over p i
+
+pub record Stuck-at (M : Machine) (d : Config) : Type 0 where
+  pub steps : ℕ
+  pub place : Instant
+  pub reached : after steps M start ≡ some place
+  pub is : config-of place ≡ d
+  pub last : step M place ≡ stuck
+
+abbrev pub Goes-on : Machine → Type 0
+Goes-on M = (n : ℕ) → (x : Instant) × (after n M start ≡ some x)
+
+-- after k steps the run is in a configuration that it was in before, and its stack has not gone below its height then
+pub record Again (M : Machine) (k : ℕ) : Type 0 where
+  pub earlier : ℕ
+  pub before : earlier < k
+  pub then-at : Instant
+  pub now-at : Instant
+  pub was : after earlier M start ≡ some then-at
+  pub is : after k M start ≡ some now-at
+  pub same : config-of then-at ≡ config-of now-at
+  pub above : (m : ℕ) (x : Instant) → earlier ≤ m → m ≤ k → after m M start ≡ some x → length (then-at .stack) ≤ length (x .stack)
+
+pub record First-again (M : Machine) (d : Config) : Type 0 where
+  pub at-step : ℕ
+  pub again : Again M at-step
+  pub first : (j : ℕ) → j < at-step → Again M j → ⊥
+  pub is : config-of (again .now-at) ≡ d
+
+-- for looping d is the first configuration to come again; spent and deep are no verdicts of a run
+abbrev pub Says : Machine → Verdict → Config → Type 0
+Says M Accepted d = (p : ℕ) × (i : ℕ) × Over M d p i × (M .accepting p i ≡ true)
+Says M Ended d = (p : ℕ) × (i : ℕ) × Over M d p i × (M .accepting p i ≡ false)
+Says M Stuck d = Stuck-at M d
+Says M Looping d = Goes-on M × First-again M d
+Says M Spent d = ⊥
+Says M Deep d = ⊥
+
+-- NOTES, the memo table: 0 never entered, 1 entered without a terminator, else 2 and the terminator's number
+pub data Note (M : Machine) (c : Config) : (cell : ℕ) → Type 0 where
+  never : (Entered M c → ⊥) → Note M c 0
+  unended : Entered M c → No-end M c → Note M c 1
+  ended : {d : Config} → Entered M c → There M d → Ends-at M c d → Note M c (2 + number M d)
+
+abbrev pub Noted : Machine → (notes : List ℕ) → Type 0
+Noted M notes = (c : Config) → There M c → Note M c (getD notes (number M c) 0)
+
+-- READINGS: how many of the first so many notes are not 0
+unfoldable pub nonzero : (count : ℕ) → List ℕ → ℕ
+nonzero zero ns = 0
+nonzero (suc k) [] = 0
+nonzero (suc k) (n ∷ ns) = cond (eqb n 0) 0 1 + nonzero k ns
+
+-- no two elements are the same
+pub data Distinct {A : Type 0} : List A → Type 0 where
+  nil : Distinct []
+  cons : {a : A} {rest : List A} → (List·Memᴰ a rest → ⊥) → Distinct rest → Distinct (a ∷ rest)
+
+-- a list of exactly the configurations that the run enters, each once
+pub record All-entered (M : Machine) (count : ℕ) : Type 0 where
+  pub configs : List Config
+  pub distinct : Distinct configs
+  pub only : (c : Config) → List·Memᴰ c configs → Entered M c
+  pub all : (c : Config) → Entered M c → List·Memᴰ c configs
+  pub counted : length configs ≡ count

@@ -1,0 +1,35 @@
+// Offsets and limits of the image, by name: the one place of the code that says them, as specs/Format.antt does for the contracts.
+
+// Sections: the counts and finals, the class map, the rules.
+pub const COUNTS_OFFSET: usize = 24;
+
+pub const COUNTS_LENGTH: usize = 8;
+
+pub const FINALS_OFFSET: usize = 28;
+
+pub const MAP_OFFSET: usize = 32;
+
+pub const MAP_LENGTH: usize = 256;
+
+pub const RULES_OFFSET: usize = 288;
+
+// The counts: states, classes and symbols, and a byte that is 0.
+pub const STATES_OFFSET: usize = 24;
+
+pub const CLASSES_OFFSET: usize = 25;
+
+pub const SYMBOLS_OFFSET: usize = 26;
+
+pub const ZERO_OFFSET: usize = 27;
+
+// A rule is four bytes: kind, state, symbol, move.
+pub const RULE_LENGTH: usize = 4;
+
+pub const MAX_STATES: u8 = 32;
+
+pub const MAX_CLASSES: u8 = 64;
+
+pub const MAX_SYMBOLS: u8 = 128;
+
+// The longest capture, in bytes.
+pub const MAX_CAPTURE: usize = 65535;

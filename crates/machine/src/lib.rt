@@ -1,0 +1,50 @@
+// The machine: what an image says, whether it is good, and which rule a configuration selects.
+// Everything that runs a machine stands on these types.
+pub mod check;
+pub mod format;
+pub mod little_endian;
+pub mod lookup;
+
+// A surface configuration: state p, head i, top symbol A.
+pub struct Config {
+    pub state: u32,
+    pub head: u32,
+    pub symbol: u32,
+}
+
+// What a configuration's rule does. A change and a push name the configuration that they lead to.
+pub enum Action {
+    Stop,
+    Change(Config),
+    Push(Config),
+    Pop { state: u32, returns: bool },
+}
+
+// How a run ends, or why it was broken off.
+pub enum Verdict {
+    Accepted,
+    Ended,
+    Stuck,
+    Looping,
+    Spent,
+    Deep,
+}
+
+// A refusal: its number in the table of refusals, and the place that it blames.
+pub struct Refusal {
+    pub number: u32,
+    pub place: usize,
+}
+
+// What the check of an image answers.
+pub enum Checked {
+    Good,
+    Refused(Refusal),
+}
+
+// The counts that every lookup needs: classes K, symbols G, and tape places n + 2.
+pub struct Sizes {
+    pub classes: u32,
+    pub symbols: u32,
+    pub places: u32,
+}
