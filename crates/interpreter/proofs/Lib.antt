@@ -1,0 +1,12 @@
+-- Laws that the proofs of this crate cite, by topic.
+pub mod Heights
+pub mod Promised
+pub mod CellLaws
+pub mod RunSteps
+pub mod ReadyLaws
+pub mod StepLaws
+pub mod CodeLaws
+pub mod MachineLaws
+pub mod WalkLaws
+pub mod ClearLaws
+pub mod RefusalLaws

@@ -1,0 +1,84 @@
+-- `run` meets its contract. The invariant: the plain run of the call is the one that goes on from the spot. The measure is what is left of the budget. Assumes nothing.
+use mathlib.Core.Path.{_∙_}
+use Prim.Native.Nat.{_-_}
+use borrow.Author.Needs.{needs}
+use Rattle.machine.specs.Image.{machine}
+use Rattle.interpreter.proofs.MachineLaws.{image-long}
+use Rattle.interpreter.proofs.WalkLaws.{Walked, walk-starts, goes-on, walks-on, walks-less, answers}
+use Rattle.interpreter.proofs.run.Statement.{statement}
+use Rattle.interpreter.proofs.run.Tie as tie
+
+abbrev Inv-loop : tie.InvT-loop
+Inv-loop image capture budget stack₀ sizes finals spot₀ stack spot = Walked (machine image capture) budget stack₀ spot stack
+
+abbrev μ-loop : tie.MeasureT-loop
+μ-loop image capture budget stack₀ sizes finals spot₀ stack spot = budget - spot .steps
+
+sizes-of-requires : tie.Need-sizes-of-requires Inv-loop μ-loop
+sizes-of-requires c κs = c .before .before .before .pre .unrefused
+
+finals-of-requires : tie.Need-finals-of-requires Inv-loop μ-loop
+finals-of-requires c κs = image-long _ _ (c .before .before .before .before .pre .unrefused)
+
+loop-holds : tie.Need-loop-holds Inv-loop μ-loop
+loop-holds c =
+    let start = c .before .before .before .before .before in
+    walk-starts _ _ _ _ (start .pre .unrefused) (start .pre .some-cell)
+
+step-requires : tie.Need-step-requires Inv-loop μ-loop
+step-requires c κs =
+    let here = c .before in
+    record {
+      unrefused = here .before .before .before .before .before .before .pre .unrefused;
+      counts = here .before .before .sizes-of .ensures;
+      finals-are = here .before .finals-of .ensures;
+      within = here .loop .inv .within;
+      ready = here .loop .inv .ready;
+    }
+
+enum-known-went : tie.Need-enum-known-went Inv-loop μ-loop
+enum-known-went c = search needs
+
+loop-less : tie.Need-loop-less Inv-loop μ-loop
+loop-less c =
+    let stepped = c .before .before .before .before .before in
+    let here = stepped .before .before in
+    walks-less (goes-on (here .before .before .before .before .before .before .pre .unrefused) (here .loop .inv) (c .before .went .given .1) (stepped .step .ensures))
+
+loop-again : tie.Need-loop-again Inv-loop μ-loop
+loop-again c =
+    let stepped = c .before .before .before .before .before in
+    let here = stepped .before .before in
+    walks-on (here .loop .inv)
+    (goes-on (here .before .before .before .before .before .before .pre .unrefused) (here .loop .inv) (c .before .went .given .1) (stepped .step .ensures))
+
+enum-known-went-2 : tie.Need-enum-known-went-2 Inv-loop μ-loop
+enum-known-went-2 c = search needs
+
+same-length : tie.Need-same-length Inv-loop μ-loop
+same-length c =
+    let stepped = c .before .before .before .before .before .before in
+    stepped .step .kept .1 .1 .1 .1 .1 .1 .0 ∙ stepped .before .before .loop .inv .long
+
+returns : tie.Need-returns Inv-loop μ-loop
+returns c =
+    let stepped = c .before .before .before .before .before .before in
+    let here = stepped .before .before in
+    answers (here .before .before .before .before .before .before .pre .unrefused) (here .loop .inv) (c .before .before .went2 .given .1) (stepped .step .ensures)
+
+pub run-spec : {M : Type 1} → statement M
+run-spec =
+    tie.close
+    (tie.spec
+    Inv-loop
+    μ-loop
+    sizes-of-requires
+    finals-of-requires
+    loop-holds
+    step-requires
+    enum-known-went
+    loop-less
+    loop-again
+    enum-known-went-2
+    same-length
+    returns)
