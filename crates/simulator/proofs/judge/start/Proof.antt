@@ -1,0 +1,10 @@
+-- `simulator::judge::start` meets its contract. Assumes nothing.
+use mathlib.Core.Path.{refl}
+use Rattle.simulator.proofs.judge.start.Statement.{statement}
+use Rattle.simulator.proofs.judge.start.Tie as tie
+
+returns : tie.Need-returns
+returns c = refl
+
+pub start-spec : {M : Type 1} → statement M
+start-spec = tie.close (tie.spec returns)

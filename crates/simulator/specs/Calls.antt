@@ -1,0 +1,64 @@
+-- What the call `judge` answers and leaves in the lent cells. Assumes nothing: these are definitions.
+use mathlib.Core.Path.{_≡_}
+use mathlib.Core.List.{List, _++_}
+use Prim.Native.Nat.{ℕ, zero, suc}
+use lib.Dec.{ltb}
+use mathlib.Core.Option.{some}
+use lib.ListN.{length, drop, replicate}
+use Rattle.machine.specs.declared.Config.{Config}
+use Rattle.machine.specs.declared.Refusal.{Refusal}
+use Rattle.machine.specs.declared.Verdict.{Verdict}
+use Rattle.machine.specs.Format
+use Rattle.machine.specs.Run.{how-many}
+use Rattle.machine.specs.Image.{machine}
+use Rattle.machine.specs.Verdicts.{Says, Noted, nonzero}
+use Rattle.machine.specs.Refusals.{refusal, or-else, refuse-if, image-refusal}
+use Rattle.simulator.specs.declared.Judged.{Judged}
+use Rattle.simulator.specs.declared.Judged.the-variants.{Refused, Answer}
+use Rattle.simulator.specs.Chain.{reached, chain}
+
+-- judging refuses by 1 to 6, 7, 8 and 9, the lowest first
+unfoldable pub judge-refusal : (image capture : List ℕ) → (notes work : ℕ) → Refusal
+judge-refusal bs cs a b =
+    or-else (image-refusal bs)
+    (or-else (refuse-if (ltb Format.max-capture (length cs)) (refusal 7 (length cs)))
+    (or-else (refuse-if (ltb a (how-many (machine bs cs))) (refusal 8 (how-many (machine bs cs))))
+    (refuse-if (ltb b (how-many (machine bs cs))) (refusal 9 (how-many (machine bs cs))))))
+
+-- the chain has come to this answer and these notes
+pub record Chain-ends (bs cs : List ℕ) (v : Verdict) (readings : ℕ) (end : Config) (notes : List ℕ) : Type 0 where
+  pub steps : ℕ
+  pub verdict-is : chain .verdict (reached chain bs cs steps .now-at) ≡ some v
+  pub readings-are : chain .readings (reached chain bs cs steps .now-at) ≡ readings
+  pub end-is : chain .end (reached chain bs cs steps .now-at) ≡ end
+  pub notes-are : reached chain bs cs steps .notes ≡ notes
+
+-- an answer: the run's verdict and end, its notes and their count, all as the chain ends; later cells as they were, the work cells 0
+pub record Right (bs cs : List ℕ) (r : Judged) (a a-now b b-now : List ℕ) : Type 0 where
+  pub verdict : Verdict
+  pub readings : ℕ
+  pub end : Config
+  pub notes : List ℕ
+  pub answers : r ≡ Answer verdict readings end
+  pub says : Says (machine bs cs) verdict end
+  pub noted : Noted (machine bs cs) notes
+  pub counted : readings ≡ nonzero (how-many (machine bs cs)) notes
+  pub noted-cells : length notes ≡ how-many (machine bs cs)
+  pub notes-now : a-now ≡ notes ++ drop (how-many (machine bs cs)) a
+  pub work-now : b-now ≡ replicate (how-many (machine bs cs)) 0 ++ drop (how-many (machine bs cs)) b
+  pub by-chain : Chain-ends bs cs verdict readings end notes
+
+-- a refusal changes no cell
+unfoldable pub Judge-as : (number : ℕ) → Refusal → (bs cs : List ℕ) → Judged → (a a-now b b-now : List ℕ) → Type 0
+Judge-as zero f bs cs r a x b y = Right bs cs r a x b y
+Judge-as (suc n) f bs cs r a x b y = (r ≡ Refused f) × (x ≡ a) × (y ≡ b)
+
+unfoldable pub Judge-says : (image capture : List ℕ) → Judged → (a a-now b b-now : List ℕ) → Type 0
+Judge-says bs cs r a x b y =
+    Judge-as (judge-refusal bs cs (length a) (length b) .number) (judge-refusal bs cs (length a) (length b)) bs cs r a x b y
+
+-- answer and cells are determined by the input
+unfoldable pub Judge-determined : Type 0
+Judge-determined =
+    (bs cs a b : List ℕ) (r s : Judged) (x y x′ y′ : List ℕ) → Judge-says bs cs r a x b y →
+    Judge-says bs cs s a x′ b y′ → (r ≡ s) × (x ≡ x′) × (y ≡ y′)

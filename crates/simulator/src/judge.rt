@@ -1,0 +1,138 @@
+// The call `judge`: checks, then the chain of steps from the start record, over exactly as many cells as there are configurations.
+use crate::Judged;
+use crate::Mode;
+use crate::Record;
+use crate::step::step;
+use machine::Checked;
+use machine::Config;
+use machine::Refusal;
+use machine::Sizes;
+use machine::check::check_image;
+use machine::format::MAX_CAPTURE;
+use machine::format::STATES_OFFSET;
+use machine::format::SYMBOLS_OFFSET;
+use machine::lookup;
+ghost use mathlib.Core.Path.{_≡_};
+ghost use mathlib.Core.List.{[]};
+ghost use Prim.Native.Nat.{_<_};
+ghost use lib.ListN.{length, replicate};
+ghost use Rattle.machine.specs.declared.Refusal.{Refusal};
+ghost use Rattle.machine.specs.Run.{how-many};
+ghost use Rattle.machine.specs.Image.{machine};
+ghost use Rattle.machine.specs.Refusals.{Unrefused, image-refusal, refusal};
+ghost use Rattle.simulator.specs.declared.Judged.the-variants.{Refused};
+ghost use Rattle.simulator.specs.Ready.{start-record};
+ghost use Rattle.simulator.specs.Calls.{Right, Judge-says};
+
+// The start record, from the image's counts and finals and the capture's length.
+pub fn start(sizes: Sizes, finals: u32) -> Record
+    ensures { λ r. ⌜ r ≡ start-record sizes finals ⌝ }
+{
+    let at = Config {
+        state: 0,
+        head: 0,
+        symbol: 0,
+    };
+    Record {
+        sizes,
+        finals,
+        mode: Mode::Look,
+        at,
+        pushed: true,
+        top: 0,
+        readings: 0,
+    }
+}
+
+// Every cell 0.
+fn zero(cells: &mut [u32])
+    ensures { λ _. ⌜ now (cells .exit) ≡ replicate (length (now (cells .entry))) 0 ⌝ }
+{
+    let n = cells.len();
+    let mut i: usize = 0;
+    while i < n {
+        cells[i] = 0;
+        i += 1;
+    }
+}
+
+// The chain: steps until the verdict stands.
+fn run(image: &[u8], capture: &[u8], notes: &mut [u32], work: &mut [u32]) -> Judged
+    requires { ⌜ Unrefused (now image) (now capture) × (now notes ≡ replicate (how-many (machine (now image) (now capture))) 0) × (now work ≡ replicate (how-many (machine (now image) (now capture))) 0) ⌝ }
+    ensures { λ r. ⌜ Right (now (image .entry)) (now (capture .entry)) r [] (now (notes .exit)) [] (now (work .exit)) ⌝ }
+{
+    let sizes = lookup::sizes_of(image, capture);
+    let finals = lookup::finals_of(image);
+    let mut r = start(sizes, finals);
+    let mut steps: u32 = 0;
+    loop {
+        let mode = r.mode;
+        if let Mode::Done(verdict) = mode {
+            let end = r.at;
+            return Judged::Answer {
+                verdict,
+                readings: r.readings,
+                end,
+            };
+        }
+        r = step(image, capture, r, notes, work);
+        steps += 1;
+    }
+}
+
+// Judging of checked input, lent exactly as many cells as there are configurations.
+fn judge_checked(image: &[u8], capture: &[u8], notes: &mut [u32], work: &mut [u32]) -> Judged
+    requires { ⌜ Unrefused (now image) (now capture) × (length (now notes) ≡ how-many (machine (now image) (now capture))) × (length (now work) ≡ how-many (machine (now image) (now capture))) ⌝ }
+    ensures { λ r. ⌜ Right (now (image .entry)) (now (capture .entry)) r [] (now (notes .exit)) [] (now (work .exit)) ⌝ }
+{
+    zero(notes);
+    zero(work);
+    run(image, capture, notes, work)
+}
+
+// N, the count of configurations.
+fn cells_needed(image: &[u8], capture: &[u8]) -> usize
+    requires { ⌜ Unrefused (now image) (now capture) ⌝ }
+    ensures { λ r. ⌜ r ≡ how-many (machine (now (image .entry)) (now (capture .entry))) ⌝ }
+{
+    let states = image[STATES_OFFSET] as usize;
+    let symbols = image[SYMBOLS_OFFSET] as usize;
+    let places = capture.len() + 2;
+    states * places * symbols
+}
+
+fn refused(number: u32, place: usize) -> Judged
+    ensures { λ r. ⌜ r ≡ Refused (refusal number place) ⌝ }
+{
+    Judged::Refused(Refusal { number, place })
+}
+
+// Judging of a good image: capture and cells are checked.
+fn judge_good(image: &[u8], capture: &[u8], notes: &mut [u32], work: &mut [u32]) -> Judged
+    requires { ⌜ image-refusal (now image) .number ≡ 0 ⌝ }
+    ensures { λ r. ⌜ Judge-says (now (image .entry)) (now (capture .entry)) r (now (notes .entry)) (now (notes .exit)) (now (work .entry)) (now (work .exit)) ⌝ }
+{
+    let n = capture.len();
+    if MAX_CAPTURE < n {
+        return refused(7, n);
+    }
+    let cells = cells_needed(image, capture);
+    if notes.len() < cells {
+        return refused(8, cells);
+    }
+    if work.len() < cells {
+        return refused(9, cells);
+    }
+    judge_checked(image, capture, &mut notes[..cells], &mut work[..cells])
+}
+
+// Judges a capture by an image: verdict, readings and end configuration, with the notes of every configuration in the lent cells, or a refusal.
+pub fn judge(image: &[u8], capture: &[u8], notes: &mut [u32], work: &mut [u32]) -> Judged
+    ensures { λ r. ⌜ Judge-says (now (image .entry)) (now (capture .entry)) r (now (notes .entry)) (now (notes .exit)) (now (work .entry)) (now (work .exit)) ⌝ }
+{
+    let checked = check_image(image);
+    match checked {
+        Checked::Refused(refusal) => Judged::Refused(refusal),
+        Checked::Good => judge_good(image, capture, notes, work),
+    }
+}
