@@ -1,0 +1,77 @@
+-- The pass over the byte values: the class of the next value, and bounds on classes and on the image's rules. Assumes nothing.
+use mathlib.Core.Path.{_≡_, refl, sym, ap, _∙_}
+use mathlib.Core.Bool.{Bool, true, false, cond}
+use mathlib.Core.List.{List}
+use Prim.Native.Nat.{ℕ, zero, suc, _+_, _*_, _<_, _≤_}
+use native.Mathlib.Nat.{mul-le-mul}
+use native.Mathlib.Numerals.{add-one}
+use native.Mathlib.Omega.{arith}
+use lib.ListN.{length}
+use Rattle.grammar.specs.Grammar.{rules, grammar-refusal}
+use Rattle.grammar.specs.Classes.{cut, class-of, class-count}
+use Rattle.grammar.specs.Image.{symbols-of, built-rules}
+use Rattle.grammar.proofs.GrammarGood.{good-grammar}
+use Rattle.grammar.proofs.ClassesFew.{class-count-most}
+
+one-or-none : (t : Bool) → cond t 1 0 ≤ 1
+one-or-none true = omega arith
+one-or-none false = omega arith
+
+pub class-step : (gs : List ℕ) (v : ℕ) → class-of gs (v + 1) ≡ class-of gs v + cond (cut gs (v + 1)) 1 0
+unfolding class-of
+class-step gs v = rw (add-one v)
+
+-- the count after one more value
+pub class-next : (gs : List ℕ) (class v next : ℕ) → class ≡ class-of gs v → next ≡ class + cond (cut gs (v + 1)) 1 0 → next ≡ class-of gs (v + 1)
+class-next gs class v next e f = f ∙ ap (λ (n : ℕ). n + cond (cut gs (v + 1)) 1 0) e ∙ sym (class-step gs v)
+
+pub class-zero : (gs : List ℕ) → class-of gs 0 ≡ 0
+unfolding class-of
+class-zero gs = refl
+
+pub class-within : (gs : List ℕ) (v : ℕ) → class-of gs v ≤ v
+unfolding class-of
+class-within gs zero = omega arith
+class-within gs (suc v) = omega (arith, class-within gs v, one-or-none (cut gs (suc v)))
+
+pub next-fits :
+    (gs : List ℕ) (class v next : ℕ) → class ≡ class-of gs v → next ≡ class + cond (cut gs (v + 1)) 1 0 → v < 255 → next < 256
+next-fits gs class v next e f h = omega (arith, class-next gs class v next e f, class-within gs (v + 1))
+
+pub classes-are : (gs : List ℕ) (class v : ℕ) → class ≡ class-of gs v → 255 ≤ v → v ≤ 255 → class + 1 ≡ class-count gs
+unfolding class-count
+classes-are gs class v e h l =
+    let last : v ≡ 255 = omega arith in
+    ap (λ (n : ℕ). n + 1) (e ∙ ap (class-of gs) last)
+
+pub symbols-some : (gs : List ℕ) → 0 < symbols-of gs
+unfolding symbols-of
+symbols-some gs = omega arith
+
+-- AN IMAGE IS SHORT: K is at most 63, and so is G
+module _ (gs : List ℕ) (good : grammar-refusal gs .number ≡ 0) where
+  pub grammar-short : length gs ≤ 124
+  grammar-short = let w = good-grammar gs good in omega (arith, w .length-is, w .rules-most)
+
+  pub classes-most : class-count gs ≤ 63
+  classes-most = class-count-most gs (good-grammar gs good .rules-most)
+
+  pub symbols-most : symbols-of gs ≤ 63
+  unfolding symbols-of
+  symbols-most = omega (arith, good-grammar gs good .rules-most)
+
+  pub columns-most : (n : ℕ) → n ≡ class-count gs → 5 * (n + 2) ≤ 325
+  columns-most n e = omega (arith, classes-most)
+
+  pub product-most : (n g : ℕ) → n ≡ class-count gs → g ≡ symbols-of gs → 5 * (n + 2) * g ≤ 20475
+  product-most n g e f =
+      let symbols : g ≤ 63 = omega (arith, symbols-most) in
+      mul-le-mul (columns-most n e) symbols
+
+pub count-is : (gs : List ℕ) (n g : ℕ) → n ≡ class-count gs → g ≡ symbols-of gs → 5 * (n + 2) * g ≡ built-rules gs
+unfolding built-rules
+count-is gs n g e f = simp (e, f)
+
+pub count-most : (gs : List ℕ) → grammar-refusal gs .number ≡ 0 → built-rules gs ≤ 20475
+unfolding built-rules
+count-most gs good = product-most gs good (class-count gs) (symbols-of gs) refl refl

@@ -1,0 +1,26 @@
+-- What is proved of grammars and their images, by topic: unrefused grammars and byte classes; the image as it reads back; its machine as a table of rows; parsing; few readings; and the laws that the code's proofs cite.
+pub mod Bools
+pub mod GrammarGood
+pub mod Classes
+pub mod ClassesFew
+pub mod Bytes
+pub mod BuiltImage
+pub mod BuiltRules
+pub mod BuiltGood
+pub mod Table
+pub mod BuiltTable
+pub mod TableRows
+pub mod ParseRuns
+pub mod RunParses
+pub mod Parsed
+pub mod Pigeonhole
+pub mod Leads
+pub mod Entered
+pub mod FewReadings
+pub mod Promised
+pub mod CodeGrammar
+pub mod CodeClasses
+pub mod CodeWriting
+pub mod CodeRows
+pub mod CodeRules
+pub mod CodeBuild

@@ -1,0 +1,99 @@
+-- `grammar::check::right` meets its contract: one case for each kind of rule. Assumes nothing.
+use borrow.Author.Tests.{eq-eqb, ne-eqb}
+use borrow.Author.Needs.{needs}
+use Rattle.grammar.specs.Grammar.{rule-right}
+use Rattle.grammar.proofs.check.right.Statement.{statement}
+use Rattle.grammar.proofs.check.right.Tie as tie
+
+returns : tie.Need-returns
+unfolding rule-right
+returns c = simp (ne-eqb _ _ (c .if1 .taken))
+
+both-below-requires : tie.Need-both-below-requires
+both-below-requires c κs = search needs
+
+returns-2 : tie.Need-returns-2
+unfolding rule-right
+returns-2 c = simp (eq-eqb _ _ (c .before .before .if1 .left), eq-eqb _ _ (c .before .if2 .taken)) (c .both-below .ensures)
+
+both-below-requires-2 : tie.Need-both-below-requires-2
+both-below-requires-2 c κs = search needs
+
+returns-3 : tie.Need-returns-3
+unfolding rule-right
+returns-3 c =
+    simp (
+      eq-eqb _ _ (c .before .before .before .if1 .left),
+      ne-eqb _ _ (c .before .before .if2 .left),
+      eq-eqb _ _ (c .before .if3 .taken),
+    )
+    (c .both-below2 .ensures)
+
+below-and-zero-requires : tie.Need-below-and-zero-requires
+below-and-zero-requires c κs = search needs
+
+returns-4 : tie.Need-returns-4
+unfolding rule-right
+returns-4 c =
+    simp (
+      eq-eqb _ _ (c .before .before .before .before .if1 .left),
+      ne-eqb _ _ (c .before .before .before .if2 .left),
+      ne-eqb _ _ (c .before .before .if3 .left),
+      eq-eqb _ _ (c .before .if4 .taken),
+    )
+    (c .below-and-zero .ensures)
+
+both-zero-requires : tie.Need-both-zero-requires
+both-zero-requires c κs = search needs
+
+returns-5 : tie.Need-returns-5
+unfolding rule-right
+returns-5 c =
+    simp (
+      eq-eqb _ _ (c .before .before .before .before .before .if1 .left),
+      ne-eqb _ _ (c .before .before .before .before .if2 .left),
+      ne-eqb _ _ (c .before .before .before .if3 .left),
+      ne-eqb _ _ (c .before .before .if4 .left),
+      eq-eqb _ _ (c .before .if5 .taken),
+    )
+    (c .both-zero .ensures)
+
+returns-6 : tie.Need-returns-6
+unfolding rule-right
+returns-6 c =
+    simp (
+      eq-eqb _ _ (c .before .before .before .before .before .if1 .left),
+      ne-eqb _ _ (c .before .before .before .before .if2 .left),
+      ne-eqb _ _ (c .before .before .before .if3 .left),
+      ne-eqb _ _ (c .before .before .if4 .left),
+      ne-eqb _ _ (c .before .if5 .left),
+      ne-eqb _ _ (c .if6 .taken),
+    )
+
+returns-7 : tie.Need-returns-7
+unfolding rule-right
+returns-7 c =
+    simp (
+      eq-eqb _ _ (c .before .before .before .before .before .if1 .left),
+      ne-eqb _ _ (c .before .before .before .before .if2 .left),
+      ne-eqb _ _ (c .before .before .before .if3 .left),
+      ne-eqb _ _ (c .before .before .if4 .left),
+      ne-eqb _ _ (c .before .if5 .left),
+      eq-eqb _ _ (c .if6 .left),
+    )
+
+pub right-spec : {M : Type 1} → statement M
+right-spec =
+    tie.close
+    (tie.spec
+    returns
+    both-below-requires
+    returns-2
+    both-below-requires-2
+    returns-3
+    below-and-zero-requires
+    returns-4
+    both-zero-requires
+    returns-5
+    returns-6
+    returns-7)

@@ -1,0 +1,99 @@
+-- `grammar::check::rules_refusal` meets its contract: the loop's invariant says that the rules left decide. Assumes nothing.
+use mathlib.Core.Path.{sym, _∙_}
+use Prim.Native.Nat.{_-_}
+use native.Mathlib.Omega.{arith}
+use borrow.Author.Tests.{not-true, not-false}
+use Rattle.grammar.specs.Grammar.{rules, kind-of, b-of, c-of}
+use Rattle.grammar.proofs.CodeGrammar.{Rules-left, check-start, check-stop, check-next, check-end}
+use Rattle.grammar.proofs.check.rules_refusal.Statement.{statement}
+use Rattle.grammar.proofs.check.rules_refusal.Tie as tie
+
+abbrev Inv-loop : tie.InvT-loop
+Inv-loop grammar count m k₀ k = Rules-left grammar k
+
+abbrev μ-loop : tie.MeasureT-loop
+μ-loop grammar count m k₀ k = count - k
+
+cast-m : tie.Need-cast-m Inv-loop μ-loop
+cast-m c = omega arith
+
+loop-holds : tie.Need-loop-holds Inv-loop μ-loop
+loop-holds c = check-start _
+
+mul-at : tie.Need-mul-at Inv-loop μ-loop
+mul-at c = omega arith
+
+shared-slice-read-right : tie.Need-shared-slice-read-right Inv-loop μ-loop
+shared-slice-read-right c = omega arith
+
+add-right : tie.Need-add-right Inv-loop μ-loop
+add-right c = omega arith
+
+shared-slice-read-right-2 : tie.Need-shared-slice-read-right-2 Inv-loop μ-loop
+shared-slice-read-right-2 c = omega arith
+
+add-right-2 : tie.Need-add-right-2 Inv-loop μ-loop
+add-right-2 c = omega arith
+
+shared-slice-read-right-3 : tie.Need-shared-slice-read-right-3 Inv-loop μ-loop
+shared-slice-read-right-3 c = omega arith
+
+add-right-3 : tie.Need-add-right-3 Inv-loop μ-loop
+add-right-3 c = omega arith
+
+shared-slice-read-right-4 : tie.Need-shared-slice-read-right-4 Inv-loop μ-loop
+shared-slice-read-right-4 c = omega arith
+
+right-requires : tie.Need-right-requires Inv-loop μ-loop
+right-requires c κs = tt
+
+returns : tie.Need-returns Inv-loop μ-loop
+unfolding rules kind-of b-of c-of
+returns c =
+    check-stop (c .before .before .before .before .before .before .before .before .before .args .grammar .now)
+    (c .before .before .before .before .before .before .before .loop .k)
+    (c .before .before .before .before .before .before .before .loop .inv)
+    (c .before .before .before .before .before .before .loop-test .taken)
+    (sym (c .before .right .ensures) ∙ not-true _ (c .if1 .taken))
+
+add-k : tie.Need-add-k Inv-loop μ-loop
+add-k c = omega arith
+
+loop-less : tie.Need-loop-less Inv-loop μ-loop
+loop-less c = omega arith
+
+loop-again : tie.Need-loop-again Inv-loop μ-loop
+unfolding rules kind-of b-of c-of
+loop-again c =
+    check-next (c .before .before .before .before .before .before .before .before .before .args .grammar .now)
+    (c .before .before .before .before .before .before .before .loop .k)
+    (c .before .before .before .before .before .before .before .loop .inv)
+    (c .before .before .before .before .before .before .loop-test .taken)
+    (sym (c .before .right .ensures) ∙ not-false _ (c .if1 .left))
+
+returns-2 : tie.Need-returns-2 Inv-loop μ-loop
+unfolding rules
+returns-2 c = check-end (c .before .before .before .args .grammar .now) (c .before .loop .k) (c .before .loop .inv) (c .loop-test .left)
+
+pub rules-refusal-spec : {M : Type 1} → statement M
+rules-refusal-spec =
+    tie.close
+    (tie.spec
+    Inv-loop
+    μ-loop
+    cast-m
+    loop-holds
+    mul-at
+    shared-slice-read-right
+    add-right
+    shared-slice-read-right-2
+    add-right-2
+    shared-slice-read-right-3
+    add-right-3
+    shared-slice-read-right-4
+    right-requires
+    returns
+    add-k
+    loop-less
+    loop-again
+    returns-2)

@@ -1,0 +1,26 @@
+-- `grammar::rows::one_byte` meets its contract: a class is in the range or not. Assumes nothing.
+use mathlib.Core.Path.{ap}
+use Prim.Native.Nat.{ℕ}
+use native.Mathlib.Omega.{arith}
+use borrow.Author.Needs.{needs}
+use Rattle.grammar.specs.Image.{rule}
+use Rattle.grammar.proofs.rows.one_byte.Statement.{statement}
+use Rattle.grammar.proofs.rows.one_byte.Tie as tie
+
+mul-symbol : tie.Need-mul-symbol
+mul-symbol c = search needs
+
+add-symbol : tie.Need-add-symbol
+add-symbol c = search needs
+
+returns : tie.Need-returns
+returns c = simp (c .if1 .taken) (ap (λ (a : ℕ). rule 1 2 a 1) (omega arith))
+
+pop-requires : tie.Need-pop-requires
+pop-requires c κs = search needs
+
+returns-2 : tie.Need-returns-2
+returns-2 c = simp (c .before .if1 .left) (c .pop .ensures)
+
+pub one-byte-spec : {M : Type 1} → statement M
+one-byte-spec = tie.close (tie.spec mul-symbol add-symbol returns pop-requires returns-2)

@@ -1,0 +1,20 @@
+-- `grammar::rows::push` meets its contract: the symbol of a rule below 31 is a byte. Assumes nothing.
+use mathlib.Core.Path.{ap}
+use Prim.Native.Nat.{ℕ}
+use native.Mathlib.Omega.{arith}
+use borrow.Author.Needs.{needs}
+use Rattle.grammar.specs.Image.{rule}
+use Rattle.grammar.proofs.rows.push.Statement.{statement}
+use Rattle.grammar.proofs.rows.push.Tie as tie
+
+mul-symbol : tie.Need-mul-symbol
+mul-symbol c = search needs
+
+add-symbol : tie.Need-add-symbol
+add-symbol c = search needs
+
+returns : tie.Need-returns
+returns c = ap (λ (a : ℕ). rule 2 1 a 0) (omega arith)
+
+pub push-spec : {M : Type 1} → statement M
+push-spec = tie.close (tie.spec mul-symbol add-symbol returns)

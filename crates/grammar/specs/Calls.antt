@@ -1,0 +1,28 @@
+-- What building answers and leaves in the lent buffer. Assumes nothing: these are definitions.
+use mathlib.Core.Path.{_≡_}
+use mathlib.Core.List.{List, _++_}
+use Prim.Native.Nat.{ℕ, zero, suc}
+use lib.Dec.{ltb}
+use lib.ListN.{length, drop}
+use Rattle.machine.specs.declared.Refusal.{Refusal}
+use Rattle.machine.specs.Refusals.{refusal, or-else, refuse-if}
+use Rattle.grammar.specs.declared.Built.{Built}
+use Rattle.grammar.specs.declared.Built.the-variants.{Refused, Image}
+use Rattle.grammar.specs.Grammar.{grammar-refusal}
+use Rattle.grammar.specs.Image.{built, built-length}
+
+-- building refuses by 11, 12 and 13, the lowest first
+unfoldable pub build-refusal : (grammar : List ℕ) → (room : ℕ) → Refusal
+build-refusal gs n = or-else (grammar-refusal gs) (refuse-if (ltb n (built-length gs)) (refusal 13 (built-length gs)))
+
+-- the image, then the later bytes as they were; a refusal changes no byte
+unfoldable pub Build-as : (number : ℕ) → Refusal → (grammar : List ℕ) → Built → (a a-now : List ℕ) → Type 0
+Build-as zero f gs r a b = (r ≡ Image (built-length gs)) × (b ≡ built gs ++ drop (built-length gs) a)
+Build-as (suc n) f gs r a b = (r ≡ Refused f) × (b ≡ a)
+
+unfoldable pub Build-says : (grammar : List ℕ) → Built → (a a-now : List ℕ) → Type 0
+Build-says gs r a b = Build-as (build-refusal gs (length a) .number) (build-refusal gs (length a)) gs r a b
+
+-- answer and bytes are determined by the input
+unfoldable pub Build-determined : Type 0
+Build-determined = (gs a : List ℕ) (r s : Built) (x y : List ℕ) → Build-says gs r a x → Build-says gs s a y → (r ≡ s) × (x ≡ y)

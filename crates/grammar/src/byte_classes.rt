@@ -1,0 +1,93 @@
+// Byte classes: one pass over the byte values, with a count of the cuts so far.
+use crate::Expression;
+use crate::check::RULE_BYTES;
+use crate::check::expression_of;
+use machine::format::MAP_OFFSET;
+ghost use mathlib.Core.Path.{_≡_};
+ghost use mathlib.Core.Bool.{_||_, cond};
+ghost use mathlib.Core.List.{_++_};
+ghost use Prim.Native.Nat.{_+_, _*_, _<_, _≤_};
+ghost use lib.Dec.{eqb};
+ghost use lib.ListN.{length, take};
+ghost use Rattle.machine.specs.Format.{map-offset, map-length, rules-offset};
+ghost use Rattle.grammar.specs.Grammar.{max-rules};
+ghost use Rattle.grammar.specs.Classes.{cuts-at, cut as cut-of, class-of, class-count as class-count-of};
+ghost use Rattle.grammar.specs.Image.{map-made};
+
+// Whether a range begins at v, or ends before it.
+fn range_cuts(b: u8, c: u8, v: u32) -> bool
+    ensures { λ r. ⌜ r ≡ (eqb b v || eqb (c + 1) v) ⌝ }
+{
+    let first = b as u32;
+    if first == v {
+        return true;
+    }
+    let after = c as u32 + 1;
+    after == v
+}
+
+// Whether one rule cuts at v.
+fn cuts_at(e: Expression, v: u32) -> bool
+    ensures { λ r. ⌜ r ≡ cuts-at e v ⌝ }
+{
+    match e {
+        Expression::Sequence(_, _) => false,
+        Expression::Choice(_, _) => false,
+        Expression::Not(_) => false,
+        Expression::Empty => false,
+        Expression::Range(b, c) => range_cuts(b, c, v),
+    }
+}
+
+// Whether some rule cuts at v.
+fn cut(grammar: &[u8], v: u32) -> bool
+    ensures { λ r. ⌜ r ≡ cut-of (now (grammar .entry)) v ⌝ }
+{
+    let count = grammar.len() / RULE_BYTES;
+    let mut k: usize = 0;
+    while k < count {
+        let e = expression_of(grammar, k);
+        if cuts_at(e, v) {
+            return true;
+        }
+        k += 1;
+    }
+    false
+}
+
+// The class of v, from that of the value before it.
+fn class_next(grammar: &[u8], class: u32, v: u32) -> u32
+    requires { ⌜ class < 256 ⌝ }
+    ensures { λ r. ⌜ r ≡ class + cond (cut-of (now (grammar .entry)) v) 1 0 ⌝ }
+{
+    if cut(grammar, v) { class + 1 } else { class }
+}
+
+// K, the count of classes.
+pub fn class_count(grammar: &[u8]) -> u32
+    ensures { λ r. ⌜ r ≡ class-count-of (now (grammar .entry)) ⌝ }
+{
+    let mut class: u32 = 0;
+    let mut v: u32 = 0;
+    while v < 255 {
+        v += 1;
+        class = class_next(grammar, class, v);
+    }
+    class + 1
+}
+
+// The class map: the class of each byte value, after what stands before the map.
+pub fn write_map(grammar: &[u8], image: &mut [u8])
+    requires { ⌜ rules-offset ≤ length (now image) ⌝ }
+    ensures { λ r. ⌜ take rules-offset (now (image .exit)) ≡ take map-offset (now (image .entry)) ++ map-made map-length 0 (now (grammar .entry)) ⌝ }
+{
+    let mut class: u32 = 0;
+    let mut v: u32 = 0;
+    image[MAP_OFFSET] = 0;
+    while v < 255 {
+        v += 1;
+        class = class_next(grammar, class, v);
+        let at = MAP_OFFSET + v as usize;
+        image[at] = class as u8;
+    }
+}

@@ -1,0 +1,168 @@
+// The check of a grammar: refusals 11 and 12, for every byte string of any length; and what a rule's bytes say.
+use crate::Expression;
+use machine::Checked;
+use machine::Refusal;
+ghost use mathlib.Core.Path.{_≡_};
+ghost use mathlib.Core.Bool.{not, _&&_, _||_};
+ghost use Prim.Native.Nat.{_+_, _*_, _%_, _/_, _<_, _≤_};
+ghost use lib.Dec.{eqb, ltb};
+ghost use lib.ListN.{length};
+ghost use Rattle.machine.specs.Calls.{checked};
+ghost use Rattle.grammar.specs.Grammar.{max-rules, rules, expression, expression-by, rule-right, rules-from, grammar-refusal};
+
+// The bytes of a grammar rule: kind, b, c and 0.
+pub const RULE_BYTES: usize = 4;
+
+// The most bytes that a grammar has: those of 31 rules.
+const MAX_LENGTH: usize = 124;
+
+// Refusal 11: no rule, too many rules, or a part of a rule.
+fn length_wrong(long: usize) -> bool
+    ensures { λ r. ⌜ r ≡ (eqb long 0 || (ltb (4 * max-rules) long || not (eqb (long % 4) 0))) ⌝ }
+{
+    if long == 0 {
+        return true;
+    }
+    if MAX_LENGTH < long {
+        return true;
+    }
+    let part = long % RULE_BYTES;
+    part != 0
+}
+
+// Whether both named rules are there.
+fn both_below(m: u8, b: u8, c: u8) -> bool
+    ensures { λ r. ⌜ r ≡ (ltb b m && ltb c m) ⌝ }
+{
+    if m <= b {
+        return false;
+    }
+    c < m
+}
+
+fn below_and_zero(m: u8, b: u8, c: u8) -> bool
+    ensures { λ r. ⌜ r ≡ (ltb b m && eqb c 0) ⌝ }
+{
+    if m <= b {
+        return false;
+    }
+    c == 0
+}
+
+fn both_zero(b: u8, c: u8) -> bool
+    ensures { λ r. ⌜ r ≡ (eqb b 0 && eqb c 0) ⌝ }
+{
+    if b != 0 {
+        return false;
+    }
+    c == 0
+}
+
+// Whether a rule's four bytes are right in a grammar of m rules.
+fn right(m: u8, kind: u8, b: u8, c: u8, last: u8) -> bool
+    ensures { λ r. ⌜ r ≡ rule-right m kind b c last ⌝ }
+{
+    if last != 0 {
+        return false;
+    }
+    if kind == 1 {
+        return both_below(m, b, c);
+    }
+    if kind == 2 {
+        return both_below(m, b, c);
+    }
+    if kind == 3 {
+        return below_and_zero(m, b, c);
+    }
+    if kind == 4 {
+        return both_zero(b, c);
+    }
+    if kind != 5 {
+        return false;
+    }
+    b <= c
+}
+
+// Refusal 12: the first rule that is not right.
+fn rules_refusal(grammar: &[u8]) -> Refusal
+    requires { ⌜ length (now grammar) ≤ 4 * max-rules ⌝ }
+    ensures { λ r. ⌜ r ≡ rules-from (rules (now (grammar .entry))) 0 (now (grammar .entry)) ⌝ }
+{
+    let count = grammar.len() / RULE_BYTES;
+    let m = count as u8;
+    let mut k: usize = 0;
+    while k < count {
+        let at = RULE_BYTES * k;
+        if !right(
+            m,
+            grammar[at],
+            grammar[at + 1],
+            grammar[at + 2],
+            grammar[at + 3],
+        ) {
+            return Refusal {
+                number: 12,
+                place: at,
+            };
+        }
+        k += 1;
+    }
+    Refusal {
+        number: 0,
+        place: 0,
+    }
+}
+
+// The first refusal of a grammar, or number 0.
+pub fn refusal_of(grammar: &[u8]) -> Refusal
+    ensures { λ r. ⌜ r ≡ grammar-refusal (now (grammar .entry)) ⌝ }
+{
+    let long = grammar.len();
+    if length_wrong(long) {
+        return Refusal {
+            number: 11,
+            place: long,
+        };
+    }
+    rules_refusal(grammar)
+}
+
+// Whether a grammar is good, and else why not and where.
+pub fn check_grammar(grammar: &[u8]) -> Checked
+    ensures { λ r. ⌜ r ≡ checked (grammar-refusal (now (grammar .entry))) ⌝ }
+{
+    let refusal = refusal_of(grammar);
+    if refusal.number == 0 {
+        Checked::Good
+    } else {
+        Checked::Refused(refusal)
+    }
+}
+
+// What a rule's kind, b and c say.
+fn expression_by(kind: u8, b: u8, c: u8) -> Expression
+    ensures { λ r. ⌜ r ≡ expression-by kind b c ⌝ }
+{
+    if kind == 1 {
+        return Expression::Sequence(b, c);
+    }
+    if kind == 2 {
+        return Expression::Choice(b, c);
+    }
+    if kind == 3 {
+        return Expression::Not(b);
+    }
+    if kind == 4 {
+        return Expression::Empty;
+    }
+    Expression::Range(b, c)
+}
+
+// What rule k is.
+pub fn expression_of(grammar: &[u8], k: usize) -> Expression
+    requires { ⌜ k < rules (now grammar) ⌝ }
+    ensures { λ r. ⌜ r ≡ expression (now (grammar .entry)) k ⌝ }
+{
+    let at = RULE_BYTES * k;
+    expression_by(grammar[at], grammar[at + 1], grammar[at + 2])
+}
