@@ -1,0 +1,2 @@
+-- The ten worked captures.
+pub mod Captures
