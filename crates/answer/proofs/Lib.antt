@@ -1,0 +1,8 @@
+-- Laws that the proofs of the answer's functions cite.
+pub mod Writing
+pub mod Decimal
+pub mod LineLength
+pub mod InputLaws
+pub mod Answering
+pub mod Promised
+pub mod TwoCallsHold

@@ -1,0 +1,74 @@
+-- What is promised of the answer's line. Assumes nothing.
+use mathlib.Core.Path.{_≡_, refl, sym, ap, _∙_}
+use mathlib.Core.List.{List, [], _∷_}
+use Prim.Native.Nat.{ℕ, zero, suc}
+use native.Mathlib.Nat.{le-trans}
+use borrow.Author.Tests.{eq-eqb}
+use Rattle.machine.specs.declared.Refusal.{Refusal}
+use Rattle.machine.specs.declared.Verdict.the-variants.{Looping}
+use Rattle.machine.specs.Run.{config}
+use Rattle.machine.specs.Refusals.{refusal, or-else}
+use Rattle.simulator.specs.declared.Judged.the-variants.{Answer}
+use Rattle.simulator.specs.Calls.{Judge-determined, judge-refusal}
+use Rattle.simulator.proofs.Determined.{judge-determined}
+use Rattle.grammar.specs.Image.{built}
+use Rattle.grammar.proofs.BuiltGood.{built-good}
+use Rattle.answer.specs.Text.{digits, decimal, field, verdict-word, refused-word, refusal-line, answer-line, judged-line, written, Lined}
+use Rattle.answer.specs.Calls.{Lent, Judges, Parts-as, Parts-say, Input-as, Input-says, Answer-says}
+use Rattle.answer.specs.Promises.{Line-whole, Answer-determined, Refusals-left}
+use Rattle.answer.proofs.Writing.{written-whole}
+
+pub line-whole : Line-whole
+unfolding Line-whole
+line-whole line buffer now count h room =
+    let w = written-whole (h .holds) (le-trans (h .short) room) in
+    (w .counted, w .bytes)
+
+-- THE SAME ANSWER, whoever gives it
+record Same (y z : Lent) (l k : List ℕ) : Type 0 where
+  lent-same : y ≡ z
+  line-same : l ≡ k
+
+judges-same : (gs cs : List ℕ) (x y z : Lent) (l k : List ℕ) → Judges gs cs x y l → Judges gs cs x z k → Same y z l k
+unfolding Judge-determined
+judges-same gs cs x y z l k a b =
+    let (j, n, w) = judge-determined (built gs) cs (x .notes) (x .work) (a .judged) (b .judged) (y .notes) (y .work) (z .notes) (z .work) (a .judges) (b .judges) in
+    let m : y .image ≡ z .image = a .image-now ∙ sym (b .image-now) in
+    record { lent-same = λ i. record { image = m i; notes = n i; work = w i }; line-same = a .says ∙ ap judged-line j ∙ sym (b .says) }
+
+parts-same :
+    (n : ℕ) (f : Refusal) (gs cs : List ℕ) (x y z : Lent) (l k : List ℕ) → Parts-as n f gs cs x y l → Parts-as n f gs cs x z k → Same y z l k
+unfolding Parts-as
+parts-same zero f gs cs x y z l k a b = judges-same gs cs x y z l k a b
+parts-same (suc n) f gs cs x y z l k a b = record { lent-same = a .kept ∙ sym (b .kept); line-same = a .says ∙ sym (b .says) }
+
+input-same :
+    (n : ℕ) (f : Refusal) (xs : List ℕ) (x y z : Lent) (l k : List ℕ) → Input-as n f xs x y l → Input-as n f xs x z k → Same y z l k
+unfolding Input-as Parts-say
+input-same zero f xs x y z l k a b = parts-same _ _ _ _ x y z l k a b
+input-same (suc n) f xs x y z l k a b = record { lent-same = a .kept ∙ sym (b .kept); line-same = a .says ∙ sym (b .says) }
+
+lined-same : (l k out p q : List ℕ) (n m : ℕ) → Lined l out p n → Lined k out q m → l ≡ k → (p ≡ q) × (n ≡ m)
+lined-same l k out p q n m a b e =
+    (a .holds .bytes ∙ ap (λ (t : List ℕ). written t out) e ∙ sym (b .holds .bytes), cc (a .holds .counted, b .holds .counted))
+
+pub answer-determined : Answer-determined
+unfolding Answer-determined Answer-says Input-says
+answer-determined xs x y z out p q n m a b =
+    let s = input-same _ _ xs x y z (a .line) (b .line) (a .right) (b .right) in
+    let (bytes, count) = lined-same (a .line) (b .line) out p q n m (a .lined) (b .lined) (s .line-same) in
+    (s .lent-same, bytes, count)
+
+pub refusals-left : Refusals-left
+unfolding Refusals-left judge-refusal or-else
+refusals-left gs cs a b h = simp (eq-eqb _ _ (built-good gs h))
+
+-- TWO LINES: looping 2 1 1 1, and refused 14 8
+looping-line :
+    judged-line (Answer Looping 2 (config 1 1 1)) ≡ 108 ∷ 111 ∷ 111 ∷ 112 ∷ 105 ∷ 110 ∷ 103 ∷ 32 ∷ 50 ∷ 32 ∷ 49 ∷ 32 ∷ 49 ∷ 32 ∷ 49 ∷ 10 ∷ []
+unfolding judged-line answer-line verdict-word field decimal digits
+looping-line = refl
+
+refused-line : refusal-line (refusal 14 8) ≡ 114 ∷ 101 ∷ 102 ∷ 117 ∷ 115 ∷ 101 ∷ 100 ∷ 32 ∷ 49 ∷ 52 ∷ 32 ∷ 56 ∷ 10 ∷ []
+unfolding refusal-line refused-word field decimal digits
+refused-line = refl

@@ -1,0 +1,79 @@
+-- `answer::answer` meets its contract. Assumes nothing.
+use Rattle.answer.proofs.InputLaws.{parted, grammar-part, capture-part}
+use Rattle.answer.proofs.Answering.{input-refused, input-parts}
+use borrow.Author.Needs.{needs}
+use Rattle.answer.proofs.answer.Statement.{statement}
+use Rattle.answer.proofs.answer.Tie as tie
+
+input-refusal-requires : tie.Need-input-refusal-requires
+input-refusal-requires c κs = search needs
+
+put-refusal-requires : tie.Need-put-refusal-requires
+put-refusal-requires c κs = search needs
+
+same-length : tie.Need-same-length
+same-length c = search needs
+
+returns : tie.Need-returns
+returns c = input-refused _ _ _ _ _ _ (c .before .before .before .before .before .before .input-refusal .ensures) (c .before .before .before .before .if1 .taken) (c .before .before .put-refusal .ensures)
+
+capture-offset-requires : tie.Need-capture-offset-requires
+capture-offset-requires c κs = parted _ _ (c .before .before .input-refusal .ensures) (c .if1 .left) .enough
+
+sub-answer-parts : tie.Need-sub-answer-parts
+sub-answer-parts c = parted _ _ (c .before .before .before .input-refusal .ensures) (c .before .if1 .left) .least _ (c .capture-offset .ensures)
+
+part-answer-parts-start : tie.Need-part-answer-parts-start
+part-answer-parts-start c = parted _ _ (c .before .before .before .input-refusal .ensures) (c .before .if1 .left) .least _ (c .capture-offset .ensures)
+
+part-answer-parts-end : tie.Need-part-answer-parts-end
+part-answer-parts-end c = parted _ _ (c .before .before .before .input-refusal .ensures) (c .before .if1 .left) .within _ (c .capture-offset .ensures)
+
+sub-answer-parts-2 : tie.Need-sub-answer-parts-2
+sub-answer-parts-2 c = parted _ _ (c .before .before .before .before .input-refusal .ensures) (c .before .before .if1 .left) .within _ (c .before .capture-offset .ensures)
+
+part-answer-parts-start-2 : tie.Need-part-answer-parts-start-2
+part-answer-parts-start-2 c = parted _ _ (c .before .before .before .before .input-refusal .ensures) (c .before .before .if1 .left) .within _ (c .before .capture-offset .ensures)
+
+part-answer-parts-end-2 : tie.Need-part-answer-parts-end-2
+part-answer-parts-end-2 c = search needs
+
+answer-parts-requires : tie.Need-answer-parts-requires
+answer-parts-requires c κs = search needs
+
+same-length-2 : tie.Need-same-length-2
+same-length-2 c = search needs
+
+same-length-3 : tie.Need-same-length-3
+same-length-3 c = search needs
+
+same-length-4 : tie.Need-same-length-4
+same-length-4 c = search needs
+
+same-length-5 : tie.Need-same-length-5
+same-length-5 c = search needs
+
+returns-2 : tie.Need-returns-2
+returns-2 c = input-parts _ _ _ _ _ _ _ _ _ (c .before .before .before .before .before .before .before .before .before .before .before .before .before .before .before .before .before .before .input-refusal .ensures) (c .before .before .before .before .before .before .before .before .before .before .before .before .before .before .before .before .if1 .left) (grammar-part _ _ (c .before .before .before .before .before .before .before .before .before .before .before .before .before .before .before .capture-offset .ensures)) (capture-part _ _ (c .before .before .before .before .before .before .before .before .before .before .before .before .before .before .before .capture-offset .ensures)) (c .before .before .before .before .before .before .before .before .answer-parts .ensures)
+
+pub answer-spec : {M : Type 1} → statement M
+answer-spec =
+    tie.close
+    (tie.spec
+    input-refusal-requires
+    put-refusal-requires
+    same-length
+    returns
+    capture-offset-requires
+    sub-answer-parts
+    part-answer-parts-start
+    part-answer-parts-end
+    sub-answer-parts-2
+    part-answer-parts-start-2
+    part-answer-parts-end-2
+    answer-parts-requires
+    same-length-2
+    same-length-3
+    same-length-4
+    same-length-5
+    returns-2)

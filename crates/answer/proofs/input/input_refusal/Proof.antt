@@ -1,0 +1,56 @@
+-- `answer::input::input_refusal` meets its contract. Assumes nothing.
+use mathlib.Core.Path.{sym, _∙_}
+use borrow.Author.Tests.{not-true, not-false}
+use Rattle.answer.proofs.InputLaws.{short-refused, long-refused, first-refused, second-refused, not-refused}
+use borrow.Author.Needs.{needs}
+use Rattle.answer.proofs.input.input_refusal.Statement.{statement}
+use Rattle.answer.proofs.input.input_refusal.Tie as tie
+
+refused-requires : tie.Need-refused-requires
+refused-requires c κs = search needs
+
+returns : tie.Need-returns
+returns c = c .refused .ensures ∙ sym (short-refused _ (c .before .if1 .taken))
+
+refused-requires-2 : tie.Need-refused-requires-2
+refused-requires-2 c κs = search needs
+
+returns-2 : tie.Need-returns-2
+returns-2 c = c .refused2 .ensures ∙ sym (long-refused _ (c .before .before .if1 .left) (c .before .if2 .taken))
+
+first-pair-right-requires : tie.Need-first-pair-right-requires
+first-pair-right-requires c κs = search needs
+
+refused-requires-3 : tie.Need-refused-requires-3
+refused-requires-3 c κs = search needs
+
+returns-3 : tie.Need-returns-3
+returns-3 c = c .refused3 .ensures ∙ sym (first-refused _ (c .before .before .before .before .if1 .left) (c .before .before .before .if2 .left) (sym (c .before .before .first-pair-right .ensures) ∙ not-true _ (c .before .if3 .taken)))
+
+second-pair-right-requires : tie.Need-second-pair-right-requires
+second-pair-right-requires c κs = search needs
+
+refused-requires-4 : tie.Need-refused-requires-4
+refused-requires-4 c κs = search needs
+
+returns-4 : tie.Need-returns-4
+returns-4 c = c .refused4 .ensures ∙ sym (second-refused _ (c .before .before .before .before .before .before .if1 .left) (c .before .before .before .before .before .if2 .left) (sym (c .before .before .before .before .first-pair-right .ensures) ∙ not-false _ (c .before .before .before .if3 .left)) (sym (c .before .before .second-pair-right .ensures) ∙ not-true _ (c .before .if4 .taken)))
+
+returns-5 : tie.Need-returns-5
+returns-5 c = sym (not-refused _ (c .before .before .before .before .before .if1 .left) (c .before .before .before .before .if2 .left) (sym (c .before .before .before .first-pair-right .ensures) ∙ not-false _ (c .before .before .if3 .left)) (sym (c .before .second-pair-right .ensures) ∙ not-false _ (c .if4 .left)))
+
+pub input-refusal-spec : {M : Type 1} → statement M
+input-refusal-spec =
+    tie.close
+    (tie.spec
+    refused-requires
+    returns
+    refused-requires-2
+    returns-2
+    first-pair-right-requires
+    refused-requires-3
+    returns-3
+    second-pair-right-requires
+    refused-requires-4
+    returns-4
+    returns-5)

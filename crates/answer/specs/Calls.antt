@@ -1,0 +1,60 @@
+-- What the call `answer` leaves in the lent buffers, by cases: refusal 14, then 11 to 13, then what judging says. Assumes nothing: these are definitions.
+use mathlib.Core.Path.{_≡_}
+use mathlib.Core.List.{List, _++_}
+use Prim.Native.Nat.{ℕ, zero, suc}
+use lib.ListN.{length, drop}
+use Rattle.machine.specs.declared.Refusal.{Refusal}
+use Rattle.simulator.specs.declared.Judged.{Judged}
+use Rattle.simulator.specs.Calls.{Judge-says}
+use Rattle.grammar.specs.Image.{built, built-length}
+use Rattle.grammar.specs.Calls.{build-refusal}
+use Rattle.answer.specs.Text.{refusal-line, judged-line, Lined}
+use Rattle.answer.specs.Input.{input-refusal, input-grammar, input-capture}
+
+-- the image buffer, notes and work cells that a call is lent
+pub record Lent : Type 0 where
+  pub image : List ℕ
+  pub notes : List ℕ
+  pub work : List ℕ
+
+abbrev pub lent : (image notes work : List ℕ) → Lent
+lent m a b = record { image = m; notes = a; work = b }
+
+-- a refused call says so, and changes none of them
+pub record Refuses (f : Refusal) (before after : Lent) (line : List ℕ) : Type 0 where
+  pub says : line ≡ refusal-line f
+  pub kept : after ≡ before
+
+-- the image of the grammar is built, with later bytes as they were, and its judging is told
+pub record Judges (gs cs : List ℕ) (before after : Lent) (line : List ℕ) : Type 0 where
+  pub judged : Judged
+  pub image-now : after .image ≡ built gs ++ drop (built-length gs) (before .image)
+  pub judges : Judge-says (built gs) cs judged (before .notes) (after .notes) (before .work) (after .work)
+  pub says : line ≡ judged-line judged
+
+-- of a grammar and a capture
+unfoldable pub Parts-as : (number : ℕ) → Refusal → (gs cs : List ℕ) → (before after : Lent) → (line : List ℕ) → Type 0
+Parts-as zero f gs cs x y l = Judges gs cs x y l
+Parts-as (suc n) f gs cs x y l = Refuses f x y l
+
+unfoldable pub Parts-say : (grammar capture : List ℕ) → (before after : Lent) → (line : List ℕ) → Type 0
+Parts-say gs cs x y l =
+    Parts-as (build-refusal gs (length (x .image)) .number) (build-refusal gs (length (x .image))) gs cs x y l
+
+-- of an input
+unfoldable pub Input-as : (number : ℕ) → Refusal → (input : List ℕ) → (before after : Lent) → (line : List ℕ) → Type 0
+Input-as zero f xs x y l = Parts-say (input-grammar xs) (input-capture xs) x y l
+Input-as (suc n) f xs x y l = Refuses f x y l
+
+unfoldable pub Input-says : (input : List ℕ) → (before after : Lent) → (line : List ℕ) → Type 0
+Input-says xs x y l = Input-as (input-refusal xs .number) (input-refusal xs) xs x y l
+
+-- a line that is right is written into the out buffer, and counted; where the buffer is shorter than the line, as far as there is room
+pub record Told (Right : List ℕ → Type 0) (out out-now : List ℕ) (count : ℕ) : Type 0 where
+  pub line : List ℕ
+  pub right : Right line
+  pub lined : Lined line out out-now count
+
+-- THE CALL
+unfoldable pub Answer-says : (input : List ℕ) → (before after : Lent) → (out out-now : List ℕ) → (count : ℕ) → Type 0
+Answer-says xs x y o p n = Told (Input-says xs x y) o p n

@@ -1,0 +1,77 @@
+// The program's input: the pairs (16, g) and (16 + g, n), a grammar of g bytes, a capture of n, nothing after; and refusal 14.
+use machine::Refusal;
+use machine::little_endian::four;
+ghost use mathlib.Core.Path.{_≡_};
+ghost use Prim.Native.Nat.{_≤_};
+ghost use lib.ListN.{length};
+ghost use Rattle.machine.specs.Refusals.{refusal};
+ghost use Rattle.answer.specs.Input.{pairs-length, capture-offset, first-pair-right, second-pair-right, input-refusal};
+
+// The pairs' own length, where the grammar begins.
+pub const PAIRS_LENGTH: usize = 16;
+
+// The longest input, in bytes.
+pub const MAX_INPUT: usize = 65536;
+
+// Where the grammar ends and the capture begins.
+pub fn capture_offset(input: &[u8]) -> usize
+    requires { ⌜ pairs-length ≤ length (now input) ⌝ }
+    ensures { λ r. ⌜ r ≡ capture-offset (now (input .entry)) ⌝ }
+{
+    let long = four(input, 4) as usize;
+    PAIRS_LENGTH + long
+}
+
+fn first_pair_right(input: &[u8]) -> bool
+    requires { ⌜ pairs-length ≤ length (now input) ⌝ }
+    ensures { λ r. ⌜ r ≡ first-pair-right (now (input .entry)) ⌝ }
+{
+    let offset = four(input, 0) as usize;
+    if offset != PAIRS_LENGTH {
+        return false;
+    }
+    let middle = capture_offset(input);
+    middle <= input.len()
+}
+
+fn second_pair_right(input: &[u8]) -> bool
+    requires { ⌜ pairs-length ≤ length (now input) ⌝ }
+    ensures { λ r. ⌜ r ≡ second-pair-right (now (input .entry)) ⌝ }
+{
+    let offset = four(input, 8) as usize;
+    let middle = capture_offset(input);
+    if offset != middle {
+        return false;
+    }
+    let long = four(input, 12) as usize;
+    let end = middle + long;
+    end == input.len()
+}
+
+fn refused(place: usize) -> Refusal
+    ensures { λ r. ⌜ r ≡ refusal 14 place ⌝ }
+{
+    Refusal { number: 14, place }
+}
+
+// Refusal 14, or number 0.
+pub fn input_refusal(input: &[u8]) -> Refusal
+    ensures { λ r. ⌜ r ≡ input-refusal (now (input .entry)) ⌝ }
+{
+    if input.len() < PAIRS_LENGTH {
+        return refused(0);
+    }
+    if MAX_INPUT < input.len() {
+        return refused(0);
+    }
+    if !first_pair_right(input) {
+        return refused(0);
+    }
+    if !second_pair_right(input) {
+        return refused(8);
+    }
+    Refusal {
+        number: 0,
+        place: 0,
+    }
+}

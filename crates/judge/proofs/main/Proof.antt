@@ -1,0 +1,59 @@
+-- `judge::main` is safe and ends. Assumes nothing.
+use mathlib.Core.Path.{sym}
+use lib.Seq.{length-take-le}
+use borrow.Author.Needs.{needs}
+use Rattle.judge.proofs.main.Statement.{statement}
+use Rattle.judge.proofs.main.Tie as tie
+
+slice-aggregate-read-full : tie.Need-slice-aggregate-read-full
+slice-aggregate-read-full c = search needs
+
+read-full-requires : tie.Need-read-full-requires
+read-full-requires c κs = search needs
+
+slice-aggregate-line-of : tie.Need-slice-aggregate-line-of
+slice-aggregate-line-of c = search needs
+
+slice-aggregate-line-of-2 : tie.Need-slice-aggregate-line-of-2
+slice-aggregate-line-of-2 c = search needs
+
+slice-aggregate-line-of-3 : tie.Need-slice-aggregate-line-of-3
+slice-aggregate-line-of-3 c = search needs
+
+slice-aggregate-line-of-4 : tie.Need-slice-aggregate-line-of-4
+slice-aggregate-line-of-4 c = search needs
+
+slice-aggregate-line-of-5 : tie.Need-slice-aggregate-line-of-5
+slice-aggregate-line-of-5 c = search needs
+
+line-of-requires : tie.Need-line-of-requires
+line-of-requires c κs = search needs
+
+array-share-prefix-line : tie.Need-array-share-prefix-line
+array-share-prefix-line c = search needs
+
+slice-aggregate-write-all : tie.Need-slice-aggregate-write-all
+slice-aggregate-write-all c = sym (length-take-le _ _ (c .before .before .before .before .before .line-of .ensures .within))
+
+write-all-requires : tie.Need-write-all-requires
+write-all-requires c κs = search needs
+
+returns : tie.Need-returns
+returns c = search needs
+
+pub main-spec : {M : Type 1} → statement M
+main-spec =
+    tie.close
+    (tie.spec
+    slice-aggregate-read-full
+    read-full-requires
+    slice-aggregate-line-of
+    slice-aggregate-line-of-2
+    slice-aggregate-line-of-3
+    slice-aggregate-line-of-4
+    slice-aggregate-line-of-5
+    line-of-requires
+    array-share-prefix-line
+    slice-aggregate-write-all
+    write-all-requires
+    returns)

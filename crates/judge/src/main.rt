@@ -1,0 +1,34 @@
+// The program: reads a grammar and a capture from standard input, and prints the line of the answer.
+use answer::answer;
+use libc::STDIN_FILENO;
+use libc::STDOUT_FILENO;
+ghost use lib.ListN.{take};
+ghost use Rattle.answer.specs.Calls.{lent};
+ghost use Rattle.judge.specs.Program.{Buffers, Prints};
+
+// The line for the input that stands at the start of its buffer, in buffers of the sizes that the program has.
+fn line_of(
+    input: &[u8],
+    count: usize,
+    image: &mut [u8],
+    notes: &mut [u32],
+    work: &mut [u32],
+    line: &mut [u8],
+) -> usize
+    requires { ⌜ Buffers (now input) count (now image) (now notes) (now work) (now line) ⌝ }
+    ensures { λ r. ⌜ Prints (take count (now (input .entry))) (lent (now (image .entry)) (now (notes .entry)) (now (work .entry))) (lent (now (image .exit)) (now (notes .exit)) (now (work .exit))) (now (line .exit)) r ⌝ }
+{
+    answer(&input[..count], image, notes, work, line)
+}
+
+// One byte more than an input may have is asked for, so that a longer input is noticed.
+fn main() {
+    let mut input = [0u8; 65537];
+    let mut image = [0u8; 65536];
+    let mut notes = [0u32; 16384];
+    let mut work = [0u32; 16384];
+    let mut line = [0u8; 64];
+    let count = io::read_full(STDIN_FILENO, &mut input);
+    let long = line_of(&input, count, &mut image, &mut notes, &mut work, &mut line);
+    io::write_all(STDOUT_FILENO, &line[..long]);
+}
