@@ -11,32 +11,25 @@ use Rattle.simulator.specs.Calls.{Judge-says}
 use Rattle.grammar.specs.declared.Built.{Built}
 use Rattle.grammar.specs.declared.Built.the-variants.{Refused, Image}
 use Rattle.grammar.specs.Image.{built, built-length}
-use Rattle.grammar.specs.Calls.{Build-as, Build-says}
+use Rattle.grammar.specs.Calls.{build-refusal, Build-as, Build-says}
 use Rattle.grammar.proofs.BuiltImage.{built-length-is}
 use Rattle.answer.specs.Text.{refusal-line, judged-line, Lined}
 use Rattle.answer.specs.Input.{input-refusal, input-grammar, input-capture}
-use Rattle.answer.specs.Calls.{Lent, lent, Parts-as, Parts-say, Input-as, Input-says, Told, Answer-says}
+use Rattle.answer.specs.Calls.{Lent, lent, lent-refusal, Judges, Parts-as, Parts-say, Input-as, Input-says, Told, Answer-says}
 
--- building was refused: so is the answer
-parts-refused-as :
-    (n : ℕ) (f g : Refusal) (gs cs : List ℕ) (r : Built) (m p a b : List ℕ) → Build-as n g gs r m p → r ≡ Refused f →
-    Parts-as n g gs cs (lent m a b) (lent p a b) (refusal-line f)
-unfolding Build-as Parts-as
-parts-refused-as zero f g gs cs r m p a b h e =
+-- with nothing refused building is not refused
+never-as : (n : ℕ) (f g : Refusal) (gs : List ℕ) (r : Built) (m p : List ℕ) → n ≡ 0 → Build-as n g gs r m p → r ≡ Refused f → ⊥
+unfolding Build-as
+never-as zero f g gs r m p z h e =
     let clash : Image (built-length gs) ≡ Refused f = sym (h .0) ∙ e in
     let z : _≡_ {A = ℕ} 0 1 = cc in
-    absurd (omega arith)
-parts-refused-as (suc n) f g gs cs r m p a b h e =
-    let same : Refused f ≡ Refused g = sym e ∙ h .0 in
-    let is : f ≡ g = cc in
-    record { says = ap refusal-line is; kept = ap (λ (x : List ℕ). lent x a b) (h .1) }
+    omega arith
+never-as (suc n) f g gs r m p z h e = omega arith
 
-pub parts-refused :
-    (gs cs : List ℕ) (r : Built) (f : Refusal) (m p a b out out-now : List ℕ) (count : ℕ) → Build-says gs r m p → r ≡ Refused f →
-    Lined (refusal-line f) out out-now count → Told (Parts-say gs cs (lent m a b) (lent p a b)) out out-now count
-unfolding Build-says Parts-say
-parts-refused gs cs r f m p a b o q k h e t =
-    record { line = refusal-line f; right = parts-refused-as _ f _ gs cs r m p a b h e; lined = t }
+pub never-refused :
+    (gs : List ℕ) (r : Built) (f : Refusal) (m p : List ℕ) → build-refusal gs (length m) .number ≡ 0 → Build-says gs r m p → r ≡ Refused f → ⊥
+unfolding Build-says
+never-refused gs r f m p z h e = never-as _ f _ gs r m p z h e
 
 -- the image was built: its length, and its bytes at the buffer's start
 pub record Done (gs : List ℕ) (long : ℕ) (m p : List ℕ) : Type 0 where
@@ -66,30 +59,53 @@ pub built-part : (gs : List ℕ) (long : ℕ) (m p : List ℕ) → Done gs long 
 built-part gs long m p d =
     ap (λ (x : List ℕ). take long x) (d .bytes) ∙ take-at (built gs) _ long (built-length-is gs ∙ sym (d .long-is))
 
-parts-judged-as :
-    (n : ℕ) (g : Refusal) (gs cs : List ℕ) (r : Built) (long : ℕ) (j : Judged) (m p a a-now b b-now : List ℕ) → Build-as n g gs r m p → r ≡ Image long →
-    Judge-says (take long p) cs j a a-now b b-now → Parts-as n g gs cs (lent m a b) (lent p a-now b-now) (judged-line j)
-unfolding Build-as Parts-as
-parts-judged-as zero g gs cs r long j m p a x b y h e s =
-    let d : Done gs long m p = done-as zero g gs r long m p h e in
-    record {
-      judged = j;
-      image-now = h .1;
-      judges = subst (λ (bs : List ℕ). Judge-says bs cs j a x b y) (built-part gs long m p d) s;
-      says = refl;
-    }
-parts-judged-as (suc n) g gs cs r long j m p a x b y h e s =
-    let clash : Refused g ≡ Image long = sym (h .0) ∙ e in
-    let z : _≡_ {A = ℕ} 0 1 = cc in
-    absurd (omega arith)
-
-pub parts-judged :
+pub judged-told :
     (gs cs : List ℕ) (r : Built) (long : ℕ) (j : Judged) (m p a a-now b b-now out out-now : List ℕ) (count : ℕ) → Build-says gs r m p → r ≡ Image long →
     Judge-says (take long p) cs j a a-now b b-now → Lined (judged-line j) out out-now count →
-    Told (Parts-say gs cs (lent m a b) (lent p a-now b-now)) out out-now count
-unfolding Build-says Parts-say
-parts-judged gs cs r long j m p a x b y o q k h e s t =
-    record { line = judged-line j; right = parts-judged-as _ _ gs cs r long j m p a x b y h e s; lined = t }
+    Told (Judges gs cs (lent m a b) (lent p a-now b-now)) out out-now count
+judged-told gs cs r long j m p a x b y o q k h e s t =
+    let d : Done gs long m p = done gs r long m p h e in
+    record {
+      line = judged-line j;
+      right =
+          record {
+            judged = j;
+            image-now = d .bytes;
+            judges = subst (λ (bs : List ℕ). Judge-says bs cs j a x b y) (built-part gs long m p d) s;
+            says = refl;
+          };
+      lined = t;
+    }
+
+-- the parts were refused, with nothing written, or their answer is told
+parts-refused-as : (n : ℕ) (f : Refusal) (gs cs : List ℕ) (x : Lent) → (n ≡ 0 → ⊥) → Parts-as n f gs cs x x (refusal-line f)
+unfolding Parts-as
+parts-refused-as zero f gs cs x h = absurd (h refl)
+parts-refused-as (suc n) f gs cs x h = record { says = refl; kept = refl }
+
+pub parts-refused :
+    (gs cs : List ℕ) (x : Lent) (f : Refusal) (out out-now : List ℕ) (count : ℕ) → f ≡ lent-refusal gs cs x → (f .number ≡ 0 → ⊥) →
+    Lined (refusal-line f) out out-now count → Told (Parts-say gs cs x x) out out-now count
+unfolding Parts-say
+parts-refused gs cs x f o q k e h t =
+    record {
+      line = refusal-line f;
+      right = subst (λ (g : Refusal). Parts-as (g .number) g gs cs x x (refusal-line f)) e (parts-refused-as (f .number) f gs cs x h);
+      lined = t;
+    }
+
+parts-judged-as : (n : ℕ) (f : Refusal) (gs cs : List ℕ) (x y : Lent) (l : List ℕ) → n ≡ 0 → Judges gs cs x y l → Parts-as n f gs cs x y l
+unfolding Parts-as
+parts-judged-as zero f gs cs x y l e h = h
+parts-judged-as (suc n) f gs cs x y l e h = absurd (omega arith)
+
+pub parts-judged :
+    (gs cs : List ℕ) (x y : Lent) (f : Refusal) (out out-now : List ℕ) (count : ℕ) → f ≡ lent-refusal gs cs x → f .number ≡ 0 →
+    Told (Judges gs cs x y) out out-now count → Told (Parts-say gs cs x y) out out-now count
+unfolding Parts-say
+parts-judged gs cs x y f o q k e z t =
+    let none-there : lent-refusal gs cs x .number ≡ 0 = ap (λ (r : Refusal). r .number) (sym e) ∙ z in
+    record { line = t .line; right = parts-judged-as _ _ gs cs x y (t .line) none-there (t .right); lined = t .lined }
 
 -- the input was refused, or its parts are answered
 input-refused-as :

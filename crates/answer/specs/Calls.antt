@@ -1,11 +1,12 @@
--- What the call `answer` leaves in the lent buffers, by cases: refusal 14, then 11 to 13, then what judging says. Assumes nothing: these are definitions.
+-- What the call `answer` leaves in the lent buffers, by cases: refusal 14, then 11 to 13, then 7 to 9, then what judging says. A refused call changes none of them. Assumes nothing: these are definitions.
 use mathlib.Core.Path.{_≡_}
 use mathlib.Core.List.{List, _++_}
 use Prim.Native.Nat.{ℕ, zero, suc}
 use lib.ListN.{length, drop}
 use Rattle.machine.specs.declared.Refusal.{Refusal}
 use Rattle.simulator.specs.declared.Judged.{Judged}
-use Rattle.simulator.specs.Calls.{Judge-says}
+use Rattle.machine.specs.Refusals.{or-else}
+use Rattle.simulator.specs.Calls.{judge-refusal, Judge-says}
 use Rattle.grammar.specs.Image.{built, built-length}
 use Rattle.grammar.specs.Calls.{build-refusal}
 use Rattle.answer.specs.Text.{refusal-line, judged-line, Lined}
@@ -32,14 +33,19 @@ pub record Judges (gs cs : List ℕ) (before after : Lent) (line : List ℕ) : T
   pub judges : Judge-says (built gs) cs judged (before .notes) (after .notes) (before .work) (after .work)
   pub says : line ≡ judged-line judged
 
--- of a grammar and a capture
+-- a grammar and a capture are refused by 11 to 13, then by 7 to 9, before any cell is written
+unfoldable pub parts-refusal : (grammar capture : List ℕ) → (image notes work : ℕ) → Refusal
+parts-refusal gs cs m a b = or-else (build-refusal gs m) (judge-refusal (built gs) cs a b)
+
 unfoldable pub Parts-as : (number : ℕ) → Refusal → (gs cs : List ℕ) → (before after : Lent) → (line : List ℕ) → Type 0
 Parts-as zero f gs cs x y l = Judges gs cs x y l
 Parts-as (suc n) f gs cs x y l = Refuses f x y l
 
+abbrev pub lent-refusal : (grammar capture : List ℕ) → Lent → Refusal
+lent-refusal gs cs x = parts-refusal gs cs (length (x .image)) (length (x .notes)) (length (x .work))
+
 unfoldable pub Parts-say : (grammar capture : List ℕ) → (before after : Lent) → (line : List ℕ) → Type 0
-Parts-say gs cs x y l =
-    Parts-as (build-refusal gs (length (x .image)) .number) (build-refusal gs (length (x .image))) gs cs x y l
+Parts-say gs cs x y l = Parts-as (lent-refusal gs cs x .number) (lent-refusal gs cs x) gs cs x y l
 
 -- of an input
 unfoldable pub Input-as : (number : ℕ) → Refusal → (input : List ℕ) → (before after : Lent) → (line : List ℕ) → Type 0

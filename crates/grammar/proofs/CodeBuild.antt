@@ -5,9 +5,11 @@ use Prim.Native.Nat.{ℕ, zero, suc, _+_, _*_, _<_, _≤_}
 use native.Mathlib.Omega.{arith}
 use lib.ListN.{length, take, drop}
 use lib.Seq.{length-take-le}
-use borrow.Author.Tests.{eq-eqb, ne-eqb, lt-ltb, le-ltb}
+use lib.Dec.{ltb}
+use borrow.Author.Tests.{eq-eqb, ne-eqb, lt-ltb, le-ltb, ltb-false}
 use Rattle.machine.specs.declared.Refusal.{Refusal}
 use Rattle.machine.specs.Refusals.{refusal, fine, or-else, refuse-if}
+use Rattle.machine.proofs.Refused.{Fine, neither, not-refused as room-there}
 use Rattle.grammar.specs.declared.Built.{Built}
 use Rattle.grammar.specs.declared.Built.the-variants.{Refused, Image}
 use Rattle.grammar.specs.Grammar.{grammar-refusal}
@@ -40,47 +42,69 @@ refusal-none : (gs : List ℕ) (n : ℕ) → grammar-refusal gs .number ≡ 0 �
 unfolding build-refusal or-else refuse-if
 refusal-none gs n good enough = simp (eq-eqb _ _ good, le-ltb n (built-length gs) enough)
 
+long-is : (gs : List ℕ) {size : ℕ} → size ≡ built-rules gs → 288 + 4 * size ≡ built-length gs
+long-is gs is = ap (λ (n : ℕ). 288 + 4 * n) is ∙ sym (length-is gs)
+
 built-as :
     (gs a c : List ℕ) (r : Built) → r ≡ Image (built-length gs) → c ≡ built gs ++ drop (built-length gs) a → Build-as 0 fine gs r a c
 unfolding Build-as
 built-as gs a c r x y = (x, y)
 
--- 11 and 12
-pub grammar-refused : (gs a : List ℕ) (f : Refusal) → f ≡ grammar-refusal gs → (f .number ≡ 0 → ⊥) → Build-says gs (Refused f) a a
-grammar-refused gs a f e h = says-refused gs a f (refusal-grammar gs f (length a) e h) h
+-- WHAT THE CHECKS SAY
+module _ (gs : List ℕ) (f : Refusal) (e : f ≡ grammar-refusal gs) where
+  pub grammar-refused : (n : ℕ) → (f .number ≡ 0 → ⊥) → f ≡ build-refusal gs n
+  grammar-refused n h = sym (refusal-grammar gs f n e h)
 
-module _ (gs a : List ℕ) (f : Refusal) (e : f ≡ grammar-refusal gs) (good : f .number ≡ 0) where
-  pub not-refused : grammar-refusal gs .number ≡ 0
-  not-refused = ap (λ (g : Refusal). g .number) (sym e) ∙ good
+  module _ (good : f .number ≡ 0) where
+    pub not-refused : grammar-refusal gs .number ≡ 0
+    not-refused = ap (λ (g : Refusal). g .number) (sym e) ∙ good
 
-  module _ (size : ℕ) (is : size ≡ built-rules gs) where
-    long-is : 288 + 4 * size ≡ built-length gs
-    long-is = ap (λ (n : ℕ). 288 + 4 * n) is ∙ sym (length-is gs)
+    module _ (size : ℕ) (is : size ≡ built-rules gs) (n : ℕ) where
+      pub room-refused : n < 288 + 4 * size → refusal 13 (288 + 4 * size) ≡ build-refusal gs n
+      room-refused h =
+          let less : n < built-length gs = omega (arith, long-is gs is) in
+          ap (refusal 13) (long-is gs is) ∙ sym (refusal-room gs n not-refused less)
 
-    -- 13
-    pub room-refused : length a < 288 + 4 * size → Build-says gs (Refused (refusal 13 (288 + 4 * size))) a a
-    room-refused h =
-        let less : length a < built-length gs = omega (arith, long-is) in
-        says-refused gs a (refusal 13 (288 + 4 * size)) (refusal-room gs (length a) not-refused less ∙ ap (refusal 13) (sym long-is))
-        (λ q. omega arith)
+      pub none-refused : 288 + 4 * size ≤ n → fine ≡ build-refusal gs n
+      none-refused h =
+          let enough : built-length gs ≤ n = omega (arith, long-is gs is) in
+          sym (refusal-none gs n not-refused enough)
 
-    -- the image, and the later bytes as they were
-    pub image-built :
-        (b c : List ℕ) → 288 + 4 * size ≤ length a → b ≡ built gs → c ≡ b ++ drop (288 + 4 * size) a →
-        Build-says gs (Image (288 + 4 * size)) a c
-    unfolding Build-says
-    image-built b c h q l =
-        let enough : built-length gs ≤ length a = omega (arith, long-is) in
-        subst (λ (g : Refusal). Build-as (g .number) g gs (Image (288 + 4 * size)) a c) (sym (refusal-none gs (length a) not-refused enough))
-        (built-as gs a c (Image (288 + 4 * size)) (ap Image long-is)
-        (l ∙ ap (λ (x : List ℕ). x ++ drop (288 + 4 * size) a) q ∙ ap (λ (n : ℕ). built gs ++ drop n a) long-is))
+-- WHAT BUILDING ANSWERS
+module _ (gs a : List ℕ) (f : Refusal) (e : f ≡ build-refusal gs (length a)) where
+  pub building-refused : (f .number ≡ 0 → ⊥) → Build-says gs (Refused f) a a
+  building-refused h = says-refused gs a f (sym e) h
 
-    -- what is lent to the writers
-    pub ready-to-write : (n : ℕ) → n ≡ class-count gs → 288 + 4 * size ≤ length a → Write-ready gs (take (288 + 4 * size) a) n size
-    ready-to-write n en h =
-        record {
-          good = not-refused;
-          long = length-take-le (288 + 4 * size) a h ∙ long-is;
-          classes-are = en;
-          count-is = is;
-        }
+  module _ (none : f .number ≡ 0) where
+    fine-parts : Fine (grammar-refusal gs) × Fine (refuse-if (ltb (length a) (built-length gs)) (refusal 13 (built-length gs)))
+    unfolding build-refusal
+    fine-parts = neither _ _ (record { none-such = ap (λ (g : Refusal). g .number) (sym e) ∙ none })
+
+    pub grammar-good : grammar-refusal gs .number ≡ 0
+    grammar-good = fine-parts .0 .none-such
+
+    room : built-length gs ≤ length a
+    room = ltb-false (length a) (built-length gs) (room-there _ 12 (built-length gs) (fine-parts .1))
+
+    module _ (size : ℕ) (is : size ≡ built-rules gs) where
+      pub image-fits : 288 + 4 * size ≤ length a
+      image-fits = omega (arith, long-is gs is, room)
+
+      -- the image, and the later bytes as they were
+      pub image-built :
+          (b c : List ℕ) → b ≡ built gs → c ≡ b ++ drop (288 + 4 * size) a → Build-says gs (Image (288 + 4 * size)) a c
+      unfolding Build-says
+      image-built b c q l =
+          subst (λ (g : Refusal). Build-as (g .number) g gs (Image (288 + 4 * size)) a c) (sym (refusal-none gs (length a) grammar-good room))
+          (built-as gs a c (Image (288 + 4 * size)) (ap Image (long-is gs is))
+          (l ∙ ap (λ (x : List ℕ). x ++ drop (288 + 4 * size) a) q ∙ ap (λ (n : ℕ). built gs ++ drop n a) (long-is gs is)))
+
+      -- what is lent to the writers
+      pub ready-to-write : (n : ℕ) → n ≡ class-count gs → Write-ready gs (take (288 + 4 * size) a) n size
+      ready-to-write n en =
+          record {
+            good = grammar-good;
+            long = length-take-le (288 + 4 * size) a image-fits ∙ long-is gs is;
+            classes-are = en;
+            count-is = is;
+          }

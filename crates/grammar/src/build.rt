@@ -27,7 +27,7 @@ ghost use Rattle.machine.specs.Format.{map-offset, rules-offset};
 ghost use Rattle.grammar.specs.Grammar.{max-rules, grammar-refusal};
 ghost use Rattle.grammar.specs.Classes.{class-count as class-count-of};
 ghost use Rattle.grammar.specs.Image.{made as made-of, little-endian, symbols-of, built-rules, built-length, rules-made, built};
-ghost use Rattle.grammar.specs.Calls.{Build-says};
+ghost use Rattle.grammar.specs.Calls.{build-refusal, Build-says};
 ghost use Rattle.grammar.specs.Writing.{rule-of, header-of, class-between, inside-by, Rows-ready, Write-ready};
 
 // The states of the machine, and its final ones: bit 4, for done alone.
@@ -186,23 +186,39 @@ fn write_image(grammar: &[u8], image: &mut [u8], classes: u32, count: u32)
     write_rules(grammar, image, classes, count);
 }
 
+// The first refusal of 11 to 13 for a buffer of so many bytes, or number 0.
+pub fn build_refusal(grammar: &[u8], room: usize) -> Refusal
+    ensures { λ r. ⌜ r ≡ build-refusal (now (grammar .entry)) room ⌝ }
+{
+    let refusal = refusal_of(grammar);
+    if refusal.number != 0 {
+        return refusal;
+    }
+    let count = rule_count(grammar, class_count(grammar));
+    let long = RULES_OFFSET + RULE_LENGTH * (count as usize);
+    if room < long {
+        return Refusal {
+            number: 13,
+            place: long,
+        };
+    }
+    Refusal {
+        number: 0,
+        place: 0,
+    }
+}
+
 // Building: the image's length, or the first refusal of 11 to 13. Later bytes stay, and a refusal changes none.
 pub fn build_image(grammar: &[u8], image: &mut [u8]) -> Built
     ensures { λ r. ⌜ Build-says (now (grammar .entry)) r (now (image .entry)) (now (image .exit)) ⌝ }
 {
-    let refusal = refusal_of(grammar);
+    let refusal = build_refusal(grammar, image.len());
     if refusal.number != 0 {
         return Built::Refused(refusal);
     }
     let classes = class_count(grammar);
     let count = rule_count(grammar, classes);
     let long = RULES_OFFSET + RULE_LENGTH * (count as usize);
-    if image.len() < long {
-        return Built::Refused(Refusal {
-            number: 13,
-            place: long,
-        });
-    }
     write_image(grammar, &mut image[..long], classes, count);
     Built::Image(long)
 }

@@ -1,43 +1,27 @@
--- `answer::answer_parts` meets its contract. Assumes nothing.
-use mathlib.Core.Path.{sym}
-use lib.Seq.{length-take-le}
-use Rattle.answer.proofs.Answering.{parts-refused, parts-judged, done, built-fits}
+-- `answer::answer_parts` meets its contract: refused with nothing written, or told. Assumes nothing.
+use Rattle.answer.proofs.Refusing.{parts-fine}
+use Rattle.answer.proofs.Answering.{parts-refused, parts-judged}
 use borrow.Author.Needs.{needs}
 use Rattle.answer.proofs.answer_parts.Statement.{statement}
 use Rattle.answer.proofs.answer_parts.Tie as tie
 
-build-image-requires : tie.Need-build-image-requires
-build-image-requires c κs = search needs
-
-enum-known-built : tie.Need-enum-known-built
-enum-known-built c = search needs
+parts-refusal-requires : tie.Need-parts-refusal-requires
+parts-refusal-requires c κs = search needs
 
 put-refusal-requires : tie.Need-put-refusal-requires
 put-refusal-requires c κs = search needs
 
-enum-known-built-2 : tie.Need-enum-known-built-2
-enum-known-built-2 c = search needs
-
-slice-reshare-prefix-judge : tie.Need-slice-reshare-prefix-judge
-slice-reshare-prefix-judge c = built-fits _ _ _ _ (done _ _ _ _ _ (c .before .before .before .before .before .build-image .ensures) (c .before .built2 .given .1)) (c .before .before .before .before .before .build-image .kept .1 .0)
-
-slice-aggregate-judge : tie.Need-slice-aggregate-judge
-slice-aggregate-judge c = sym (length-take-le _ _ (built-fits _ _ _ _ (done _ _ _ _ _ (c .before .before .before .before .before .before .build-image .ensures) (c .before .before .built2 .given .1)) (c .before .before .before .before .before .before .build-image .kept .1 .0)))
-
-judge-requires : tie.Need-judge-requires
-judge-requires c κs = search needs
-
-put-judged-requires : tie.Need-put-judged-requires
-put-judged-requires c κs = search needs
-
 same-length : tie.Need-same-length
 same-length c = search needs
 
+returns : tie.Need-returns
+returns c = parts-refused _ _ _ _ _ _ _ (c .before .before .before .before .before .before .parts-refusal .ensures) (c .before .before .before .before .if1 .taken) (c .before .before .put-refusal .ensures)
+
+answer-built-requires : tie.Need-answer-built-requires
+answer-built-requires c κs = parts-fine (c .before .before .before .before .before .before .before .before .before .before .before .before .before .args .grammar .now) (c .before .before .before .before .before .before .before .before .before .before .before .before .before .args .capture .now) _ _ _ _ (c .before .before .before .before .before .before .parts-refusal .ensures) (c .before .before .before .before .if1 .left)
+
 same-length-2 : tie.Need-same-length-2
 same-length-2 c = search needs
-
-returns : tie.Need-returns
-returns c = parts-refused _ _ _ _ _ _ _ _ _ _ _ (c .before .before .before .before .before .before .before .before .before .build-image .ensures) (c .before .before .before .before .before .built .given .1) (c .before .before .put-refusal .ensures)
 
 same-length-3 : tie.Need-same-length-3
 same-length-3 c = search needs
@@ -48,29 +32,20 @@ same-length-4 c = search needs
 same-length-5 : tie.Need-same-length-5
 same-length-5 c = search needs
 
-same-length-6 : tie.Need-same-length-6
-same-length-6 c = search needs
-
 returns-2 : tie.Need-returns-2
-returns-2 c = parts-judged _ _ _ _ _ _ _ _ _ _ _ _ _ _ (c .before .before .before .before .before .before .before .before .before .before .before .before .before .before .before .before .before .build-image .ensures) (c .before .before .before .before .before .before .before .before .before .before .before .before .before .built2 .given .1) (c .before .before .before .before .before .before .before .before .judge .ensures) (c .before .before .put-judged .ensures)
+returns-2 c = parts-judged _ _ _ _ _ _ _ _ (c .before .before .before .before .before .before .before .before .before .before .before .before .before .before .before .parts-refusal .ensures) (c .before .before .before .before .before .before .before .before .before .before .before .before .before .if1 .left) (c .before .before .before .before .before .before .before .before .answer-built .ensures)
 
 pub answer-parts-spec : {M : Type 1} → statement M
 answer-parts-spec =
     tie.close
     (tie.spec
-    build-image-requires
-    enum-known-built
+    parts-refusal-requires
     put-refusal-requires
-    enum-known-built-2
-    slice-reshare-prefix-judge
-    slice-aggregate-judge
-    judge-requires
-    put-judged-requires
     same-length
-    same-length-2
     returns
+    answer-built-requires
+    same-length-2
     same-length-3
     same-length-4
     same-length-5
-    same-length-6
     returns-2)
