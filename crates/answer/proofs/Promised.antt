@@ -7,7 +7,7 @@ use borrow.Author.Tests.{eq-eqb}
 use Rattle.machine.specs.declared.Refusal.{Refusal}
 use Rattle.machine.specs.declared.Verdict.the-variants.{Looping}
 use Rattle.machine.specs.Run.{config}
-use Rattle.machine.specs.Refusals.{refusal, or-else}
+use Rattle.machine.specs.Refusals.{refusal, or-else, capture-refusal}
 use Rattle.simulator.specs.declared.Judged.the-variants.{Answer}
 use Rattle.simulator.specs.Calls.{Judge-determined, judge-refusal}
 use Rattle.simulator.proofs.Determined.{judge-determined}
@@ -60,7 +60,7 @@ answer-determined xs x y z out p q n m a b =
     (s .lent-same, bytes, count)
 
 pub refusals-left : Refusals-left
-unfolding Refusals-left judge-refusal or-else
+unfolding Refusals-left judge-refusal capture-refusal or-else
 refusals-left gs cs a b h = simp (eq-eqb _ _ (built-good gs h))
 
 -- TWO LINES: looping 2 1 1 1, and refused 14 8

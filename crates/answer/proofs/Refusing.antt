@@ -11,10 +11,10 @@ use Rattle.machine.specs.declared.Refusal.{Refusal}
 use Rattle.machine.specs.Format
 use Rattle.machine.specs.Run.{how-many}
 use Rattle.machine.specs.Image.{machine}
-use Rattle.machine.specs.Refusals.{refusal, fine, or-else}
-use Rattle.machine.proofs.Refused.{neither}
+use Rattle.machine.specs.Refusals.{refusal, fine, or-else, image-refusal, capture-refusal}
+use Rattle.machine.proofs.Refused.{neither, then-long, then-fine}
 use Rattle.simulator.specs.Calls.{judge-refusal}
-use Rattle.simulator.proofs.JudgeRefusals.{long-refused, notes-refused, work-refused, not-refused}
+use Rattle.simulator.proofs.JudgeRefusals.{cells-refused, notes-refused, work-refused, not-refused}
 use Rattle.grammar.specs.Grammar.{rules, grammar-refusal}
 use Rattle.grammar.specs.Image.{built, symbols-of}
 use Rattle.grammar.specs.Calls.{build-refusal}
@@ -38,18 +38,23 @@ cells-few a b ha hb = mul-le-mul ha hb
 
 module _ (gs cs : List ℕ) (good : grammar-refusal gs .number ≡ 0) (a b : ℕ) where
   pub refused-long : Format.max-capture < length cs → refusal 7 (length cs) ≡ judge-refusal (built gs) cs a b
-  refused-long h = sym (long-refused (built gs) cs a b (built-good gs good) h)
+  refused-long h =
+      let e = sym (then-long (built gs) (length cs) (image-refusal (built gs)) refl (built-good gs good) h) in
+      sym (cells-refused (built gs) cs a b (λ z. absurd (omega (arith, ap (λ (f : Refusal). f .number) e))) ∙ e)
 
   module _ (short : length cs ≤ Format.max-capture) (cells : ℕ) (is : cells ≡ how-many (machine (built gs) cs)) where
+    fine-so-far : capture-refusal (built gs) (length cs) .number ≡ 0
+    fine-so-far = ap (λ (f : Refusal). f .number) (sym (then-fine (built gs) (length cs) (image-refusal (built gs)) refl (built-good gs good) short))
+
     pub refused-notes : a < cells → refusal 8 cells ≡ judge-refusal (built gs) cs a b
-    refused-notes h = ap (refusal 8) is ∙ sym (notes-refused (built gs) cs a b (built-good gs good) short (omega arith))
+    refused-notes h = ap (refusal 8) is ∙ sym (notes-refused (built gs) cs a b fine-so-far (omega arith))
 
     module _ (enough : cells ≤ a) where
       pub refused-work : b < cells → refusal 9 cells ≡ judge-refusal (built gs) cs a b
-      refused-work h = ap (refusal 9) is ∙ sym (work-refused (built gs) cs a b (built-good gs good) short (omega arith) (omega arith))
+      refused-work h = ap (refusal 9) is ∙ sym (work-refused (built gs) cs a b fine-so-far (omega arith) (omega arith))
 
       pub refused-none : cells ≤ b → fine ≡ judge-refusal (built gs) cs a b
-      refused-none h = sym (not-refused (built gs) cs a b (built-good gs good) short (omega arith) (omega arith))
+      refused-none h = sym (not-refused (built gs) cs a b fine-so-far (omega arith) (omega arith))
 
 -- 11 to 13 first
 module _ (gs cs : List ℕ) (m a b : ℕ) (f : Refusal) (e : f ≡ build-refusal gs m) where

@@ -24,6 +24,7 @@ use Rattle.simulator.specs.declared.Judged.{Judged}
 use Rattle.simulator.specs.declared.Judged.the-variants.{Refused, Answer}
 use Rattle.simulator.specs.Calls.{judge-refusal, Right, Judge-as, Judge-says}
 use Rattle.simulator.proofs.JudgeRefusals.{not-refused}
+use Rattle.machine.proofs.Refused.{then-fine}
 use Rattle.grammar.specs.declared.Built.{Built}
 use Rattle.grammar.specs.declared.Built.the-variants.{Image}
 use Rattle.grammar.specs.Grammar.{rules, expression, grammar-refusal}
@@ -128,5 +129,5 @@ build-then-judge gs cs image image-now notes notes-now work work-now b r e built
     right : Right (built gs) cs r notes notes-now work work-now
     right =
         judged-as (judge-refusal (built gs) cs (length notes) (length work) .number) (judge-refusal (built gs) cs (length notes) (length work)) (built gs) cs r notes notes-now work work-now
-        (ap (λ (f : Refusal). f .number) (not-refused (built gs) cs (length notes) (length work) good (e .short) (e .notes-room) (e .work-room)))
+        (ap (λ (f : Refusal). f .number) (not-refused (built gs) cs (length notes) (length work) (ap (λ (f : Refusal). f .number) (sym (then-fine (built gs) (length cs) (image-refusal (built gs)) refl good (e .short)))) (e .notes-room) (e .work-room)))
         says

@@ -5,9 +5,9 @@ use lib.ListN.{getD, drop}
 use Rattle.machine.specs.Run.{start, step, step-on, step-by, config-of, top, how-many, config-number, config-from}
 use Rattle.machine.specs.Image.{machine, four, states, classes, symbols, final, rule-offset, rule-from, rule-at, class-under, moved, action-by, action, accepting}
 use Rattle.machine.specs.Refusals.{or-else, refuse-if, pair-is, directory, counts, count-wrong, map-from, move-off, rule-bad, index-class, rules-from, rule-count, image-refusal}
-use Rattle.simulator.specs.Turn.{turn, turn-by, look, unwind, unwound, cleared, opened, resumed, accepts, link}
-use Rattle.simulator.specs.Chain.{reached, begun, chain, begin-record, verdict-of}
-use Rattle.simulator.proofs.ChainJudges.{standing-at}
+use Rattle.chain.specs.Turn.{turn, turn-by, look, unwind, unwound, cleared, closed, first-look, resumed, accepts, link}
+use Rattle.chain.specs.Chain.{reached, begun, chain, begin-record, verdict-of}
+use Rattle.chain.proofs.ChainJudges.{standing-at}
 use Rattle.interpreter.specs.PlainRun.{run-on, run-went, spent-or, ended-as}
 use Rattle.grammar.specs.Grammar as Grammar
 use Rattle.grammar.specs.Classes.{cuts-at, cut-from, cut, class-of, class-count, class-in}
@@ -28,7 +28,7 @@ unfolding table plain-table found said found-by ran-found ran-said chain-last en
     start step step-on step-by config-of top how-many config-number config-from
     machine four states classes symbols final rule-offset rule-from rule-at class-under moved action-by action accepting
     or-else refuse-if pair-is directory counts count-wrong map-from move-off rule-bad index-class rules-from rule-count image-refusal
-    turn turn-by look unwind unwound cleared opened resumed accepts link reached begun chain begin-record verdict-of standing-at
+    turn turn-by look unwind unwound cleared closed first-look resumed accepts link reached begun chain begin-record verdict-of standing-at
     run-on run-went spent-or ended-as
     Grammar.rules Grammar.kind-of Grammar.b-of Grammar.c-of Grammar.expression-by Grammar.expression Grammar.rule-right Grammar.rules-from Grammar.grammar-refusal
     cuts-at cut-from cut class-of class-count class-in

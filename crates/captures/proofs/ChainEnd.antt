@@ -11,13 +11,13 @@ use Rattle.machine.specs.Run.{Machine}
 use Rattle.machine.specs.Image.{machine}
 use Rattle.machine.specs.Verdicts.{Says, All-entered}
 use Rattle.machine.specs.Refusals.{Unrefused}
-use Rattle.simulator.specs.declared.Mode.{Mode}
-use Rattle.simulator.specs.declared.Mode.the-variants.{Look, Unwind, Clear, Done}
-use Rattle.simulator.specs.declared.Record.{Record}
-use Rattle.simulator.specs.Turn.{Standing, standing, turn, turn-by}
-use Rattle.simulator.specs.Chain.{Judges, chain, verdict-of}
-use Rattle.simulator.proofs.ChainJudges.{standing-at, standing-goes}
-use Rattle.simulator.proofs.Interface.{chain-judges}
+use Rattle.chain.specs.declared.Mode.{Mode}
+use Rattle.chain.specs.declared.Mode.the-variants.{Look, Unwind, Clear, Done}
+use Rattle.chain.specs.declared.Record.{Record}
+use Rattle.chain.specs.Turn.{Standing, standing, turn, turn-by}
+use Rattle.chain.specs.Chain.{Judges, chain, verdict-of}
+use Rattle.chain.proofs.ChainJudges.{standing-at, standing-goes}
+use Rattle.chain.proofs.Interface.{chain-judges}
 
 -- so many steps of the judge
 unfoldable pub turns : (count : ℕ) → Machine → Standing → Standing

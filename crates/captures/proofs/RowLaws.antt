@@ -18,9 +18,9 @@ use Rattle.machine.specs.Refusals.{Unrefused, image-refusal}
 use Rattle.machine.specs.Verdicts.{Says, All-entered}
 use Rattle.interpreter.specs.PlainRun.{Run-end, run-end, run-on, True-end, Plain-run-true}
 use Rattle.interpreter.proofs.Promised.{plain-run-true}
-use Rattle.simulator.specs.Turn.{Standing}
-use Rattle.simulator.specs.Chain.{verdict-of}
-use Rattle.simulator.proofs.ChainJudges.{standing-at}
+use Rattle.chain.specs.Turn.{Standing}
+use Rattle.chain.specs.Chain.{verdict-of}
+use Rattle.chain.proofs.ChainJudges.{standing-at}
 use Rattle.captures.specs.Captures.{Row, row-machine, image-of, source-refusal, Takes, Steps-are, Row-holds}
 use Rattle.captures.proofs.ChainEnd.{turns, standing-turns, chain-tells}
 

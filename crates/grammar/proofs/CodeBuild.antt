@@ -1,15 +1,15 @@
 -- What building answers: the first refusal of 11 to 13, or the image and the later bytes. Assumes nothing.
 use mathlib.Core.Path.{_≡_, refl, sym, ap, subst, _∙_}
 use mathlib.Core.List.{List, _++_}
-use Prim.Native.Nat.{ℕ, zero, suc, _+_, _*_, _<_, _≤_}
+use Prim.Native.Nat.{ℕ, zero, suc, _+_, _*_, _≤_}
 use native.Mathlib.Omega.{arith}
 use lib.ListN.{length, take, drop}
 use lib.Seq.{length-take-le}
 use lib.Dec.{ltb}
-use borrow.Author.Tests.{eq-eqb, ne-eqb, lt-ltb, le-ltb, ltb-false}
+use borrow.Author.Tests.{eq-eqb, ne-eqb, le-ltb, ltb-false}
 use Rattle.machine.specs.declared.Refusal.{Refusal}
 use Rattle.machine.specs.Refusals.{refusal, fine, or-else, refuse-if}
-use Rattle.machine.proofs.Refused.{Fine, neither, not-refused as room-there}
+use Rattle.machine.proofs.Refused.{not-refused as room-there}
 use Rattle.grammar.specs.declared.Built.{Built}
 use Rattle.grammar.specs.declared.Built.the-variants.{Refused, Image}
 use Rattle.grammar.specs.Grammar.{grammar-refusal}
@@ -34,16 +34,13 @@ refusal-grammar : (gs : List ℕ) (f : Refusal) (n : ℕ) → f ≡ grammar-refu
 unfolding build-refusal or-else
 refusal-grammar gs f n e h = simp (← e, ne-eqb _ _ h)
 
-refusal-room : (gs : List ℕ) (n : ℕ) → grammar-refusal gs .number ≡ 0 → n < built-length gs → build-refusal gs n ≡ refusal 13 (built-length gs)
-unfolding build-refusal or-else refuse-if
-refusal-room gs n good less = simp (eq-eqb _ _ good, lt-ltb n (built-length gs) less)
-
 refusal-none : (gs : List ℕ) (n : ℕ) → grammar-refusal gs .number ≡ 0 → built-length gs ≤ n → build-refusal gs n ≡ fine
 unfolding build-refusal or-else refuse-if
 refusal-none gs n good enough = simp (eq-eqb _ _ good, le-ltb n (built-length gs) enough)
 
-long-is : (gs : List ℕ) {size : ℕ} → size ≡ built-rules gs → 288 + 4 * size ≡ built-length gs
-long-is gs is = ap (λ (n : ℕ). 288 + 4 * n) is ∙ sym (length-is gs)
+-- the image's length, by the count of its rules
+pub long-is : (gs : List ℕ) {size long : ℕ} → size ≡ built-rules gs → long ≡ 288 + 4 * size → long ≡ built-length gs
+long-is gs is e = e ∙ ap (λ (n : ℕ). 288 + 4 * n) is ∙ sym (length-is gs)
 
 built-as :
     (gs a c : List ℕ) (r : Built) → r ≡ Image (built-length gs) → c ≡ built gs ++ drop (built-length gs) a → Build-as 0 fine gs r a c
@@ -59,52 +56,33 @@ module _ (gs : List ℕ) (f : Refusal) (e : f ≡ grammar-refusal gs) where
     pub not-refused : grammar-refusal gs .number ≡ 0
     not-refused = ap (λ (g : Refusal). g .number) (sym e) ∙ good
 
-    module _ (size : ℕ) (is : size ≡ built-rules gs) (n : ℕ) where
-      pub room-refused : n < 288 + 4 * size → refusal 13 (288 + 4 * size) ≡ build-refusal gs n
-      room-refused h =
-          let less : n < built-length gs = omega (arith, long-is gs is) in
-          ap (refusal 13) (long-is gs is) ∙ sym (refusal-room gs n not-refused less)
+    pub room-told : (n : ℕ) {long : ℕ} {g : Refusal} → long ≡ built-length gs → g ≡ refuse-if (ltb n long) (refusal 13 long) → g ≡ build-refusal gs n
+    unfolding build-refusal or-else
+    room-told n l h = rw (eq-eqb _ _ not-refused, ← l) h
 
-      pub none-refused : 288 + 4 * size ≤ n → fine ≡ build-refusal gs n
-      none-refused h =
-          let enough : built-length gs ≤ n = omega (arith, long-is gs is) in
-          sym (refusal-none gs n not-refused enough)
+-- room enough
+pub room-passed : (n long : ℕ) (g : Refusal) → g ≡ refuse-if (ltb n long) (refusal 13 long) → g .number ≡ 0 → long ≤ n
+room-passed n long g e none =
+    ltb-false n long (room-there _ 12 long (record { none-such = ap (λ (f : Refusal). f .number) (sym e) ∙ none }))
 
 -- WHAT BUILDING ANSWERS
-module _ (gs a : List ℕ) (f : Refusal) (e : f ≡ build-refusal gs (length a)) where
-  pub building-refused : (f .number ≡ 0 → ⊥) → Build-says gs (Refused f) a a
-  building-refused h = says-refused gs a f (sym e) h
+pub building-refused :
+    (gs a : List ℕ) (f : Refusal) → f ≡ build-refusal gs (length a) → (f .number ≡ 0 → ⊥) → Build-says gs (Refused f) a a
+building-refused gs a f e h = says-refused gs a f (sym e) h
 
-  module _ (none : f .number ≡ 0) where
-    fine-parts : Fine (grammar-refusal gs) × Fine (refuse-if (ltb (length a) (built-length gs)) (refusal 13 (built-length gs)))
-    unfolding build-refusal
-    fine-parts = neither _ _ (record { none-such = ap (λ (g : Refusal). g .number) (sym e) ∙ none })
+module _
+    (gs a : List ℕ) (good : grammar-refusal gs .number ≡ 0) (long : ℕ) (l : long ≡ built-length gs) (fits : long ≤ length a)
+  where
+    -- the image, and the later bytes as they were
+    pub image-built : (b c : List ℕ) → b ≡ built gs → c ≡ b ++ drop long a → Build-says gs (Image long) a c
+    unfolding Build-says
+    image-built b c q k =
+        subst (λ (g : Refusal). Build-as (g .number) g gs (Image long) a c)
+        (sym (refusal-none gs (length a) good (omega arith)))
+        (built-as gs a c (Image long) (ap Image l)
+        (k ∙ ap (λ (x : List ℕ). x ++ drop long a) q ∙ ap (λ (n : ℕ). built gs ++ drop n a) l))
 
-    pub grammar-good : grammar-refusal gs .number ≡ 0
-    grammar-good = fine-parts .0 .none-such
-
-    room : built-length gs ≤ length a
-    room = ltb-false (length a) (built-length gs) (room-there _ 12 (built-length gs) (fine-parts .1))
-
-    module _ (size : ℕ) (is : size ≡ built-rules gs) where
-      pub image-fits : 288 + 4 * size ≤ length a
-      image-fits = omega (arith, long-is gs is, room)
-
-      -- the image, and the later bytes as they were
-      pub image-built :
-          (b c : List ℕ) → b ≡ built gs → c ≡ b ++ drop (288 + 4 * size) a → Build-says gs (Image (288 + 4 * size)) a c
-      unfolding Build-says
-      image-built b c q l =
-          subst (λ (g : Refusal). Build-as (g .number) g gs (Image (288 + 4 * size)) a c) (sym (refusal-none gs (length a) grammar-good room))
-          (built-as gs a c (Image (288 + 4 * size)) (ap Image (long-is gs is))
-          (l ∙ ap (λ (x : List ℕ). x ++ drop (288 + 4 * size) a) q ∙ ap (λ (n : ℕ). built gs ++ drop n a) (long-is gs is)))
-
-      -- what is lent to the writers
-      pub ready-to-write : (n : ℕ) → n ≡ class-count gs → Write-ready gs (take (288 + 4 * size) a) n size
-      ready-to-write n en =
-          record {
-            good = grammar-good;
-            long = length-take-le (288 + 4 * size) a image-fits ∙ long-is gs is;
-            classes-are = en;
-            count-is = is;
-          }
+    -- what is lent to the writers
+    pub ready-to-write : (n size : ℕ) → n ≡ class-count gs → size ≡ built-rules gs → Write-ready gs (take long a) n size
+    ready-to-write n size en is =
+        record { good = good; long = length-take-le long a fits ∙ l; classes-are = en; count-is = is }

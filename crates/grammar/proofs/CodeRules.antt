@@ -2,17 +2,19 @@
 use mathlib.Core.Path.{_≡_, refl, sym, ap, _∙_}
 use mathlib.Core.List.{List, [], _∷_, _++_, append-assoc, append-nil}
 use Prim.Native.Nat.{ℕ, suc, _+_, _*_, _-_, _/_, _%_, _<_, _≤_}
-use native.Mathlib.Nat.{sub-zero, mod-lt}
+use native.Mathlib.Nat.{sub-zero}
 use native.Mathlib.Numerals.{add-one}
 use native.Mathlib.Omega.{arith}
 use lib.ListN.{length, take, getD}
 use lib.Seq.{take-all, take-take, take-append-le, length-take-le, getD-take}
+use Rattle.machine.specs.declared.Selector.{Selector}
+use Rattle.machine.specs.Counting.{Selects}
+use Rattle.machine.proofs.CountingOn.{state-of, class-of, symbol-of}
 use Rattle.grammar.specs.declared.RuleBytes.{RuleBytes}
 use Rattle.grammar.specs.Grammar.{grammar-refusal}
 use Rattle.grammar.specs.Classes.{class-count}
 use Rattle.grammar.specs.Image.{made, rule-bytes, symbols-of, built-rules, built-length, rules-made, map-made, header, built}
 use Rattle.grammar.specs.Writing.{rule-of, header-of, Rows-ready}
-use Rattle.grammar.proofs.CodeClasses.{symbols-some}
 use Rattle.grammar.proofs.CodeWriting.{map-read}
 
 rules-step :
@@ -105,6 +107,12 @@ rules-next gs a b c i n g r w more en eg same e q =
           ∙ w .written;
     }
 
+-- the rule that is selected is the one with the index
+pub selected :
+    (gs : List ℕ) (s : Selector) (k g i : ℕ) (r : RuleBytes) → Selects s k g i →
+    rule-of r ≡ made gs (s .state) (s .class) (s .symbol) → rule-of r ≡ made gs (i / g / k) (i / g % k) (i % g)
+selected gs s k g i r w q = rw (state-of s k g i w, class-of s k g i w, symbol-of s k g i w) q
+
 -- the class map stays while the rules are written
 pub ready-kept : (gs a b : List ℕ) (n i : ℕ) → Rows-ready gs a n → Rules-written gs a b i → Rows-ready gs b n
 ready-kept gs a b n i w r =
@@ -118,11 +126,6 @@ ready-kept gs a b n i w r =
           ∙ getD-take 288 a (32 + v) 0 (omega arith)
           ∙ w .map v h;
     }
-
-pub symbol-there : (gs : List ℕ) (i g : ℕ) → g ≡ symbols-of gs → i % g < symbols-of gs
-symbol-there gs i g e =
-    let some : 0 < g = omega (arith, symbols-some gs) in
-    omega (arith, mod-lt i some)
 
 -- THE WHOLE IMAGE: the header, the class map, the rules
 pub ready-after :

@@ -11,6 +11,8 @@ use crate::rows::row_first;
 use crate::rows::row_second;
 use crate::rows::row_zero;
 use machine::Refusal;
+use machine::Selector;
+use machine::counting;
 use machine::format::COUNTS_LENGTH;
 use machine::format::COUNTS_OFFSET;
 use machine::format::MAP_LENGTH;
@@ -24,6 +26,7 @@ ghost use Prim.Native.Nat.{_+_, _*_, _<_, _≤_};
 ghost use lib.Dec.{ltb};
 ghost use lib.ListN.{length, take};
 ghost use Rattle.machine.specs.Format.{map-offset, rules-offset};
+ghost use Rattle.machine.specs.Refusals.{refusal, refuse-if};
 ghost use Rattle.grammar.specs.Grammar.{max-rules, grammar-refusal};
 ghost use Rattle.grammar.specs.Classes.{class-count as class-count-of};
 ghost use Rattle.grammar.specs.Image.{made as made-of, little-endian, symbols-of, built-rules, built-length, rules-made, built};
@@ -106,20 +109,15 @@ fn class_inside(image: &[u8], classes: u32, e: Expression, class: u32) -> bool
     }
 }
 
-// The rule for a state, a class and a symbol; the image has its class map.
-fn made(
-    grammar: &[u8],
-    image: &[u8],
-    classes: u32,
-    state: u32,
-    class: u32,
-    symbol: u32,
-) -> RuleBytes
-    requires { ⌜ Rows-ready (now grammar) (now image) classes × (symbol < symbols-of (now grammar)) ⌝ }
-    ensures { λ r. ⌜ rule-of r ≡ made-of (now (grammar .entry)) state class symbol ⌝ }
+// The rule that state, class and symbol select; the image has its class map.
+fn made(grammar: &[u8], image: &[u8], classes: u32, s: Selector) -> RuleBytes
+    requires { ⌜ Rows-ready (now grammar) (now image) classes × (s .symbol < symbols-of (now grammar)) ⌝ }
+    ensures { λ r. ⌜ rule-of r ≡ made-of (now (grammar .entry)) (s .state) (s .class) (s .symbol) ⌝ }
 {
+    let state = s.state;
+    let symbol = s.symbol;
     if symbol == 0 {
-        return row_zero(classes, state, class);
+        return row_zero(classes, state, s.class);
     }
     let a = symbol - 1;
     let k = a / 2;
@@ -128,7 +126,7 @@ fn made(
     if side != 0 {
         return row_second(e, state);
     }
-    let inside = class_inside(image, classes, e, class);
+    let inside = class_inside(image, classes, e, s.class);
     row_first(e, state, k as u8, inside)
 }
 
@@ -158,19 +156,13 @@ fn write_rules(grammar: &[u8], image: &mut [u8], classes: u32, count: u32)
 {
     let symbols = symbol_count(grammar);
     let columns = classes + 2;
+    let mut s = counting::first();
     let mut i: u32 = 0;
     while i < count {
-        let upper = i / symbols;
-        let r = made(
-            grammar,
-            image,
-            classes,
-            upper / columns,
-            upper % columns,
-            i % symbols,
-        );
+        let r = made(grammar, image, classes, s);
         let at = RULES_OFFSET + RULE_LENGTH * (i as usize);
         put(image, at, r.kind, r.state, r.symbol, r.direction);
+        s = counting::next(s, columns, symbols);
         i += 1;
     }
 }
@@ -186,6 +178,30 @@ fn write_image(grammar: &[u8], image: &mut [u8], classes: u32, count: u32)
     write_rules(grammar, image, classes, count);
 }
 
+// Refusal 13: a buffer of so many bytes, for an image that is so long.
+fn room_refusal(long: usize, room: usize) -> Refusal
+    ensures { λ r. ⌜ r ≡ refuse-if (ltb room long) (refusal 13 long) ⌝ }
+{
+    if room < long {
+        Refusal {
+            number: 13,
+            place: long,
+        }
+    } else {
+        Refusal {
+            number: 0,
+            place: 0,
+        }
+    }
+}
+
+// The length of an image with so many rules.
+fn image_length(count: u32) -> usize
+    ensures { λ r. ⌜ r ≡ rules-offset + 4 * count ⌝ }
+{
+    RULES_OFFSET + RULE_LENGTH * (count as usize)
+}
+
 // The first refusal of 11 to 13 for a buffer of so many bytes, or number 0.
 pub fn build_refusal(grammar: &[u8], room: usize) -> Refusal
     ensures { λ r. ⌜ r ≡ build-refusal (now (grammar .entry)) room ⌝ }
@@ -195,30 +211,24 @@ pub fn build_refusal(grammar: &[u8], room: usize) -> Refusal
         return refusal;
     }
     let count = rule_count(grammar, class_count(grammar));
-    let long = RULES_OFFSET + RULE_LENGTH * (count as usize);
-    if room < long {
-        return Refusal {
-            number: 13,
-            place: long,
-        };
-    }
-    Refusal {
-        number: 0,
-        place: 0,
-    }
+    room_refusal(image_length(count), room)
 }
 
 // Building: the image's length, or the first refusal of 11 to 13. Later bytes stay, and a refusal changes none.
 pub fn build_image(grammar: &[u8], image: &mut [u8]) -> Built
     ensures { λ r. ⌜ Build-says (now (grammar .entry)) r (now (image .entry)) (now (image .exit)) ⌝ }
 {
-    let refusal = build_refusal(grammar, image.len());
+    let refusal = refusal_of(grammar);
     if refusal.number != 0 {
         return Built::Refused(refusal);
     }
     let classes = class_count(grammar);
     let count = rule_count(grammar, classes);
-    let long = RULES_OFFSET + RULE_LENGTH * (count as usize);
+    let long = image_length(count);
+    let short = room_refusal(long, image.len());
+    if short.number != 0 {
+        return Built::Refused(short);
+    }
     write_image(grammar, &mut image[..long], classes, count);
     Built::Image(long)
 }

@@ -2,22 +2,19 @@
 use mathlib.Core.Path.{_≡_}
 use mathlib.Core.List.{List}
 use Prim.Native.Nat.{ℕ, zero, suc}
-use lib.Dec.{ltb, eqb}
+use lib.Dec.{eqb}
 use lib.ListN.{length, replicate}
 use Rattle.machine.specs.declared.Refusal.{Refusal}
-use Rattle.machine.specs.Format
 use Rattle.machine.specs.Run.{start}
 use Rattle.machine.specs.Image.{machine}
-use Rattle.machine.specs.Refusals.{refusal, or-else, refuse-if, image-refusal}
+use Rattle.machine.specs.Refusals.{refusal, or-else, refuse-if, capture-refusal}
 use Rattle.interpreter.specs.declared.Ran.{Ran}
 use Rattle.interpreter.specs.declared.Ran.the-variants.{Refused, Answer}
 use Rattle.interpreter.specs.PlainRun.{Run-end, run-on}
 
--- the plain run refuses by 1 to 6, 7 and 10, the lowest first
+-- the plain run refuses by 1 to 7 and 10, the lowest first
 unfoldable pub run-refusal : (image capture : List ℕ) → (cells : ℕ) → Refusal
-run-refusal bs cs k =
-    or-else (image-refusal bs)
-    (or-else (refuse-if (ltb Format.max-capture (length cs)) (refusal 7 (length cs))) (refuse-if (eqb k 0) (refusal 10 0)))
+run-refusal bs cs k = or-else (capture-refusal bs (length cs)) (refuse-if (eqb k 0) (refusal 10 0))
 
 abbrev pub answer : Run-end → Ran
 answer e = Answer (e .verdict) (e .steps) (e .reached)

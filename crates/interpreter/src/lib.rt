@@ -1,17 +1,15 @@
 // The plain run: the step-by-step run itself, on a stack of lent cells and within a budget of steps.
 use machine::Action;
-use machine::Checked;
 use machine::Config;
 use machine::Refusal;
 use machine::Sizes;
 use machine::Verdict;
-use machine::check::check_image;
-use machine::format::MAX_CAPTURE;
 use machine::lookup::action_of;
 use machine::lookup::finals_of;
 use machine::lookup::returned;
 use machine::lookup::sizes_of;
 use machine::lookup::verdict_over;
+use validator::check::capture_refusal;
 ghost use mathlib.Core.Path.{_≡_};
 ghost use Prim.Native.Nat.{_<_};
 ghost use lib.ListN.{length, replicate};
@@ -229,27 +227,19 @@ fn clear(stack: &mut [u32])
 fn refusal_of(image: &[u8], capture: &[u8], cells: usize) -> Refusal
     ensures { λ r. ⌜ r ≡ run-refusal (now (image .entry)) (now (capture .entry)) cells ⌝ }
 {
-    let checked = check_image(image);
-    match checked {
-        Checked::Refused(refusal) => refusal,
-        Checked::Good => {
-            if MAX_CAPTURE < capture.len() {
-                return Refusal {
-                    number: 7,
-                    place: capture.len(),
-                };
-            }
-            if cells == 0 {
-                return Refusal {
-                    number: 10,
-                    place: 0,
-                };
-            }
-            Refusal {
-                number: 0,
-                place: 0,
-            }
-        }
+    let refusal = capture_refusal(image, capture.len());
+    if refusal.number != 0 {
+        return refusal;
+    }
+    if cells == 0 {
+        return Refusal {
+            number: 10,
+            place: 0,
+        };
+    }
+    Refusal {
+        number: 0,
+        place: 0,
     }
 }
 

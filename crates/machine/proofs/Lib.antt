@@ -1,8 +1,7 @@
 -- What is proved of images, machines and their runs, by topic: unrefused images and their rules; numbers and counts; runs, terminators and verdicts.
 pub mod Refused
 pub mod CheckGood
-pub mod CheckParts
-pub mod CheckLoops
+pub mod CountingOn
 pub mod Digits
 pub mod Numbers
 pub mod Nonzero

@@ -1,14 +1,18 @@
 -- Refusals one after another: what it means that none is given, and what the check's answer says of the definition. Assumes nothing.
 use mathlib.Core.Path.{_≡_, refl, sym, ap, _∙_}
 use mathlib.Core.Bool.{Bool, true, false, cond}
-use Prim.Native.Nat.{ℕ, suc}
+use mathlib.Core.List.{List}
+use Prim.Native.Nat.{ℕ, suc, _<_, _≤_}
 use native.Mathlib.Omega.{arith}
 use lib.Dec.{eqb}
-use borrow.Author.Tests.{eqb-true, eqb-false}
+use lib.ListN.{length}
+use borrow.Author.Tests.{lt-ltb, le-ltb, ltb-false, eq-eqb, ne-eqb, eqb-true, eqb-false}
 use Rattle.machine.specs.declared.Refusal.{Refusal}
+use Rattle.machine.specs.Format
+use Rattle.machine.specs.Image.{byte}
 use Rattle.machine.specs.declared.Checked.{Checked}
 use Rattle.machine.specs.declared.Checked.the-variants.{Good, Refused}
-use Rattle.machine.specs.Refusals.{refusal, or-else, refuse-if}
+use Rattle.machine.specs.Refusals.{refusal, fine, or-else, refuse-if, image-refusal, capture-refusal, Unrefused}
 use Rattle.machine.specs.Calls.{checked}
 
 -- no refusal, as a record: what is said of a chain of tests is then read off the chain
@@ -51,3 +55,30 @@ refused-number f g e = go (eqb (f .number) 0) refl e
     go : (t : Bool) → eqb (f .number) 0 ≡ t → cond t Good (Refused f) ≡ Refused g → (g ≡ f) × (g .number ≡ 0 → ⊥)
     go true q h = absurd (let z : _≡_ {A = ℕ} 0 1 = cc in omega arith)
     go false q h = let s : g ≡ f = cc in (s, λ z. eqb-false (f .number) 0 q (sym (ap (λ (x : Refusal). x .number) s) ∙ z))
+
+-- with no refusal of 1 to 7 the image is good and the capture short
+pub capture-fine : (bs : List ℕ) (n : ℕ) → capture-refusal bs n .number ≡ 0 → (image-refusal bs .number ≡ 0) × (n ≤ Format.max-capture)
+unfolding capture-refusal
+capture-fine bs n e =
+    let (good, capture) = neither _ _ (record { none-such = e }) in
+    (good .none-such, ltb-false Format.max-capture n (not-refused _ 6 n capture))
+
+pub unrefused-by : (bs cs : List ℕ) → ((i : ℕ) → byte cs i < 256) → capture-refusal bs (length cs) .number ≡ 0 → Unrefused bs cs
+unrefused-by bs cs bytes e =
+    let (good, short) = capture-fine bs (length cs) e in
+    record { good = good; short = short; bytes = bytes }
+
+-- the tests in their order
+module _ (bs : List ℕ) (n : ℕ) (f : Refusal) (e : f ≡ image-refusal bs) where
+  pub image-first : (f .number ≡ 0 → ⊥) → f ≡ capture-refusal bs n
+  unfolding capture-refusal or-else
+  image-first h = simp (← e, ne-eqb _ _ h)
+
+  module _ (good : f .number ≡ 0) where
+    pub then-long : Format.max-capture < n → refusal 7 n ≡ capture-refusal bs n
+    unfolding capture-refusal or-else refuse-if
+    then-long h = simp (← e, eq-eqb _ _ good, lt-ltb _ _ h)
+
+    pub then-fine : n ≤ Format.max-capture → fine ≡ capture-refusal bs n
+    unfolding capture-refusal or-else refuse-if
+    then-fine h = simp (← e, eq-eqb _ _ good, le-ltb _ _ h)

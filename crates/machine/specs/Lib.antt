@@ -3,6 +3,7 @@ pub mod Format
 pub mod Run
 pub mod Image
 pub mod Verdicts
+pub mod Counting
 pub mod Refusals
 pub mod Lookup
 pub mod Calls

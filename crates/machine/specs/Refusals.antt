@@ -1,4 +1,4 @@
--- When an image is refused, with which number and at which place: refusals 1 to 6. Assumes nothing: these are definitions.
+-- When an image is refused, with which number and at which place: refusals 1 to 6, and 7 of the capture. Assumes nothing: these are definitions.
 use mathlib.Core.Path.{_≡_}
 use mathlib.Core.Bool.{Bool, true, false, _&&_, _||_, not, cond}
 use mathlib.Core.List.{List, [], _∷_}
@@ -82,6 +82,10 @@ image-refusal bs =
     (or-else (counts bs)
     (cond (eqb (length bs) (Format.rules-offset + 4 * rule-count bs))
     (or-else (map-from Format.map-length Format.map-offset bs) (rules-from (rule-count bs) 0 bs)) (refusal 4 20))))
+
+-- 7, after those of the image: a capture of n bytes
+unfoldable pub capture-refusal : (image : List ℕ) → (n : ℕ) → Refusal
+capture-refusal bs n = or-else (image-refusal bs) (refuse-if (ltb Format.max-capture n) (refusal 7 n))
 
 -- NOT REFUSED by 1 to 7: a good image, and a capture of bytes that is not too long
 pub record Unrefused (bs cs : List ℕ) : Type 0 where

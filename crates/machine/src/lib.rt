@@ -1,6 +1,6 @@
-// The machine: what an image says, whether it is good, and which rule a configuration selects.
+// The machine: what an image says, and which rule a configuration selects.
 // Everything that runs a machine stands on these types.
-pub mod check;
+pub mod counting;
 pub mod format;
 pub mod little_endian;
 pub mod lookup;
@@ -47,4 +47,11 @@ pub struct Sizes {
     pub classes: u32,
     pub symbols: u32,
     pub places: u32,
+}
+
+// What selects a rule: state, class under the head, top symbol.
+pub struct Selector {
+    pub state: u32,
+    pub class: u32,
+    pub symbol: u32,
 }

@@ -14,15 +14,15 @@ use Rattle.machine.specs.Image.{four, machine, sizes-of}
 use Rattle.machine.specs.Verdicts.{Says, Noted, nonzero}
 use Rattle.machine.specs.Refusals.{Unrefused}
 use Rattle.machine.proofs.Nonzero.{nonzero-most}
-use Rattle.simulator.specs.declared.Mode.the-variants.{Done}
-use Rattle.simulator.specs.declared.Record.{Record}
+use Rattle.chain.specs.declared.Mode.the-variants.{Done}
+use Rattle.chain.specs.declared.Record.{Record}
 use Rattle.simulator.specs.declared.Judged.the-variants.{Answer}
-use Rattle.simulator.specs.Turn.{Standing}
-use Rattle.simulator.specs.Ready.{Ready, Step-says, start-record}
-use Rattle.simulator.specs.Chain.{Reached, Judges, begin-record, begun, chain, reached, turned, verdict-of}
+use Rattle.chain.specs.Turn.{Standing}
+use Rattle.chain.specs.Ready.{Ready, Step-says, start-record}
+use Rattle.chain.specs.Chain.{Reached, Judges, begin-record, begun, chain, reached, turned, verdict-of}
 use Rattle.simulator.specs.Calls.{Right}
-use Rattle.simulator.proofs.ChainJudges.{begin-sizes, begin-finals}
-use Rattle.simulator.proofs.Interface.{chain-judges, chain-ready}
+use Rattle.chain.proofs.ChainJudges.{begin-sizes, begin-finals}
+use Rattle.chain.proofs.Interface.{chain-judges, chain-ready}
 
 abbrev at-reached : Record → (notes work : List ℕ) → Reached Record
 at-reached r ns ws = record { now-at = r; notes = ns; work = ws }

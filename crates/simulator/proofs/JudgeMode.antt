@@ -5,12 +5,12 @@ use mathlib.Core.Option.{none}
 use Prim.Native.Nat.{ℕ}
 use native.Mathlib.Omega.{arith}
 use denote.Enum.Declared
-use Rattle.simulator.specs.declared.Mode.{Mode}
-use Rattle.simulator.specs.declared.Mode.the-variants.{Look, Unwind, Clear, Done}
-use Rattle.simulator.specs.Chain.{verdict-of}
+use Rattle.chain.specs.declared.Mode.{Mode}
+use Rattle.chain.specs.declared.Mode.the-variants.{Look, Unwind, Clear, Done}
+use Rattle.chain.specs.Chain.{verdict-of}
 
 abbrev pub tag : Mode → ℕ
-tag m = Declared.tagOf (Declared.declared Rattle.simulator.proofs.Mode.enum) m
+tag m = Declared.tagOf (Declared.declared Rattle.chain.proofs.Mode.enum) m
 
 pub not-done : (m : Mode) → (tag m ≡ 0) ⊎ ((tag m ≡ 1) ⊎ (tag m ≡ 2)) → verdict-of m ≡ none
 unfolding verdict-of

@@ -9,40 +9,31 @@ use lib.ListN.{length, drop}
 use lib.Seq.{drop-nil}
 use borrow.Author.Tests.{lt-ltb, le-ltb, eq-eqb, ne-eqb, eqb-true, eqb-false}
 use Rattle.machine.specs.declared.Refusal.{Refusal}
-use Rattle.machine.specs.declared.Checked.the-variants.{Good, Refused as Refused-image}
-use Rattle.machine.specs.Calls.{checked}
 use Rattle.machine.specs.Run.{how-many}
 use Rattle.machine.specs.Image.{machine}
-use Rattle.machine.specs.Refusals.{refusal, fine, or-else, refuse-if, image-refusal}
-use Rattle.machine.specs.Format
-use Rattle.machine.proofs.Refused.{refused-number}
+use Rattle.machine.specs.Refusals.{refusal, fine, or-else, refuse-if, capture-refusal}
 use Rattle.simulator.specs.declared.Judged.{Judged}
 use Rattle.simulator.specs.declared.Judged.the-variants.{Refused}
 use Rattle.simulator.specs.Calls.{judge-refusal, Right, Judge-as, Judge-says}
 
 module _ (bs cs : List ℕ) (a b : ℕ) where
-  pub image-refused : (image-refusal bs .number ≡ 0 → ⊥) → judge-refusal bs cs a b ≡ image-refusal bs
+  pub cells-refused : (capture-refusal bs (length cs) .number ≡ 0 → ⊥) → judge-refusal bs cs a b ≡ capture-refusal bs (length cs)
   unfolding judge-refusal or-else
-  image-refused h = rw (ne-eqb _ _ h)
+  cells-refused h = rw (ne-eqb _ _ h)
 
-  module _ (good : image-refusal bs .number ≡ 0) where
-    pub long-refused : Format.max-capture < length cs → judge-refusal bs cs a b ≡ refusal 7 (length cs)
+  module _ (fine-so-far : capture-refusal bs (length cs) .number ≡ 0) where
+    pub notes-refused : a < how-many (machine bs cs) → judge-refusal bs cs a b ≡ refusal 8 (how-many (machine bs cs))
     unfolding judge-refusal or-else refuse-if
-    long-refused h = rw (eq-eqb _ _ good, lt-ltb _ _ h)
+    notes-refused h = rw (eq-eqb _ _ fine-so-far, lt-ltb _ _ h)
 
-    module _ (short : length cs ≤ Format.max-capture) where
-      pub notes-refused : a < how-many (machine bs cs) → judge-refusal bs cs a b ≡ refusal 8 (how-many (machine bs cs))
+    module _ (enough : how-many (machine bs cs) ≤ a) where
+      pub work-refused : b < how-many (machine bs cs) → judge-refusal bs cs a b ≡ refusal 9 (how-many (machine bs cs))
       unfolding judge-refusal or-else refuse-if
-      notes-refused h = rw (eq-eqb _ _ good, le-ltb _ _ short, lt-ltb _ _ h)
+      work-refused h = rw (eq-eqb _ _ fine-so-far, le-ltb _ _ enough, lt-ltb _ _ h)
 
-      module _ (enough : how-many (machine bs cs) ≤ a) where
-        pub work-refused : b < how-many (machine bs cs) → judge-refusal bs cs a b ≡ refusal 9 (how-many (machine bs cs))
-        unfolding judge-refusal or-else refuse-if
-        work-refused h = rw (eq-eqb _ _ good, le-ltb _ _ short, le-ltb _ _ enough, lt-ltb _ _ h)
-
-        pub not-refused : how-many (machine bs cs) ≤ b → judge-refusal bs cs a b ≡ fine
-        unfolding judge-refusal or-else refuse-if
-        not-refused h = rw (eq-eqb _ _ good, le-ltb _ _ short, le-ltb _ _ enough, le-ltb _ _ h)
+      pub not-refused : how-many (machine bs cs) ≤ b → judge-refusal bs cs a b ≡ fine
+      unfolding judge-refusal or-else refuse-if
+      not-refused h = rw (eq-eqb _ _ fine-so-far, le-ltb _ _ enough, le-ltb _ _ h)
 
 -- what the call says: a refusal with its cells as they were
 as-refused :
@@ -58,25 +49,20 @@ unfolding Judge-says
 refused-says bs cs x y {r} {f} e h q = rw e (as-refused (f .number) h bs cs x y q)
 
 module _ (bs cs x y : List ℕ) {r : Judged} where
-  pub image-says : {f : Refusal} → checked (image-refusal bs) ≡ Refused-image f → r ≡ Refused f → Judge-says bs cs r x x y y
-  image-says {f} e q =
-      let d = refused-number (image-refusal bs) f e in
-      let h : image-refusal bs .number ≡ 0 → ⊥ = λ z. d .1 (ap (λ (g : Refusal). g .number) (d .0) ∙ z) in
-      refused-says bs cs x y (image-refused bs cs (length x) (length y) h ∙ sym (d .0)) (d .1) q
+  pub cells-says :
+      {f : Refusal} → f ≡ capture-refusal bs (length cs) → (f .number ≡ 0 → ⊥) → r ≡ Refused f → Judge-says bs cs r x x y y
+  cells-says {f} e some q =
+      let h : capture-refusal bs (length cs) .number ≡ 0 → ⊥ = λ z. some (ap (λ (g : Refusal). g .number) e ∙ z) in
+      refused-says bs cs x y (cells-refused bs cs (length x) (length y) h ∙ sym e) some q
 
-  pub long-says :
-      image-refusal bs .number ≡ 0 → Format.max-capture < length cs → r ≡ Refused (refusal 7 (length cs)) →
-      Judge-says bs cs r x x y y
-  long-says g h q = refused-says bs cs x y (long-refused bs cs (length x) (length y) g h) (λ z. omega arith) q
-
-  module _ (g : image-refusal bs .number ≡ 0) (s : length cs ≤ Format.max-capture) {n : ℕ} (e : n ≡ how-many (machine bs cs)) where
+  module _ (g : capture-refusal bs (length cs) .number ≡ 0) {n : ℕ} (e : n ≡ how-many (machine bs cs)) where
     pub notes-says : length x < n → r ≡ Refused (refusal 8 n) → Judge-says bs cs r x x y y
     notes-says h q =
-        refused-says bs cs x y (notes-refused bs cs (length x) (length y) g s (omega arith)) (λ z. omega arith) (rw e at q)
+        refused-says bs cs x y (notes-refused bs cs (length x) (length y) g (omega arith)) (λ z. omega arith) (rw e at q)
 
     pub work-says : n ≤ length x → length y < n → r ≡ Refused (refusal 9 n) → Judge-says bs cs r x x y y
     work-says h k q =
-        refused-says bs cs x y (work-refused bs cs (length x) (length y) g s (omega arith) (omega arith)) (λ z. omega arith) (rw e at q)
+        refused-says bs cs x y (work-refused bs cs (length x) (length y) g (omega arith) (omega arith)) (λ z. omega arith) (rw e at q)
 
     -- an answer over the lent part is one over the whole
     pub answer-says :
@@ -85,7 +71,7 @@ module _ (bs cs x y : List ℕ) {r : Judged} where
     unfolding Judge-says Judge-as
     answer-says h k a =
         rw
-        (not-refused bs cs (length x) (length y) g s (omega arith) (omega arith))
+        (not-refused bs cs (length x) (length y) g (omega arith) (omega arith))
         (record {
           verdict = a .verdict;
           readings = a .readings;

@@ -1,24 +1,8 @@
--- What is proved of the judge: that a step is safe and what it adds; the theory of the chain, from paths of open configurations to the verdict.
-pub mod StepSafe
-pub mod StepAdds
-pub mod Travel
-pub mod Path
-pub mod Again
-pub mod Endings
-pub mod Cells
-pub mod Invariant
-pub mod Shares
-pub mod Resumes
-pub mod LookKeeps
-pub mod UnwindKeeps
-pub mod Finish
-pub mod SizesKept
-pub mod Readies
-pub mod ChainJudges
-pub mod Determined
-pub mod Promised
-pub mod Interface
-pub mod JudgeLoop
+-- What is proved of the calls: refusals, cells, and that the loop follows the chain to its end.
+pub mod Needing
 pub mod JudgeMode
+pub mod JudgeLoop
 pub mod JudgeCells
 pub mod JudgeRefusals
+pub mod Determined
+pub mod Promised

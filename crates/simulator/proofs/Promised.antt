@@ -13,18 +13,18 @@ use Rattle.machine.specs.declared.Verdict.{Verdict}
 use Rattle.machine.specs.Format
 use Rattle.machine.specs.Image.{byte, machine}
 use Rattle.machine.specs.Verdicts.{All-entered}
-use Rattle.machine.specs.Refusals.{Unrefused, image-refusal, or-else, refuse-if, refusal}
+use Rattle.machine.specs.Refusals.{Unrefused, capture-refusal}
 use Rattle.machine.specs.Promises.{Verdict-there}
-use Rattle.machine.proofs.Refused.{neither, not-refused}
+use Rattle.machine.proofs.Refused.{neither, unrefused-by}
 use Rattle.machine.proofs.Inside.{inside}
 use Rattle.machine.proofs.Reach.{entered-there}
 use Rattle.machine.proofs.Listing.{all-entered}
 use Rattle.simulator.specs.declared.Judged.{Judged}
 use Rattle.simulator.specs.declared.Judged.the-variants.{Refused, Answer}
-use Rattle.simulator.specs.Chain.{Chain-judges, chain, reached}
+use Rattle.chain.specs.Chain.{Chain-judges, chain, reached}
 use Rattle.simulator.specs.Calls.{judge-refusal, Right, Judge-as, Judge-says}
 use Rattle.simulator.specs.Promises.{Readings-entered}
-use Rattle.simulator.proofs.ChainJudges.{chain-judges}
+use Rattle.chain.proofs.ChainJudges.{chain-judges}
 
 pub verdict-there : Verdict-there
 unfolding Verdict-there Chain-judges
@@ -33,12 +33,9 @@ verdict-there bs cs u =
     (j .verdict, chain .end (reached chain bs cs (j .steps) .now-at), j .says)
 
 -- an answer is given only of what is not refused
-unrefused-by : (bs cs : List ℕ) (a b : ℕ) → ((i : ℕ) → byte cs i < 256) → judge-refusal bs cs a b .number ≡ 0 → Unrefused bs cs
+answered-by : (bs cs : List ℕ) (a b : ℕ) → ((i : ℕ) → byte cs i < 256) → judge-refusal bs cs a b .number ≡ 0 → Unrefused bs cs
 unfolding judge-refusal
-unrefused-by bs cs a b bytes e =
-    let (good, rest) = neither (image-refusal bs) _ (record { none-such = e }) in
-    let (capture, more) = neither _ _ rest in
-    record { good = good .none-such; short = ltb-false Format.max-capture (length cs) (not-refused _ 6 (length cs) capture); bytes = bytes }
+answered-by bs cs a b bytes e = unrefused-by bs cs bytes (neither (capture-refusal bs (length cs)) _ (record { none-such = e }) .0 .none-such)
 
 entered-by :
     (bs cs a a-now b b-now : List ℕ) (v : Verdict) (n : ℕ) (d : Config) → Unrefused bs cs → Right bs cs (Answer v n d) a a-now b b-now →
@@ -63,5 +60,5 @@ pub readings-entered : Readings-entered
 unfolding Readings-entered Judge-says
 readings-entered bs cs a a-now b b-now v n d bytes says =
     entered-as (judge-refusal bs cs (length a) (length b) .number) (judge-refusal bs cs (length a) (length b)) bs cs a a-now b b-now v n d
-    (unrefused-by bs cs (length a) (length b) bytes)
+    (answered-by bs cs (length a) (length b) bytes)
     says

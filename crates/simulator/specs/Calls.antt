@@ -1,29 +1,38 @@
 -- What the call `judge` answers and leaves in the lent cells. Assumes nothing: these are definitions.
 use mathlib.Core.Path.{_≡_}
 use mathlib.Core.List.{List, _++_}
-use Prim.Native.Nat.{ℕ, zero, suc}
-use lib.Dec.{ltb}
+use mathlib.Core.Bool.{cond}
+use Prim.Native.Nat.{ℕ, zero, suc, _+_, _*_}
+use lib.Dec.{ltb, eqb}
 use mathlib.Core.Option.{some}
 use lib.ListN.{length, drop, replicate}
 use Rattle.machine.specs.declared.Config.{Config}
 use Rattle.machine.specs.declared.Refusal.{Refusal}
 use Rattle.machine.specs.declared.Verdict.{Verdict}
-use Rattle.machine.specs.Format
 use Rattle.machine.specs.Run.{how-many}
-use Rattle.machine.specs.Image.{machine}
+use Rattle.machine.specs.Image.{machine, states, symbols}
 use Rattle.machine.specs.Verdicts.{Says, Noted, nonzero}
-use Rattle.machine.specs.Refusals.{refusal, or-else, refuse-if, image-refusal}
+use Rattle.machine.specs.Refusals.{refusal, or-else, refuse-if, capture-refusal}
+use Rattle.simulator.specs.declared.Needs.{Needs}
+use Rattle.simulator.specs.declared.Needs.the-variants.{Cells, Refused as Unneeded}
 use Rattle.simulator.specs.declared.Judged.{Judged}
 use Rattle.simulator.specs.declared.Judged.the-variants.{Refused, Answer}
-use Rattle.simulator.specs.Chain.{reached, chain}
+use Rattle.chain.specs.Chain.{reached, chain}
 
--- judging refuses by 1 to 6, 7, 8 and 9, the lowest first
+-- N, for an image and a capture of n bytes
+unfoldable pub cells-needed : (image : List ℕ) → (n : ℕ) → ℕ
+cells-needed bs n = states bs * (n + 2) * symbols bs
+
+-- THE CALL `cells`
+unfoldable pub needs : Refusal → (cells : ℕ) → Needs
+needs f n = cond (eqb (f .number) 0) (Cells n) (Unneeded f)
+
+-- judging refuses by 1 to 7, 8 and 9, the lowest first
 unfoldable pub judge-refusal : (image capture : List ℕ) → (notes work : ℕ) → Refusal
 judge-refusal bs cs a b =
-    or-else (image-refusal bs)
-    (or-else (refuse-if (ltb Format.max-capture (length cs)) (refusal 7 (length cs)))
+    or-else (capture-refusal bs (length cs))
     (or-else (refuse-if (ltb a (how-many (machine bs cs))) (refusal 8 (how-many (machine bs cs))))
-    (refuse-if (ltb b (how-many (machine bs cs))) (refusal 9 (how-many (machine bs cs))))))
+    (refuse-if (ltb b (how-many (machine bs cs))) (refusal 9 (how-many (machine bs cs)))))
 
 -- the chain has come to this answer and these notes
 pub record Chain-ends (bs cs : List ℕ) (v : Verdict) (readings : ℕ) (end : Config) (notes : List ℕ) : Type 0 where

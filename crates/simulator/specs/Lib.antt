@@ -1,6 +1,3 @@
--- What a reader must believe of judging: the judge's own steps, the chain that they form, what is owed of it, and the call's contract.
-pub mod Turn
-pub mod Ready
-pub mod Chain
+-- What a reader must believe of judging: what the calls answer and leave, and what is promised of the readings.
 pub mod Calls
 pub mod Promises

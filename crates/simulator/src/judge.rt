@@ -1,28 +1,28 @@
 // The call `judge`: checks, then the chain of steps from the start record, over exactly as many cells as there are configurations.
 use crate::Judged;
-use crate::Mode;
-use crate::Record;
-use crate::step::step;
-use machine::Checked;
+use crate::Needs;
+use chain::Mode;
+use chain::Record;
+use chain::step::step;
 use machine::Config;
 use machine::Refusal;
 use machine::Sizes;
-use machine::check::check_image;
-use machine::format::MAX_CAPTURE;
 use machine::format::STATES_OFFSET;
 use machine::format::SYMBOLS_OFFSET;
 use machine::lookup;
+use validator::check::capture_refusal;
 ghost use mathlib.Core.Path.{_≡_};
 ghost use mathlib.Core.List.{[]};
-ghost use Prim.Native.Nat.{_<_};
+ghost use Prim.Native.Nat.{_<_, _≤_};
 ghost use lib.ListN.{length, replicate};
 ghost use Rattle.machine.specs.declared.Refusal.{Refusal};
+ghost use Rattle.machine.specs.Format.{max-capture};
 ghost use Rattle.machine.specs.Run.{how-many};
 ghost use Rattle.machine.specs.Image.{machine};
-ghost use Rattle.machine.specs.Refusals.{Unrefused, image-refusal, refusal};
+ghost use Rattle.machine.specs.Refusals.{Unrefused, image-refusal, capture-refusal, refusal};
 ghost use Rattle.simulator.specs.declared.Judged.the-variants.{Refused};
-ghost use Rattle.simulator.specs.Ready.{start-record};
-ghost use Rattle.simulator.specs.Calls.{Right, Judge-says};
+ghost use Rattle.chain.specs.Ready.{start-record};
+ghost use Rattle.simulator.specs.Calls.{cells-needed, needs, Right, Judge-says};
 
 // The start record, from the image's counts and finals and the capture's length.
 pub fn start(sizes: Sizes, finals: u32) -> Record
@@ -90,15 +90,26 @@ fn judge_checked(image: &[u8], capture: &[u8], notes: &mut [u32], work: &mut [u3
     run(image, capture, notes, work)
 }
 
-// N, the count of configurations.
-fn cells_needed(image: &[u8], capture: &[u8]) -> usize
-    requires { ⌜ Unrefused (now image) (now capture) ⌝ }
-    ensures { λ r. ⌜ r ≡ how-many (machine (now (image .entry)) (now (capture .entry))) ⌝ }
+// N, the count of configurations with a capture of n bytes.
+fn cells_needed(image: &[u8], n: usize) -> usize
+    requires { ⌜ (image-refusal (now image) .number ≡ 0) × (n ≤ max-capture) ⌝ }
+    ensures { λ r. ⌜ r ≡ cells-needed (now (image .entry)) n ⌝ }
 {
     let states = image[STATES_OFFSET] as usize;
     let symbols = image[SYMBOLS_OFFSET] as usize;
-    let places = capture.len() + 2;
+    let places = n + 2;
     states * places * symbols
+}
+
+// How many cells the judging of a capture of n bytes needs, or the first refusal of 1 to 7.
+pub fn cells(image: &[u8], n: usize) -> Needs
+    ensures { λ r. ⌜ r ≡ needs (capture-refusal (now (image .entry)) n) (cells-needed (now (image .entry)) n) ⌝ }
+{
+    let refusal = capture_refusal(image, n);
+    if refusal.number != 0 {
+        return Needs::Refused(refusal);
+    }
+    Needs::Cells(cells_needed(image, n))
 }
 
 fn refused(number: u32, place: usize) -> Judged
@@ -107,16 +118,17 @@ fn refused(number: u32, place: usize) -> Judged
     Judged::Refused(Refusal { number, place })
 }
 
-// Judging of a good image: capture and cells are checked.
-fn judge_good(image: &[u8], capture: &[u8], notes: &mut [u32], work: &mut [u32]) -> Judged
-    requires { ⌜ image-refusal (now image) .number ≡ 0 ⌝ }
+// Judging of checked input that needs so many cells: the lent ones are checked.
+fn judge_sized(
+    image: &[u8],
+    capture: &[u8],
+    cells: usize,
+    notes: &mut [u32],
+    work: &mut [u32],
+) -> Judged
+    requires { ⌜ (capture-refusal (now image) (length (now capture)) .number ≡ 0) × (cells ≡ cells-needed (now image) (length (now capture))) ⌝ }
     ensures { λ r. ⌜ Judge-says (now (image .entry)) (now (capture .entry)) r (now (notes .entry)) (now (notes .exit)) (now (work .entry)) (now (work .exit)) ⌝ }
 {
-    let n = capture.len();
-    if MAX_CAPTURE < n {
-        return refused(7, n);
-    }
-    let cells = cells_needed(image, capture);
     if notes.len() < cells {
         return refused(8, cells);
     }
@@ -130,9 +142,9 @@ fn judge_good(image: &[u8], capture: &[u8], notes: &mut [u32], work: &mut [u32])
 pub fn judge(image: &[u8], capture: &[u8], notes: &mut [u32], work: &mut [u32]) -> Judged
     ensures { λ r. ⌜ Judge-says (now (image .entry)) (now (capture .entry)) r (now (notes .entry)) (now (notes .exit)) (now (work .entry)) (now (work .exit)) ⌝ }
 {
-    let checked = check_image(image);
-    match checked {
-        Checked::Refused(refusal) => Judged::Refused(refusal),
-        Checked::Good => judge_good(image, capture, notes, work),
+    let needs = cells(image, capture.len());
+    match needs {
+        Needs::Refused(refusal) => Judged::Refused(refusal),
+        Needs::Cells(count) => judge_sized(image, capture, count, notes, work),
     }
 }

@@ -1,6 +1,6 @@
--- `grammar::build::build_refusal` meets its contract: the refusals in their order. Assumes nothing.
+-- `grammar::build::build_refusal` meets its contract. Assumes nothing.
+use Rattle.grammar.proofs.CodeBuild.{grammar-refused, not-refused, long-is, room-told}
 use borrow.Author.Needs.{needs}
-use Rattle.grammar.proofs.CodeBuild.{grammar-refused, not-refused, room-refused, none-refused}
 use Rattle.grammar.proofs.build.build_refusal.Statement.{statement}
 use Rattle.grammar.proofs.build.build_refusal.Tie as tie
 
@@ -16,20 +16,14 @@ class-count-requires c κs = search needs
 rule-count-requires : tie.Need-rule-count-requires
 rule-count-requires c κs = (not-refused _ _ (c .before .before .before .refusal-of .ensures) (c .before .if1 .left), c .class-count .ensures)
 
-cast-long : tie.Need-cast-long
-cast-long c = search needs
+image-length-requires : tie.Need-image-length-requires
+image-length-requires c κs = search needs
 
-mul-long : tie.Need-mul-long
-mul-long c = search needs
-
-add-long : tie.Need-add-long
-add-long c = search needs
+room-refusal-requires : tie.Need-room-refusal-requires
+room-refusal-requires c κs = search needs
 
 returns-2 : tie.Need-returns-2
-returns-2 c = room-refused _ _ (c .before .before .before .before .before .refusal-of .ensures) (c .before .before .before .if1 .left) _ (c .before .rule-count .ensures) _ (c .if2 .taken)
-
-returns-3 : tie.Need-returns-3
-returns-3 c = none-refused _ _ (c .before .before .before .before .before .refusal-of .ensures) (c .before .before .before .if1 .left) _ (c .before .rule-count .ensures) _ (c .if2 .left)
+returns-2 c = room-told _ _ (c .before .before .before .before .before .before .refusal-of .ensures) (c .before .before .before .before .if1 .left) _ (long-is _ (c .before .before .rule-count .ensures) (c .before .image-length .ensures)) (c .room-refusal .ensures)
 
 pub build-refusal-spec : {M : Type 1} → statement M
 build-refusal-spec =
@@ -39,8 +33,6 @@ build-refusal-spec =
     returns
     class-count-requires
     rule-count-requires
-    cast-long
-    mul-long
-    add-long
-    returns-2
-    returns-3)
+    image-length-requires
+    room-refusal-requires
+    returns-2)

@@ -3,20 +3,20 @@ use mathlib.Core.Path.{refl}
 use native.Mathlib.Omega.{arith}
 use borrow.Author.Needs.{needs}
 use Rattle.machine.proofs.Rules.{good}
-use Rattle.machine.specs.Image.{machine, states, symbols}
-use Rattle.machine.specs.Run.{how-many}
-use Rattle.simulator.proofs.StepSafe.{few-cells, few-places}
+use Rattle.machine.specs.Image.{states, symbols}
+use Rattle.simulator.specs.Calls.{cells-needed}
+use Rattle.simulator.proofs.Needing.{some-capture, few-places-of, few-cells-of}
 use Rattle.simulator.proofs.judge.cells_needed.Statement.{statement}
 use Rattle.simulator.proofs.judge.cells_needed.Tie as tie
 
 shared-slice-read-states : tie.Need-shared-slice-read-states
-shared-slice-read-states c = omega (arith, good (c .before .pre) .long)
+shared-slice-read-states c = omega (arith, good (some-capture _ _ (c .before .pre .0) (c .before .pre .1)) .long)
 
 cast-states : tie.Need-cast-states
 cast-states c = omega (arith, c .shared-slice-known .given 24)
 
 shared-slice-read-symbols : tie.Need-shared-slice-read-symbols
-shared-slice-read-symbols c = omega (arith, good (c .before .before .pre) .long)
+shared-slice-read-symbols c = omega (arith, good (some-capture _ _ (c .before .before .pre .0) (c .before .before .pre .1)) .long)
 
 cast-symbols : tie.Need-cast-symbols
 cast-symbols c = omega (arith, c .shared-slice-known2 .given 26)
@@ -25,15 +25,15 @@ add-places : tie.Need-add-places
 add-places c = search needs
 
 mul-result : tie.Need-mul-result
-unfolding machine states
-mul-result c = omega (arith, few-places (c .before .before .pre))
+unfolding states
+mul-result c = omega (arith, few-places-of _ _ (c .before .before .pre .0) (c .before .before .pre .1))
 
 mul-result-2 : tie.Need-mul-result-2
-unfolding how-many machine states symbols
-mul-result-2 c = omega (arith, few-cells (c .before .before .pre))
+unfolding states symbols
+mul-result-2 c = omega (arith, few-cells-of _ _ (c .before .before .pre .0) (c .before .before .pre .1))
 
 returns : tie.Need-returns
-unfolding how-many machine states symbols
+unfolding cells-needed states symbols
 returns c = refl
 
 pub cells-needed-spec : {M : Type 1} → statement M

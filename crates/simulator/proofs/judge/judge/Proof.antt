@@ -1,25 +1,25 @@
 -- `simulator::judge::judge` meets its contract. Assumes nothing.
+use Rattle.simulator.proofs.JudgeRefusals.{cells-says}
+use Rattle.simulator.proofs.Needing.{needs-refused, needs-so-many}
 use mathlib.Core.Path.{refl, sym, _∙_}
 use borrow.Author.Needs.{needs}
-use Rattle.machine.proofs.Refused.{good-number}
-use Rattle.simulator.proofs.JudgeRefusals.{image-says}
 use Rattle.simulator.proofs.judge.judge.Statement.{statement}
 use Rattle.simulator.proofs.judge.judge.Tie as tie
 
-check-image-requires : tie.Need-check-image-requires
-check-image-requires c κs = search needs
+cells-requires : tie.Need-cells-requires
+cells-requires c κs = search needs
 
-enum-known-checked : tie.Need-enum-known-checked
-enum-known-checked c = search needs
+enum-known-needs : tie.Need-enum-known-needs
+enum-known-needs c = search needs
 
-enum-told : tie.Need-enum-told
-enum-told c = search needs
+enum-known-needs-2 : tie.Need-enum-known-needs-2
+enum-known-needs-2 c = search needs
 
-judge-good-requires : tie.Need-judge-good-requires
-judge-good-requires c κs = good-number _ (sym (c .before .before .before .before .check-image .ensures) ∙ c .before .before .enum-told .given .1)
+judge-sized-requires : tie.Need-judge-sized-requires
+judge-sized-requires c κs = needs-so-many _ _ _ (sym (c .before .before .before .before .before .cells .ensures) ∙ c .before .before .before .needs2 .given .1)
 
 returns : tie.Need-returns
-returns c = image-says _ _ _ _ (sym (c .before .before .before .check-image .ensures) ∙ c .before .checked .given .1) refl
+returns c = let told = needs-refused _ _ _ (sym (c .before .before .before .cells .ensures) ∙ c .before .needs .given .1) in cells-says _ _ _ _ (told .0) (told .1) refl
 
 same-length : tie.Need-same-length
 same-length c = search needs
@@ -34,10 +34,10 @@ pub judge-spec : {M : Type 1} → statement M
 judge-spec =
     tie.close
     (tie.spec
-    check-image-requires
-    enum-known-checked
-    enum-told
-    judge-good-requires
+    cells-requires
+    enum-known-needs
+    enum-known-needs-2
+    judge-sized-requires
     returns
     same-length
     same-length-2

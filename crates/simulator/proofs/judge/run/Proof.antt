@@ -7,7 +7,7 @@ use Rattle.machine.specs.Image.{machine}
 use Rattle.machine.specs.Run.{how-many}
 use Rattle.simulator.proofs.JudgeMode.{not-done}
 use Rattle.simulator.proofs.JudgeLoop.{After-steps, at-start, ready, notes-kept, work-kept, next, few-steps, right}
-use Rattle.simulator.proofs.StepSafe.{few-cells}
+use Rattle.chain.proofs.StepSafe.{few-cells}
 use Rattle.simulator.proofs.judge.run.Statement.{statement}
 use Rattle.simulator.proofs.judge.run.Tie as tie
 

@@ -1,0 +1,110 @@
+-- The newest open configuration gets its terminator: what holds of the chain then. Assumes nothing.
+use mathlib.Core.Path.{_≡_, refl, sym, subst, _∙_, ap}
+use mathlib.Core.Bool.{Bool, true, false, cond}
+use mathlib.Core.List.{List, [], _∷_}
+use Prim.Native.Nat.{ℕ, suc, _+_, _*_, _<_, _≤_}
+use native.Mathlib.Omega.{arith}
+use lib.ListN.{length, getD, set, length-set}
+use Rattle.machine.specs.declared.Config.{Config}
+use Rattle.machine.specs.Run.{Machine, There, number, how-many}
+use Rattle.machine.specs.Verdicts.{nonzero}
+use Rattle.machine.proofs.Inside.{Inside}
+use Rattle.machine.proofs.Nonzero.{nonzero-set-old}
+use Rattle.machine.proofs.Numbers.{number-below}
+use Rattle.machine.proofs.Ends.{Ends, ends-map, ends-pops}
+use Rattle.chain.specs.declared.Mode.{Mode}
+use Rattle.chain.specs.declared.Mode.the-variants.{Look, Unwind}
+use Rattle.chain.specs.Turn.{Standing, standing, with-now, resumed}
+use Rattle.chain.proofs.Path.{Open, here, Path, begin, on, path-map, leads-ends}
+use Rattle.chain.proofs.Cells.{Seen, seen-set, top-of, Linked, a-link, Running, running-close, among-seen}
+use Rattle.chain.proofs.Invariant.{Shared, bit, pushes, Phase, unwinding, Holds}
+use Rattle.chain.proofs.Shares.{newest-fresh, taken-shared}
+use Rattle.chain.proofs.Resumes.{resumed-holds}
+
+-- the start was pushed, so a path has a pushed configuration
+pub path-pushes : {M : Machine} {P : Config → Type 0} {os : List Open} {c : Config} {f : Bool} → Path M P os c f → 1 ≤ pushes os + bit f
+unfolding pushes
+path-pushes begin = omega arith
+path-pushes (on p l) = let h = path-pushes p in omega arith
+
+-- a terminator is known for a configuration that its predecessor leads to at the same height
+pub unwinding-next :
+    {M : Machine} (n : ℕ) (x : Standing) {os : List Open} {c : Config} → Running M os (x .notes) (x .work) → Linked M (x .work) os →
+    Path M (Seen M (x .notes)) os c false → Ends M (Seen M (x .notes)) c (x .now-at .at) →
+    n + length os + pushes os ≤ 4 * x .now-at .readings + 2 → Phase M n x os Unwind
+unfolding pushes
+unwinding-next n x running links (on {c = e} path l) ends few =
+    unwinding running path (leads-ends (among-seen running links e here) l ends) (omega arith)
+
+pub newest-there : {M : Machine} {work : List ℕ} {o : Open} {os : List Open} → Linked M work (o ∷ os) → There M (o .config)
+newest-there (a-link t e l) = t
+
+-- THE NEWEST OPEN CONFIGURATION IS CLOSED
+module _ {M : Machine} (inside : Inside M) (n : ℕ) (x : Standing) {o : Open} {os : List Open} (s : Shared M (o ∷ os) x)
+    (running : Running M (o ∷ os) (x .notes) (x .work)) (ends : Ends M (Seen M (x .notes)) (o .config) (x .now-at .at)) where
+  pub closed-by :
+      (b : Bool) → Path M (Seen M (x .notes)) os (o .config) b → n + length os + (bit b + pushes os) ≤ 4 * x .now-at .readings + 1 →
+      Holds M (suc n)
+      (standing
+      (cond (cond b false true) (with-now (x .now-at) Unwind (x .now-at .at) false (top-of M os) (x .now-at .readings))
+      (resumed (x .now-at) (x .now-at .at) (M .action (x .now-at .at)) (o .config .head) (top-of M os)))
+      (set (x .notes) (number M (o .config)) (number M (x .now-at .at) + 2))
+      (set (x .work) (number M (o .config)) 0))
+  closed-by b path few = go b path few
+    where
+      k : ℕ
+      k = number M (o .config)
+
+      v : ℕ
+      v = number M (x .now-at .at) + 2
+
+      there : There M (o .config)
+      there = newest-there (s .links)
+
+      below : k < how-many M
+      below = number-below there
+
+      long : k < length (x .notes)
+      long = omega (arith, below, s .notes-long)
+
+      wide : k < length (x .work)
+      wide = omega (arith, below, s .work-long)
+
+      mono : (c : Config) → Seen M (x .notes) c → Seen M (set (x .notes) k v) c
+      mono = seen-set M (x .notes) k v long (λ z. omega arith)
+
+      now : Running M os (set (x .notes) k v) (set (x .work) k 0)
+      now = running-close (o .config) (x .now-at .at) (o .pushed) there (s .at-there) long wide (newest-fresh s) ends running
+
+      seen : getD (x .notes) k 0 ≡ 0 → ⊥
+      seen = among-seen running (s .links) (o .config) here
+
+      shared-now :
+          (m : Mode) (c : Config) (f : Bool) → There M c →
+          Shared M os (standing (with-now (x .now-at) m c f (top-of M os) (x .now-at .readings)) (set (x .notes) k v) (set (x .work) k 0))
+      shared-now =
+          taken-shared s (set (x .notes) k v) (length-set (x .notes) k v ∙ s .notes-long)
+          (s .counted ∙ sym (nonzero-set-old (how-many M) (x .notes) k v seen (λ z. omega arith)))
+
+      links-now : Linked M (set (x .work) k 0) os
+      links-now = shared-now Look (x .now-at .at) false (s .at-there) .links
+
+      go :
+          (b : Bool) → Path M (Seen M (x .notes)) os (o .config) b → n + length os + (bit b + pushes os) ≤ 4 * x .now-at .readings + 1 →
+          Holds M (suc n)
+          (standing
+          (cond (cond b false true) (with-now (x .now-at) Unwind (x .now-at .at) false (top-of M os) (x .now-at .readings))
+          (resumed (x .now-at) (x .now-at .at) (M .action (x .now-at .at)) (o .config .head) (top-of M os)))
+          (set (x .notes) k v)
+          (set (x .work) k 0))
+      go false path few =
+          record {
+            opens = os;
+            shared = shared-now Unwind (x .now-at .at) false (s .at-there);
+            phase =
+                unwinding-next (suc n) (standing (with-now (x .now-at) Unwind (x .now-at .at) false (top-of M os) (x .now-at .readings)) (set (x .notes) k v) (set (x .work) k 0)) now links-now (path-map mono path) (ends-map mono ends) (omega arith);
+          }
+      go true path few =
+          let (p, b, pop) = ends-pops ends in
+          rw pop
+          (resumed-holds n (s .fitted) inside shared-now links-now now (path-map mono path) (ends-map mono ends) there (s .at-there) pop (omega arith))

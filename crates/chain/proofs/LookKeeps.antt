@@ -1,0 +1,234 @@
+-- A step that looks at a configuration keeps what holds of the chain: it is opened, it is open already and the run loops, or its terminator is known. Assumes nothing.
+use mathlib.Core.Path.{_≡_, refl, sym, subst, _∙_, ap}
+use mathlib.Core.Bool.{Bool, true, false, cond}
+use mathlib.Core.List.{List, [], _∷_}
+use Prim.Native.Nat.{ℕ, zero, suc, _+_, _*_, _-_, _/_, _%_, _<_, _≤_}
+use native.Mathlib.Omega.{arith}
+use lib.Dec.{eqb}
+use lib.ListN.{length, getD, set}
+use lib.Seq.{set-getD}
+use borrow.Author.Tests.{ne-eqb}
+use Rattle.machine.specs.declared.Config.{Config}
+use Rattle.machine.specs.declared.Action.{Action}
+use Rattle.machine.specs.declared.Action.the-variants.{Stop, Change, Push, Pop}
+use Rattle.machine.specs.declared.Verdict.the-variants.{Stuck, Looping}
+use Rattle.machine.specs.Run.{Machine, There, config, number, how-many, config-from}
+use Rattle.machine.proofs.Inside.{Inside}
+use Rattle.machine.proofs.Numbers.{number-below, config-at, config-at-number}
+use Rattle.machine.proofs.Ends.{Ends, pops, ends-map, ends-pops}
+use Rattle.chain.specs.declared.Mode.{Mode}
+use Rattle.chain.specs.declared.Mode.the-variants.{Look, Unwind, Clear, Done}
+use Rattle.chain.specs.declared.Record.{Record}
+use Rattle.chain.specs.Turn.{Standing, standing, with-now, link, accepts, resumed, counted, opened, first-look, look, turn-by}
+use Rattle.chain.specs.Turn.{closed as closed-record}
+use Rattle.chain.proofs.Path.{Open, open-as, Among, here, later, Leads, by-change, by-push, Path, begin, on, path-map, leads-ends}
+use Rattle.chain.proofs.Again.{first-again}
+use Rattle.chain.proofs.Endings.{path-entered, stuck-at, stuck-complete, stuck-no-end, loop-goes-on, loop-complete, loop-no-end}
+use Rattle.chain.proofs.Cells.{Seen, seen-set, top-of, Linked, Cell, unseen, still-open, closed, Running, running-open, among-seen, settle, zero-else}
+use Rattle.chain.proofs.Invariant.{Fitted, Shared, bit, pushes, Settled, Phase, looking, unwinding, clearing, Holds}
+use Rattle.chain.proofs.Shares.{moved-shared, opened-shared, number-kept}
+use Rattle.chain.proofs.Resumes.{resumed-holds, not-among-none}
+use Rattle.chain.proofs.Closes.{path-pushes, unwinding-next, closed-by}
+
+set-set : (l : List ℕ) (i a b : ℕ) → set (set l i a) i b ≡ set l i b
+set-set [] i a b = refl
+set-set (x ∷ xs) zero a b = refl
+set-set (x ∷ xs) (suc i) a b = ap (λ (r : List ℕ). x ∷ r) (set-set xs i a b)
+
+-- FIRST LOOK: unseen before
+module _ {M : Machine} (inside : Inside M) (n : ℕ) (x : Standing) {os : List Open} (s : Shared M os x) (running : Running M os (x .notes) (x .work))
+    (path : Path M (Seen M (x .notes)) os (x .now-at .at) (x .now-at .pushed))
+    (few : n + length os + pushes os + bit (x .now-at .pushed) ≤ 4 * x .now-at .readings + 1) (fresh : Among (x .now-at .at) os → ⊥)
+    (note-zero : getD (x .notes) (number M (x .now-at .at)) 0 ≡ 0) (work-zero : getD (x .work) (number M (x .now-at .at)) 0 ≡ 0) where
+  first-by :
+      (a : Action) → M .action (x .now-at .at) ≡ a → Holds M (suc n) (first-look (x .now-at) (number M (x .now-at .at)) a (x .notes) (x .work))
+  unfolding first-look closed-record resumed accepts pushes
+  first-by a e = go a e
+    where
+      at : Config
+      at = x .now-at .at
+
+      k : ℕ
+      k = number M at
+
+      f : Bool
+      f = x .now-at .pushed
+
+      below : k < how-many M
+      below = number-below (s .at-there)
+
+      long : k < length (x .notes)
+      long = omega (arith, below, s .notes-long)
+
+      wide : k < length (x .work)
+      wide = omega (arith, below, s .work-long)
+
+      P : Config → Type 0
+      P = Seen M (set (x .notes) k 1)
+
+      mono : (c : Config) → Seen M (x .notes) c → P c
+      mono = seen-set M (x .notes) k 1 long (λ z. omega arith)
+
+      path-now : Path M P os at f
+      path-now = path-map mono path
+
+      now : Running M (open-as at f ∷ os) (set (x .notes) k 1) (set (x .work) k (link (x .now-at .top) f))
+      now =
+          running-open at f (link (x .now-at .top) f) (s .at-there) long wide fresh (path-entered path (among-seen running (s .links))) running
+
+      shared-now :
+          (m : Mode) (c : Config) (b : Bool) → There M c → Shared M (open-as at f ∷ os) (opened (x .now-at) k m c b (x .notes) (x .work))
+      shared-now = opened-shared s fresh note-zero
+
+      seen-now : (c : Config) → Among c (open-as at f ∷ os) → P c
+      seen-now = among-seen now (shared-now Look at f (s .at-there) .links)
+
+      seen-older : (c : Config) → Among c os → P c
+      seen-older c i = seen-now c (later i)
+
+      -- a pop: opened, and closed at once
+      notes-now : set (set (x .notes) k 1) k (k + 2) ≡ set (x .notes) k (k + 2)
+      notes-now = set-set (x .notes) k 1 (k + 2)
+
+      work-now : set (set (x .work) k (link (x .now-at .top) f)) k 0 ≡ x .work
+      work-now =
+          set-set (x .work) k (link (x .now-at .top) f) 0 ∙ ap (set (x .work) k) (sym work-zero)
+          ∙ set-getD (x .work) k 0
+
+      popping :
+          (p : ℕ) (c : Bool) → M .action at ≡ Pop p c → (b : Bool) → Path M P os at b → n + length os + (bit b + pushes os) ≤ 4 * (x .now-at .readings + 1) + 1 →
+          Holds M (suc n)
+          (standing
+          (cond b (resumed (counted (x .now-at)) at (Pop p c) (at .head) (x .now-at .top))
+          (with-now (x .now-at) Unwind at false (x .now-at .top) (x .now-at .readings + 1)))
+          (set (x .notes) k (k + 2))
+          (x .work))
+      popping p c e true path-then l =
+          let h = closed-by inside n (opened (x .now-at) k Unwind at f (x .notes) (x .work)) (shared-now Unwind at f (s .at-there)) now (pops (seen-now at here) e) true path-then l in
+          rw (e, notes-now, work-now, ← s .top-is) at h
+      popping p c e false path-then l =
+          let h = closed-by inside n (opened (x .now-at) k Unwind at f (x .notes) (x .work)) (shared-now Unwind at f (s .at-there)) now (pops (seen-now at here) e) false path-then l in
+          rw (notes-now, work-now, ← s .top-is) at h
+
+      go : (a : Action) → M .action at ≡ a → Holds M (suc n) (first-look (x .now-at) k a (x .notes) (x .work))
+      go Stop e =
+          record {
+            opens = open-as at f ∷ os;
+            shared = shared-now (Clear Stuck) at f (s .at-there);
+            phase =
+                clearing
+                (record {
+                  says = stuck-at path-now seen-older e;
+                  noted = settle now (λ c i. stuck-complete path-now seen-older (seen-now at here) e i) (λ c i. stuck-no-end path-now seen-older e i);
+                  zero-work = zero-else now;
+                })
+                (omega arith);
+          }
+      go (Change c) e =
+          record {
+            opens = open-as at f ∷ os;
+            shared = shared-now Look c false (inside .changes at c (s .at-there) e);
+            phase = looking now (on path-now (by-change e)) (omega arith);
+          }
+      go (Push c) e =
+          record {
+            opens = open-as at f ∷ os;
+            shared = shared-now Look c true (inside .pushes at c (s .at-there) e);
+            phase = looking now (on path-now (by-push e)) (omega arith);
+          }
+      go (Pop p b) e = popping p b e f path-now (omega arith)
+
+-- OPEN ALREADY: the run goes on for ever
+looping-holds :
+    {M : Machine} (n : ℕ) (x : Standing) {os : List Open} → Shared M os x → Running M os (x .notes) (x .work) →
+    Path M (Seen M (x .notes)) os (x .now-at .at) (x .now-at .pushed) →
+    n + length os + pushes os + bit (x .now-at .pushed) ≤ 4 * x .now-at .readings + 1 → Among (x .now-at .at) os →
+    Holds M (suc n)
+    (standing (with-now (x .now-at) (Clear Looping) (x .now-at .at) (x .now-at .pushed) (x .now-at .top) (x .now-at .readings)) (x .notes) (x .work))
+looping-holds {M} n x {os} s running path few a =
+    record { opens = os; shared = moved-shared s (Clear Looping) (x .now-at .at) (x .now-at .pushed) (s .at-there); phase = go os a (omega (arith, path-pushes path)) settled }
+  where
+    after-this : Standing
+    after-this = standing (with-now (x .now-at) (Clear Looping) (x .now-at .at) (x .now-at .pushed) (x .now-at .top) (x .now-at .readings)) (x .notes) (x .work)
+
+    seen : (c : Config) → Among c os → Seen M (x .notes) c
+    seen = among-seen running (s .links)
+
+    settled : Settled M os Looping after-this
+    settled =
+        record {
+          says = (loop-goes-on path seen a, first-again path seen (s .distinct) a);
+          noted = settle running (λ c i. loop-complete path seen a i) (λ c i. loop-no-end path seen a i);
+          zero-work = zero-else running;
+        }
+
+    go :
+        (ps : List Open) → Among (x .now-at .at) ps → suc n + length ps ≤ 4 * x .now-at .readings + 1 → Settled M ps Looping after-this →
+        Phase M (suc n) after-this ps (Clear Looping)
+    go [] i l t = absurd (not-among-none i)
+    go (o ∷ ps) i l t = clearing t (omega arith)
+
+-- CLOSED: the terminator is known
+closed-holds :
+    {M : Machine} → Inside M → (n : ℕ) (x : Standing) {os : List Open} → Shared M os x → Running M os (x .notes) (x .work) → (b : Bool) →
+    Path M (Seen M (x .notes)) os (x .now-at .at) b → n + length os + pushes os + bit b ≤ 4 * x .now-at .readings + 1 → (d : Config) →
+    There M d → Ends M (Seen M (x .notes)) (x .now-at .at) d →
+    Holds M (suc n)
+    (standing
+    (cond b (resumed (x .now-at) d (M .action d) (x .now-at .at .head) (x .now-at .top)) (with-now (x .now-at) Unwind d false (x .now-at .top) (x .now-at .readings)))
+    (x .notes)
+    (x .work))
+closed-holds {M} inside n x {os} s running true path few d there ends =
+    let (p, b, pop) = ends-pops ends in
+    subst
+    (λ (t : ℕ). Holds M (suc n) (standing (resumed (x .now-at) d (M .action d) (x .now-at .at .head) t) (x .notes) (x .work)))
+    (sym (s .top-is))
+    (rw pop
+    (resumed-holds n (s .fitted) inside
+    (λ m c f t. subst (λ (top : ℕ). Shared M os (standing (with-now (x .now-at) m c f top (x .now-at .readings)) (x .notes) (x .work))) (s .top-is) (moved-shared s m c f t))
+    (s .links)
+    running
+    path
+    ends
+    (s .at-there)
+    there
+    pop
+    (omega arith)))
+closed-holds {M} inside n x {os} s running false path few d there ends =
+    record {
+      opens = os;
+      shared = moved-shared s Unwind d false there;
+      phase = unwinding-next (suc n) (standing (with-now (x .now-at) Unwind d false (x .now-at .top) (x .now-at .readings)) (x .notes) (x .work)) running (s .links) path ends (omega arith);
+    }
+
+config-kept : {M : Machine} {r : Record} (k : ℕ) → Fitted M r → config-from (r .sizes) k ≡ config-at M k
+unfolding config-from config-at
+config-kept {M} {r} k f = rw (f .places-are, f .symbols-are)
+
+-- LOOK
+look-by :
+    {M : Machine} → Inside M → (n : ℕ) (x : Standing) {os : List Open} → Shared M os x → Running M os (x .notes) (x .work) →
+    Path M (Seen M (x .notes)) os (x .now-at .at) (x .now-at .pushed) →
+    n + length os + pushes os + bit (x .now-at .pushed) ≤ 4 * x .now-at .readings + 1 → (v w : ℕ) →
+    Cell M (Seen M (x .notes)) os (x .now-at .at) v w → getD (x .notes) (number M (x .now-at .at)) 0 ≡ v →
+    getD (x .work) (number M (x .now-at .at)) 0 ≡ w →
+    Holds M (suc n) (look M (x .now-at) (number M (x .now-at .at)) v (x .notes) (x .work))
+unfolding look closed-record
+look-by {M} inside n x s running path few v w (unseen fresh) e g = first-by inside n x s running path few fresh e g (M .action (x .now-at .at)) refl
+look-by inside n x s running path few v w (still-open a) e g = looping-holds n x s running path few a
+look-by {M} inside n x {os} s running path few v w (closed {d} fresh there ends) e g =
+    let first : eqb (2 + number M d) 0 ≡ false = ne-eqb (2 + number M d) 0 (λ z. omega arith) in
+    let second : eqb (2 + number M d) 1 ≡ false = ne-eqb (2 + number M d) 1 (λ z. omega arith) in
+    let less : 2 + number M d - 2 ≡ number M d = omega arith in
+    rw (first, second, less, config-kept (number M d) (s .fitted), config-at-number there)
+    (closed-holds inside n x s running (x .now-at .pushed) path few d there ends)
+
+pub look-keeps :
+    {M : Machine} → Inside M → (n : ℕ) (x : Standing) {os : List Open} → Shared M os x → Running M os (x .notes) (x .work) →
+    Path M (Seen M (x .notes)) os (x .now-at .at) (x .now-at .pushed) →
+    n + length os + pushes os + bit (x .now-at .pushed) ≤ 4 * x .now-at .readings + 1 →
+    Holds M (suc n) (turn-by Look M (x .now-at) (x .notes) (x .work))
+unfolding turn-by
+look-keeps {M} inside n x s running path few =
+    rw (number-kept (x .now-at .at) (s .fitted))
+    (look-by inside n x s running path few _ _ (running .cells (x .now-at .at) (s .at-there)) refl refl)

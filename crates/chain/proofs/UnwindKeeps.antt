@@ -1,0 +1,126 @@
+-- A step that unwinds or clears keeps what holds of the chain: the newest open configuration is closed with its terminator, or its work cell is cleared. Assumes nothing.
+use mathlib.Core.Path.{_≡_, refl, sym, subst, _∙_, ap}
+use mathlib.Core.Bool.{Bool, true, false, cond}
+use mathlib.Core.List.{List, [], _∷_}
+use mathlib.Core.Logic.{_⊎_, inl, inr}
+use Prim.Native.Nat.{ℕ, suc, _+_, _*_, _-_, _/_, _%_, _<_, _≤_}
+use native.Mathlib.Omega.{arith}
+use native.Mathlib.Decide.{ℕ-discrete}
+use lib.Dec.{eqb}
+use lib.ListN.{length, getD, set, length-set}
+use lib.Seq.{getD-set-same, getD-set-other}
+use borrow.Author.Tests.{eq-eqb, ne-eqb}
+use Rattle.machine.specs.declared.Config.{Config}
+use Rattle.machine.specs.declared.Action.the-variants.{Pop}
+use Rattle.machine.specs.declared.Verdict.{Verdict}
+use Rattle.machine.specs.Run.{Machine, There, number, how-many}
+use Rattle.machine.specs.Verdicts.{nonzero}
+use Rattle.machine.proofs.Inside.{Inside}
+use Rattle.machine.proofs.Digits.{middle-digit}
+use Rattle.machine.proofs.Nonzero.{nonzero-set-old}
+use Rattle.machine.proofs.Numbers.{number-below, number-injective}
+use Rattle.machine.proofs.Ends.{Ends, ends-map, ends-pops}
+use Rattle.chain.specs.declared.Mode.{Mode}
+use Rattle.chain.specs.declared.Mode.the-variants.{Look, Unwind, Clear, Done}
+use Rattle.chain.specs.declared.Record.{Record}
+use Rattle.chain.specs.Turn.{Standing, standing, with-now, link, resumed, unwound, unwind, cleared, turn-by}
+use Rattle.chain.proofs.Path.{Open, open-as, Among, here, later, Path, path-map}
+use Rattle.chain.proofs.Cells.{Seen, seen-set, top-of, Linked, a-link, Running, running-close, among-seen, among-other}
+use Rattle.chain.proofs.Invariant.{Fitted, Shared, bit, pushes, Settled, Phase, clearing, done, Holds}
+use Rattle.chain.proofs.Shares.{newest-fresh, taken-shared, number-kept}
+use Rattle.chain.proofs.Closes.{newest-there, closed-by}
+
+-- a link's two parts
+link-half : (t : ℕ) (b : Bool) → link t b / 2 ≡ t
+unfolding link
+link-half t true = omega arith
+link-half t false = omega arith
+
+link-even : (t : ℕ) (b : Bool) → eqb (link t b % 2) 0 ≡ cond b false true
+unfolding link
+link-even t true = ne-eqb ((2 * t + 1) % 2) 0 (λ z. omega arith)
+link-even t false = eq-eqb (2 * t % 2) 0 (omega arith)
+
+link-of : {M : Machine} {work : List ℕ} {o : Open} {os : List Open} → Linked M work (o ∷ os) → getD work (number M (o .config)) 0 ≡ link (top-of M os) (o .pushed)
+link-of (a-link t e l) = e
+
+-- the newest open configuration's number, by the record's link
+newest-number : {M : Machine} {o : Open} {os : List Open} {x : Standing} → Shared M (o ∷ os) x → x .now-at .top - 1 ≡ number M (o .config)
+unfolding top-of
+newest-number s = let e = s .top-is in omega arith
+
+-- its head, from its number
+head-kept : {M : Machine} {r : Record} (c : Config) → Fitted M r → There M c → number M c / r .sizes .symbols % r .sizes .places ≡ c .head
+unfolding number
+head-kept {M} {r} c f t = rw (f .places-are, f .symbols-are) (middle-digit (c .state) (t .head-below) (t .symbol-below))
+
+-- UNWIND
+pub unwind-keeps :
+    {M : Machine} → Inside M → (n : ℕ) (x : Standing) {o : Open} {os : List Open} → Shared M (o ∷ os) x → Running M (o ∷ os) (x .notes) (x .work) →
+    Path M (Seen M (x .notes)) os (o .config) (o .pushed) → Ends M (Seen M (x .notes)) (o .config) (x .now-at .at) →
+    n + length os + (bit (o .pushed) + pushes os) ≤ 4 * x .now-at .readings + 1 →
+    Holds M (suc n) (turn-by Unwind M (x .now-at) (x .notes) (x .work))
+unfolding turn-by unwind unwound
+unwind-keeps {M} inside n x {o} {os} s running path ends few =
+    rw (newest-number s, number-kept (x .now-at .at) (s .fitted), link-of (s .links), link-half (top-of M os) (o .pushed), link-even (top-of M os) (o .pushed), head-kept (o .config) (s .fitted) (newest-there (s .links)))
+    (closed-by inside n x s running ends (o .pushed) path few)
+
+-- CLEAR
+module _ {M : Machine} (n : ℕ) (x : Standing) {o : Open} {os : List Open} {v : Verdict} (s : Shared M (o ∷ os) x) (settled : Settled M (o ∷ os) v x)
+    (few : n + suc (length os) ≤ 4 * x .now-at .readings + 1) where
+  cleared-by :
+      Holds M (suc n)
+      (standing
+      (cond (eqb (top-of M os) 0) (with-now (x .now-at) (Done v) (x .now-at .at) false 0 (x .now-at .readings))
+      (with-now (x .now-at) (Clear v) (x .now-at .at) false (top-of M os) (x .now-at .readings)))
+      (x .notes)
+      (set (x .work) (number M (o .config)) 0))
+  unfolding top-of
+  cleared-by = go os (zero-now (s .links) (settled .zero-work)) (taken-shared s (x .notes) (s .notes-long) (s .counted)) few
+    where
+      k : ℕ
+      k = number M (o .config)
+
+      zero-now :
+          Linked M (x .work) (o ∷ os) → ((c : Config) → There M c → Among c (o ∷ os) ⊎ (getD (x .work) (number M c) 0 ≡ 0)) → (c : Config) → There M c →
+          Among c os ⊎ (getD (set (x .work) k 0) (number M c) 0 ≡ 0)
+      zero-now (a-link t e l) zero c there = pick (ℕ-discrete (number M c) k) (zero c there)
+        where
+          wide : k < length (x .work)
+          wide = omega (arith, number-below t, s .work-long)
+
+          pick : Dec (number M c ≡ k) → Among c (o ∷ os) ⊎ (getD (x .work) (number M c) 0 ≡ 0) → Among c os ⊎ (getD (set (x .work) k 0) (number M c) 0 ≡ 0)
+          pick (yes q) z = inr (subst (λ (j : ℕ). getD (set (x .work) k 0) j 0 ≡ 0) (sym q) (getD-set-same (x .work) k 0 0 wide))
+          pick (no q) (inl a) = inl (among-other (λ same. q (ap (number M) same)) a)
+          pick (no q) (inr z) = inr (getD-set-other (x .work) k (number M c) 0 0 q ∙ z)
+
+      go :
+          (ps : List Open) → ((c : Config) → There M c → Among c ps ⊎ (getD (set (x .work) k 0) (number M c) 0 ≡ 0)) →
+          ((m : Mode) (c : Config) (b : Bool) → There M c → Shared M ps (standing (with-now (x .now-at) m c b (top-of M ps) (x .now-at .readings)) (x .notes) (set (x .work) k 0))) →
+          n + suc (length ps) ≤ 4 * x .now-at .readings + 1 →
+          Holds M (suc n)
+          (standing
+          (cond (eqb (top-of M ps) 0) (with-now (x .now-at) (Done v) (x .now-at .at) false 0 (x .now-at .readings))
+          (with-now (x .now-at) (Clear v) (x .now-at .at) false (top-of M ps) (x .now-at .readings)))
+          (x .notes)
+          (set (x .work) k 0))
+      go [] zero shared l =
+          record {
+            opens = [];
+            shared = shared (Done v) (x .now-at .at) false (s .at-there);
+            phase = done (record { says = settled .says; noted = settled .noted; zero-work = zero }) (omega arith);
+          }
+      go (p ∷ ps) zero shared l =
+          rw (ne-eqb (number M (p .config) + 1) 0 (λ z. omega arith))
+          (record {
+            opens = p ∷ ps;
+            shared = shared (Clear v) (x .now-at .at) false (s .at-there);
+            phase = clearing (record { says = settled .says; noted = settled .noted; zero-work = zero }) (omega arith);
+          })
+
+pub clear-keeps :
+    {M : Machine} (n : ℕ) (x : Standing) {o : Open} {os : List Open} {v : Verdict} → Shared M (o ∷ os) x → Settled M (o ∷ os) v x →
+    n + suc (length os) ≤ 4 * x .now-at .readings + 1 → Holds M (suc n) (turn-by (Clear v) M (x .now-at) (x .notes) (x .work))
+unfolding turn-by cleared
+clear-keeps {M} n x {o} {os} s settled few =
+    rw (newest-number s, link-of (s .links), link-half (top-of M os) (o .pushed)) (cleared-by n x s settled few)

@@ -1,0 +1,54 @@
+-- `chain::step::opened` meets its contract. Assumes nothing.
+use mathlib.Core.Path.{refl}
+use borrow.Author.Needs.{needs}
+use Rattle.chain.proofs.step.opened.Statement.{statement}
+use Rattle.chain.proofs.step.opened.Tie as tie
+
+mul-notes : tie.Need-mul-notes
+mul-notes c = search needs
+
+slice-write-notes : tie.Need-slice-write-notes
+slice-write-notes c = search needs
+
+link-requires : tie.Need-link-requires
+link-requires c κs = search needs
+
+mul-work : tie.Need-mul-work
+mul-work c = search needs
+
+slice-write-work : tie.Need-slice-write-work
+slice-write-work c = search needs
+
+add-top : tie.Need-add-top
+add-top c = search needs
+
+add-readings : tie.Need-add-readings
+add-readings c = search needs
+
+with-now-requires : tie.Need-with-now-requires
+with-now-requires c κs = search needs
+
+same-length : tie.Need-same-length
+same-length c = search needs
+
+same-length-2 : tie.Need-same-length-2
+same-length-2 c = search needs
+
+returns : tie.Need-returns
+returns c = rw (c .with-now .ensures, c .before .before .link .ensures) refl
+
+pub opened-spec : {M : Type 1} → statement M
+opened-spec =
+    tie.close
+    (tie.spec
+    mul-notes
+    slice-write-notes
+    link-requires
+    mul-work
+    slice-write-work
+    add-top
+    add-readings
+    with-now-requires
+    same-length
+    same-length-2
+    returns)

@@ -1,0 +1,53 @@
+-- What one step asks of its record and cells, so that it is safe, and what it promises. Assumes nothing: these are definitions.
+use mathlib.Core.Path.{_≡_}
+use mathlib.Core.Bool.{true}
+use mathlib.Core.List.{List}
+use Prim.Native.Nat.{ℕ, suc, _+_, _-_, _<_, _≤_}
+use lib.ListN.{length, getD}
+use Rattle.machine.specs.declared.Sizes.{Sizes}
+use Rattle.machine.specs.Run.{There, config, how-many}
+use Rattle.machine.specs.Image.{machine, sizes-of}
+use Rattle.machine.specs.Verdicts.{nonzero}
+use Rattle.machine.specs.Refusals.{Unrefused}
+use Rattle.chain.specs.declared.Mode.{Mode}
+use Rattle.chain.specs.declared.Mode.the-variants.{Look, Unwind, Clear, Done}
+use Rattle.chain.specs.declared.Record.{Record}
+use Rattle.chain.specs.Turn.{standing, turn}
+
+-- unwinding and clearing take the newest open configuration: there is one, and what is closed was noted as open
+abbrev pub Open-for : Mode → (top : ℕ) → (notes : List ℕ) → Type 0
+Open-for Look t ns = Unit
+Open-for Unwind t ns = (0 < t) × (getD ns (t - 1) 0 ≡ 1)
+Open-for (Clear v) t ns = 0 < t
+Open-for (Done v) t ns = Unit
+
+-- the record's counts are the image's and the capture's, its configuration is one of theirs, and the cells are N each, with links and notes that lead to cells
+pub record Ready (bs cs : List ℕ) (r : Record) (notes work : List ℕ) : Type 0 where
+  pub unrefused : Unrefused bs cs
+  pub sizes-are : r .sizes ≡ sizes-of bs cs
+  pub there : There (machine bs cs) (r .at)
+  pub notes-long : length notes ≡ how-many (machine bs cs)
+  pub work-long : length work ≡ how-many (machine bs cs)
+  pub top-low : r .top ≤ how-many (machine bs cs)
+  pub readings-low : r .readings ≤ how-many (machine bs cs)
+  pub notes-low : (k : ℕ) → getD notes k 0 < how-many (machine bs cs) + 2
+  pub open-one : Open-for (r .mode) (r .top) notes
+
+-- configuration number k can be opened: it has its cells, and link and count fit 32 bits
+pub record Openable (r : Record) (k : ℕ) (notes work : List ℕ) : Type 0 where
+  pub number-room : k < 4294967293
+  pub top-room : r .top < 2147483648
+  pub readings-room : r .readings < 4294967295
+  pub note-there : k < length notes
+  pub work-there : k < length work
+
+-- the step is the definition's; what it adds to the readings is what it adds to the nonzero notes, and that is one at most
+pub record Step-says (bs cs : List ℕ) (r r-now : Record) (notes notes-now work work-now : List ℕ) : Type 0 where
+  pub is : standing r-now notes-now work-now ≡ turn (machine bs cs) (standing r notes work)
+  pub adds :
+      r-now .readings + nonzero (how-many (machine bs cs)) notes ≡ r .readings + nonzero (how-many (machine bs cs)) notes-now
+  pub one-more : r-now .readings ≤ suc (r .readings)
+
+-- the start record by the counts and finals that are read from the image
+abbrev pub start-record : Sizes → (finals : ℕ) → Record
+start-record s f = record { sizes = s; finals = f; mode = Look; at = config 0 0 0; pushed = true; top = 0; readings = 0 }

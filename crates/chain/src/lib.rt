@@ -1,0 +1,26 @@
+// The judge's own steps: its record, and one step. What the chain of steps comes to is defined in specs/ and proved in proofs/.
+pub mod step;
+
+use machine::Config;
+use machine::Sizes;
+use machine::Verdict;
+
+// What the next step does: look at a configuration, close open ones with a known terminator, clear the links after a run that has no end or is stuck, nothing.
+pub enum Mode {
+    Look,
+    Unwind,
+    Clear(Verdict),
+    Done(Verdict),
+}
+
+// The judge's record. `at` is the configuration looked at; while unwinding, the terminator; then the end configuration.
+// `pushed`: the entry on top was pushed on the way to `at`. `top`: one more than the number of the newest open configuration, 0 if none is open.
+pub struct Record {
+    pub sizes: Sizes,
+    pub finals: u32,
+    pub mode: Mode,
+    pub at: Config,
+    pub pushed: bool,
+    pub top: u32,
+    pub readings: u32,
+}

@@ -1,0 +1,2 @@
+-- Laws that the proofs of the library's functions cite.
+pub mod Told

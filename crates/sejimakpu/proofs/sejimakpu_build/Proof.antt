@@ -1,0 +1,25 @@
+-- `sejimakpu::sejimakpu_build` meets its contract. Assumes nothing.
+use Rattle.sejimakpu.proofs.Told.{told-as}
+use borrow.Author.Needs.{needs}
+use Rattle.sejimakpu.proofs.sejimakpu_build.Statement.{statement}
+use Rattle.sejimakpu.proofs.sejimakpu_build.Tie as tie
+
+build-image-requires : tie.Need-build-image-requires
+build-image-requires c κs = search needs
+
+build-reply-requires : tie.Need-build-reply-requires
+build-reply-requires c κs = search needs
+
+tell-requires : tie.Need-tell-requires
+tell-requires c κs = search needs
+
+same-length : tie.Need-same-length
+same-length c = search needs
+
+returns : tie.Need-returns
+returns c = record { built = _; says = c .before .before .before .before .before .build-image .ensures; tells = told-as (c .before .build-reply .ensures) (c .tell .ensures) }
+
+pub sejimakpu-build-spec : {M : Type 1} → statement M
+sejimakpu-build-spec =
+    tie.close
+    (tie.spec build-image-requires build-reply-requires tell-requires same-length returns)

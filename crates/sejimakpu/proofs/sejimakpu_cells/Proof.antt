@@ -1,0 +1,23 @@
+-- `sejimakpu::sejimakpu_cells` meets its contract. Assumes nothing.
+use Rattle.sejimakpu.proofs.Told.{told-as}
+use Rattle.sejimakpu.specs.Replies.{of-needs}
+use mathlib.Core.Path.{ap, _∙_}
+use borrow.Author.Needs.{needs}
+use Rattle.sejimakpu.proofs.sejimakpu_cells.Statement.{statement}
+use Rattle.sejimakpu.proofs.sejimakpu_cells.Tie as tie
+
+cells-requires : tie.Need-cells-requires
+cells-requires c κs = search needs
+
+cells-reply-requires : tie.Need-cells-reply-requires
+cells-reply-requires c κs = search needs
+
+tell-requires : tie.Need-tell-requires
+tell-requires c κs = search needs
+
+returns : tie.Need-returns
+returns c = told-as (c .before .cells-reply .ensures ∙ ap of-needs (c .before .before .cells .ensures)) (c .tell .ensures)
+
+pub sejimakpu-cells-spec : {M : Type 1} → statement M
+sejimakpu-cells-spec =
+    tie.close (tie.spec cells-requires cells-reply-requires tell-requires returns)

@@ -1,0 +1,28 @@
+-- `sejimakpu::sejimakpu_judge` meets its contract. Assumes nothing.
+use Rattle.sejimakpu.proofs.Told.{told-as}
+use borrow.Author.Needs.{needs}
+use Rattle.sejimakpu.proofs.sejimakpu_judge.Statement.{statement}
+use Rattle.sejimakpu.proofs.sejimakpu_judge.Tie as tie
+
+judge-requires : tie.Need-judge-requires
+judge-requires c κs = search needs
+
+judge-reply-requires : tie.Need-judge-reply-requires
+judge-reply-requires c κs = search needs
+
+tell-requires : tie.Need-tell-requires
+tell-requires c κs = search needs
+
+same-length : tie.Need-same-length
+same-length c = search needs
+
+same-length-2 : tie.Need-same-length-2
+same-length-2 c = search needs
+
+returns : tie.Need-returns
+returns c = record { judged = _; says = c .before .before .before .before .before .before .before .judge .ensures; tells = told-as (c .before .judge-reply .ensures) (c .tell .ensures) }
+
+pub sejimakpu-judge-spec : {M : Type 1} → statement M
+sejimakpu-judge-spec =
+    tie.close
+    (tie.spec judge-requires judge-reply-requires tell-requires same-length same-length-2 returns)

@@ -1,0 +1,28 @@
+-- What each call of the library returns and leaves: its contract in Rattle, told by numbers. Assumes nothing: these are definitions.
+use Prim.Native.Nat.{ℕ}
+use mathlib.Core.List.{List}
+use Rattle.simulator.specs.declared.Judged.{Judged}
+use Rattle.interpreter.specs.declared.Ran.{Ran}
+use Rattle.grammar.specs.declared.Built.{Built}
+use Rattle.simulator.specs.Calls.{Judge-says}
+use Rattle.interpreter.specs.Calls.{Run-says}
+use Rattle.grammar.specs.Calls.{Build-says}
+use Rattle.sejimakpu.specs.Replies.{Tells, of-judged, of-ran, of-built}
+
+-- judging
+pub record Judge-tells (image capture notes notes-now work work-now : List ℕ) (returned : ℕ) (answer : List ℕ) : Type 0 where
+  pub judged : Judged
+  pub says : Judge-says image capture judged notes notes-now work work-now
+  pub tells : Tells (of-judged judged) returned answer
+
+-- the plain run
+pub record Run-tells (image capture : List ℕ) (budget : ℕ) (stack stack-now : List ℕ) (returned : ℕ) (answer : List ℕ) : Type 0 where
+  pub ran : Ran
+  pub says : Run-says image capture budget ran stack stack-now
+  pub tells : Tells (of-ran ran) returned answer
+
+-- building
+pub record Build-tells (grammar image image-now : List ℕ) (returned : ℕ) (answer : List ℕ) : Type 0 where
+  pub built : Built
+  pub says : Build-says grammar built image image-now
+  pub tells : Tells (of-built built) returned answer

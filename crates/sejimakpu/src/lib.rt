@@ -1,0 +1,85 @@
+// The library for C and Rust: each call on numbers and slices, its answer in six cells. include/sejimakpu.h declares these functions.
+pub mod telling;
+
+use grammar::build::build_image;
+use interpreter::plain_run;
+use machine::Config;
+use simulator::judge::cells;
+use simulator::judge::judge;
+use telling::build_reply;
+use telling::cells_reply;
+use telling::check_reply;
+use telling::judge_reply;
+use telling::run_reply;
+use telling::tell;
+use validator::check::check_image;
+ghost use mathlib.Core.Path.{_≡_};
+ghost use Rattle.machine.specs.Refusals.{image-refusal, capture-refusal};
+ghost use Rattle.machine.specs.Calls.{checked};
+ghost use Rattle.simulator.specs.Calls.{cells-needed, needs};
+ghost use Rattle.sejimakpu.specs.Replies.{Tells, of-checked, of-needs};
+ghost use Rattle.sejimakpu.specs.Calls.{Judge-tells, Run-tells, Build-tells};
+
+// The number of a refusal, or 0, with its place; a verdict's number, a count and a configuration where the call has them.
+pub struct Reply {
+    pub refusal: u32,
+    pub place: usize,
+    pub verdict: u32,
+    pub count: usize,
+    pub end: Config,
+}
+
+// Whether an image is good.
+#[no_mangle]
+pub extern "C" fn sejimakpu_check(image: &[u8], answer: &mut [u64; 6]) -> u32
+    ensures { λ r. ⌜ Tells (of-checked (checked (image-refusal (now (image .entry))))) r (now (answer .exit)) ⌝ }
+{
+    tell(answer, check_reply(check_image(image)))
+}
+
+// How many cells the judging of a capture of n bytes needs.
+#[no_mangle]
+pub extern "C" fn sejimakpu_cells(image: &[u8], n: usize, answer: &mut [u64; 6]) -> u32
+    ensures { λ r. ⌜ Tells (of-needs (needs (capture-refusal (now (image .entry)) n) (cells-needed (now (image .entry)) n))) r (now (answer .exit)) ⌝ }
+{
+    tell(answer, cells_reply(cells(image, n)))
+}
+
+// Judging.
+#[no_mangle]
+pub extern "C" fn sejimakpu_judge(
+    image: &[u8],
+    capture: &[u8],
+    notes: &mut [u32],
+    work: &mut [u32],
+    answer: &mut [u64; 6],
+) -> u32
+    ensures { λ r. ⌜ Judge-tells (now (image .entry)) (now (capture .entry)) (now (notes .entry)) (now (notes .exit)) (now (work .entry)) (now (work .exit)) r (now (answer .exit)) ⌝ }
+{
+    let judged = judge(image, capture, notes, work);
+    tell(answer, judge_reply(judged))
+}
+
+// The plain run.
+#[no_mangle]
+pub extern "C" fn sejimakpu_plain_run(
+    image: &[u8],
+    capture: &[u8],
+    budget: u32,
+    stack: &mut [u32],
+    answer: &mut [u64; 6],
+) -> u32
+    ensures { λ r. ⌜ Run-tells (now (image .entry)) (now (capture .entry)) budget (now (stack .entry)) (now (stack .exit)) r (now (answer .exit)) ⌝ }
+{
+    let ran = plain_run(image, capture, budget, stack);
+    tell(answer, run_reply(ran))
+}
+
+// Building.
+#[no_mangle]
+pub extern "C" fn sejimakpu_build(grammar: &[u8], image: &mut [u8], answer: &mut [u64; 6]) -> u32
+    ensures { λ r. ⌜ Build-tells (now (grammar .entry)) (now (image .entry)) (now (image .exit)) r (now (answer .exit)) ⌝ }
+{
+    let built = build_image(grammar, image);
+    tell(answer, build_reply(built))
+}

@@ -1,0 +1,62 @@
+-- `simulator::judge::judge_sized` meets its contract. Assumes nothing.
+use Rattle.simulator.proofs.JudgeRefusals.{notes-says, work-says, answer-says}
+use Rattle.machine.proofs.Refused.{unrefused-by}
+use Rattle.simulator.proofs.Needing.{cells-are}
+use lib.Seq.{length-take-le}
+use mathlib.Core.Path.{sym, _∙_}
+use borrow.Author.Needs.{needs}
+use Rattle.simulator.proofs.judge.judge_sized.Statement.{statement}
+use Rattle.simulator.proofs.judge.judge_sized.Tie as tie
+
+refused-requires : tie.Need-refused-requires
+refused-requires c κs = search needs
+
+returns : tie.Need-returns
+returns c = notes-says _ _ _ _ (c .before .before .before .before .before .before .pre .0) (c .before .before .before .before .before .before .pre .1 ∙ cells-are _ _) (c .before .if1 .taken) (c .refused .ensures)
+
+refused-requires-2 : tie.Need-refused-requires-2
+refused-requires-2 c κs = search needs
+
+returns-2 : tie.Need-returns-2
+returns-2 c = work-says _ _ _ _ (c .before .before .before .before .before .before .before .pre .0) (c .before .before .before .before .before .before .before .pre .1 ∙ cells-are _ _) (c .before .before .if1 .left) (c .before .if2 .taken) (c .refused2 .ensures)
+
+slice-relend-prefix-judge-checked : tie.Need-slice-relend-prefix-judge-checked
+slice-relend-prefix-judge-checked c = search needs
+
+slice-aggregate-judge-checked : tie.Need-slice-aggregate-judge-checked
+slice-aggregate-judge-checked c = sym (length-take-le _ _ (c .before .before .if1 .left))
+
+slice-relend-prefix-judge-checked-2 : tie.Need-slice-relend-prefix-judge-checked-2
+slice-relend-prefix-judge-checked-2 c = search needs
+
+slice-aggregate-judge-checked-2 : tie.Need-slice-aggregate-judge-checked-2
+slice-aggregate-judge-checked-2 c = sym (length-take-le _ _ (c .before .before .if2 .left))
+
+judge-checked-requires : tie.Need-judge-checked-requires
+judge-checked-requires c κs = (unrefused-by _ _ (λ i. c .before .before .before .before .before .before .shared-slice-known2 .given i .fits) (c .before .before .before .before .before .before .before .before .pre .0), length-take-le _ _ (c .before .before .before .if1 .left) ∙ c .before .before .before .before .before .before .before .before .pre .1 ∙ cells-are _ _, length-take-le _ _ (c .before .before .if2 .left) ∙ c .before .before .before .before .before .before .before .before .pre .1 ∙ cells-are _ _)
+
+same-length : tie.Need-same-length
+same-length c = search needs
+
+same-length-2 : tie.Need-same-length-2
+same-length-2 c = search needs
+
+returns-3 : tie.Need-returns-3
+returns-3 c = answer-says _ _ _ _ (c .before .before .before .before .before .before .before .before .before .before .before .before .before .pre .0) (c .before .before .before .before .before .before .before .before .before .before .before .before .before .pre .1 ∙ cells-are _ _) (c .before .before .before .before .before .before .before .before .if1 .left) (c .before .before .before .before .before .before .before .if2 .left) (c .before .before .before .before .judge-checked .ensures)
+
+pub judge-sized-spec : {M : Type 1} → statement M
+judge-sized-spec =
+    tie.close
+    (tie.spec
+    refused-requires
+    returns
+    refused-requires-2
+    returns-2
+    slice-relend-prefix-judge-checked
+    slice-aggregate-judge-checked
+    slice-relend-prefix-judge-checked-2
+    slice-aggregate-judge-checked-2
+    judge-checked-requires
+    same-length
+    same-length-2
+    returns-3)

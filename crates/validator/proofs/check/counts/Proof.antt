@@ -1,0 +1,116 @@
+-- `validator::check::counts` meets its contract: each return is the first count that is wrong, or none. Assumes nothing.
+use mathlib.Core.Path.{sym, _∙_}
+use borrow.Author.Tests.{eq-eqb, ne-eqb}
+use borrow.Author.Needs.{needs}
+use Rattle.machine.specs.Refusals.{counts}
+use Rattle.machine.specs.Image.{states, classes, symbols}
+use Rattle.machine.proofs.CheckGood.{count-right}
+use Rattle.validator.proofs.check.counts.Statement.{statement}
+use Rattle.validator.proofs.check.counts.Tie as tie
+
+shared-slice-read-states : tie.Need-shared-slice-read-states
+shared-slice-read-states c = search needs
+
+count-wrong-requires : tie.Need-count-wrong-requires
+count-wrong-requires c κs = search needs
+
+returns : tie.Need-returns
+unfolding counts states
+returns c = simp (← c .before .count-wrong .ensures, c .if1 .taken)
+
+shared-slice-read-count-wrong : tie.Need-shared-slice-read-count-wrong
+shared-slice-read-count-wrong c = search needs
+
+count-wrong-requires-2 : tie.Need-count-wrong-requires-2
+count-wrong-requires-2 c κs = search needs
+
+returns-2 : tie.Need-returns-2
+unfolding counts states classes
+returns-2 c =
+    simp (
+      ← c .before .before .before .before .count-wrong .ensures,
+      c .before .before .before .if1 .left,
+      ← c .before .count-wrong2 .ensures,
+      c .if2 .taken,
+    )
+
+shared-slice-read-count-wrong-2 : tie.Need-shared-slice-read-count-wrong-2
+shared-slice-read-count-wrong-2 c = search needs
+
+count-wrong-requires-3 : tie.Need-count-wrong-requires-3
+count-wrong-requires-3 c κs = search needs
+
+returns-3 : tie.Need-returns-3
+unfolding counts states classes symbols
+returns-3 c =
+    simp (
+      ← c .before .before .before .before .before .before .before .count-wrong .ensures,
+      c .before .before .before .before .before .before .if1 .left,
+      ← c .before .before .before .before .count-wrong2 .ensures,
+      c .before .before .before .if2 .left,
+      ← c .before .count-wrong3 .ensures,
+      c .if3 .taken,
+    )
+
+shared-slice-read-zero : tie.Need-shared-slice-read-zero
+shared-slice-read-zero c = search needs
+
+returns-4 : tie.Need-returns-4
+unfolding counts states classes symbols
+returns-4 c =
+    simp (
+      ← c .before .before .before .before .before .before .before .before .before .count-wrong .ensures,
+      c .before .before .before .before .before .before .before .before .if1 .left,
+      ← c .before .before .before .before .before .before .count-wrong2 .ensures,
+      c .before .before .before .before .before .if2 .left,
+      ← c .before .before .before .count-wrong3 .ensures,
+      c .before .before .if3 .left,
+      ne-eqb _ _ (c .if4 .taken),
+    )
+
+four-requires : tie.Need-four-requires
+four-requires c κs = search needs
+
+within-requires : tie.Need-within-requires
+within-requires c κs =
+    count-right _ 32
+    (sym (c .before .before .before .before .before .before .before .before .before .before .count-wrong .ensures) ∙ c .before .before .before .before .before .before .before .before .before .if1 .left) .1
+
+refuse-unless-requires : tie.Need-refuse-unless-requires
+refuse-unless-requires c κs = search needs
+
+returns-5 : tie.Need-returns-5
+unfolding counts states classes symbols
+returns-5 c =
+    simp (
+      ← c .before .before .before .before .before .before .before .before .before .before .before .before .count-wrong .ensures,
+      c .before .before .before .before .before .before .before .before .before .before .before .if1 .left,
+      ← c .before .before .before .before .before .before .before .before .before .count-wrong2 .ensures,
+      c .before .before .before .before .before .before .before .before .if2 .left,
+      ← c .before .before .before .before .before .before .count-wrong3 .ensures,
+      c .before .before .before .before .before .if3 .left,
+      eq-eqb _ _ (c .before .before .before .if4 .left),
+      ← c .before .before .four .ensures,
+      ← c .before .within .ensures,
+    )
+    (c .refuse-unless .ensures)
+
+pub counts-spec : {M : Type 1} → statement M
+counts-spec =
+    tie.close
+    (tie.spec
+    shared-slice-read-states
+    count-wrong-requires
+    returns
+    shared-slice-read-count-wrong
+    count-wrong-requires-2
+    returns-2
+    shared-slice-read-count-wrong-2
+    count-wrong-requires-3
+    returns-3
+    shared-slice-read-zero
+    returns-4
+    four-requires
+    within-requires
+    refuse-unless-requires
+    returns-5)

@@ -1,0 +1,69 @@
+-- `validator::check::directory` meets its contract: each return is the first pair that is wrong, or none. Assumes nothing.
+use borrow.Author.Tests.{lt-leb, le-leb}
+use borrow.Author.Needs.{needs}
+use Rattle.machine.specs.Refusals.{directory}
+use Rattle.validator.proofs.check.directory.Statement.{statement}
+use Rattle.validator.proofs.check.directory.Tie as tie
+
+pair-is-requires : tie.Need-pair-is-requires
+pair-is-requires c κs = search needs
+
+returns : tie.Need-returns
+unfolding directory
+returns c = simp (← c .before .pair-is .ensures, c .if1 .taken)
+
+pair-is-requires-2 : tie.Need-pair-is-requires-2
+pair-is-requires-2 c κs = search needs
+
+returns-2 : tie.Need-returns-2
+unfolding directory
+returns-2 c =
+    simp (
+      ← c .before .before .before .pair-is .ensures,
+      c .before .before .if1 .left,
+      ← c .before .pair-is2 .ensures,
+      c .if2 .taken,
+    )
+
+returns-3 : tie.Need-returns-3
+unfolding directory
+returns-3 c =
+    simp (
+      ← c .before .before .before .before .pair-is .ensures,
+      c .before .before .before .if1 .left,
+      ← c .before .before .pair-is2 .ensures,
+      c .before .if2 .left,
+      lt-leb _ _ (c .if3 .taken),
+    )
+
+pair-is-requires-3 : tie.Need-pair-is-requires-3
+pair-is-requires-3 c κs = search needs
+
+refuse-unless-requires : tie.Need-refuse-unless-requires
+refuse-unless-requires c κs = search needs
+
+returns-4 : tie.Need-returns-4
+unfolding directory
+returns-4 c =
+    simp (
+      ← c .before .before .before .before .before .before .pair-is .ensures,
+      c .before .before .before .before .before .if1 .left,
+      ← c .before .before .before .before .pair-is2 .ensures,
+      c .before .before .before .if2 .left,
+      le-leb _ _ (c .before .before .if3 .left),
+      ← c .before .pair-is3 .ensures,
+    )
+    (c .refuse-unless .ensures)
+
+pub directory-spec : {M : Type 1} → statement M
+directory-spec =
+    tie.close
+    (tie.spec
+    pair-is-requires
+    returns
+    pair-is-requires-2
+    returns-2
+    returns-3
+    pair-is-requires-3
+    refuse-unless-requires
+    returns-4)

@@ -1,0 +1,60 @@
+-- `validator::check::rule_count` meets its contract: counts that are bytes, so the product fits. Assumes nothing.
+use mathlib.Core.Path.{refl}
+use native.Mathlib.Omega.{arith}
+use borrow.Author.Needs.{needs}
+use Rattle.machine.specs.Refusals.{rule-count}
+use Rattle.machine.specs.Image.{states, classes, symbols}
+use Rattle.validator.proofs.CheckParts.{two-counts, three-counts}
+use Rattle.validator.proofs.check.rule_count.Statement.{statement}
+use Rattle.validator.proofs.check.rule_count.Tie as tie
+
+shared-slice-read-states : tie.Need-shared-slice-read-states
+shared-slice-read-states c = search needs
+
+cast-states : tie.Need-cast-states
+cast-states c = omega (arith, c .shared-slice-known .given 24)
+
+shared-slice-read-classes : tie.Need-shared-slice-read-classes
+shared-slice-read-classes c = search needs
+
+cast-classes : tie.Need-cast-classes
+cast-classes c = omega (arith, c .shared-slice-known2 .given 25)
+
+shared-slice-read-symbols : tie.Need-shared-slice-read-symbols
+shared-slice-read-symbols c = search needs
+
+cast-symbols : tie.Need-cast-symbols
+cast-symbols c = omega (arith, c .shared-slice-known3 .given 26)
+
+add-result : tie.Need-add-result
+add-result c = omega (arith, c .shared-slice-known3 .given 25)
+
+mul-result : tie.Need-mul-result
+mul-result c =
+    omega (arith, two-counts _ _ (c .shared-slice-known3 .given 24 .fits) (c .shared-slice-known3 .given 25 .fits))
+
+mul-result-2 : tie.Need-mul-result-2
+mul-result-2 c =
+    omega (
+      arith,
+      three-counts _ _ _ (c .shared-slice-known3 .given 24 .fits) (c .shared-slice-known3 .given 25 .fits) (c .shared-slice-known3 .given 26 .fits),
+    )
+
+returns : tie.Need-returns
+unfolding rule-count states classes symbols
+returns c = refl
+
+pub rule-count-spec : {M : Type 1} → statement M
+rule-count-spec =
+    tie.close
+    (tie.spec
+    shared-slice-read-states
+    cast-states
+    shared-slice-read-classes
+    cast-classes
+    shared-slice-read-symbols
+    cast-symbols
+    add-result
+    mul-result
+    mul-result-2
+    returns)

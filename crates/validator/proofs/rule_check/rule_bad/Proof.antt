@@ -1,0 +1,132 @@
+-- `validator::rule_check::rule_bad` meets its contract: each return is the case of the rule's kind. Assumes nothing.
+use borrow.Author.Tests.{eq-eqb, ne-eqb, lt-ltb, le-ltb, le-leb, lt-leb}
+use borrow.Author.Needs.{needs}
+use Rattle.machine.specs.Refusals.{rule-bad}
+use Rattle.machine.specs.Image.{states, symbols, rule-from}
+use Rattle.validator.proofs.rule_check.rule_bad.Statement.{statement}
+use Rattle.validator.proofs.rule_check.rule_bad.Tie as tie
+
+shared-slice-read-kind : tie.Need-shared-slice-read-kind
+shared-slice-read-kind c = search needs
+
+add-state : tie.Need-add-state
+add-state c = search needs
+
+shared-slice-read-state : tie.Need-shared-slice-read-state
+shared-slice-read-state c = search needs
+
+add-symbol : tie.Need-add-symbol
+add-symbol c = search needs
+
+shared-slice-read-symbol : tie.Need-shared-slice-read-symbol
+shared-slice-read-symbol c = search needs
+
+add-direction : tie.Need-add-direction
+add-direction c = search needs
+
+shared-slice-read-direction : tie.Need-shared-slice-read-direction
+shared-slice-read-direction c = search needs
+
+returns : tie.Need-returns
+unfolding rule-bad rule-from
+returns c = simp (lt-ltb _ _ (c .if1 .taken))
+
+says-more-requires : tie.Need-says-more-requires
+says-more-requires c κs = search needs
+
+returns-2 : tie.Need-returns-2
+unfolding rule-bad rule-from
+returns-2 c =
+    simp (le-ltb _ _ (c .before .before .if1 .left), eq-eqb _ _ (c .before .if2 .taken)) (c .says-more .ensures)
+
+shared-slice-read-states : tie.Need-shared-slice-read-states
+shared-slice-read-states c = search needs
+
+returns-3 : tie.Need-returns-3
+unfolding rule-bad rule-from states
+returns-3 c =
+    simp (
+      le-ltb _ _ (c .before .before .before .if1 .left),
+      ne-eqb _ _ (c .before .before .if2 .left),
+      le-leb _ _ (c .if3 .taken),
+    )
+
+pop-wrong-requires : tie.Need-pop-wrong-requires
+pop-wrong-requires c κs = search needs
+
+returns-4 : tie.Need-returns-4
+unfolding rule-bad rule-from states
+returns-4 c =
+    simp (
+      le-ltb _ _ (c .before .before .before .before .before .if1 .left),
+      ne-eqb _ _ (c .before .before .before .before .if2 .left),
+      lt-leb _ _ (c .before .before .if3 .left),
+      eq-eqb _ _ (c .before .if4 .taken),
+    )
+    (c .pop-wrong .ensures)
+
+shared-slice-read-symbols : tie.Need-shared-slice-read-symbols
+shared-slice-read-symbols c = search needs
+
+returns-5 : tie.Need-returns-5
+unfolding rule-bad rule-from states symbols
+returns-5 c =
+    simp (
+      le-ltb _ _ (c .before .before .before .before .before .before .if1 .left),
+      ne-eqb _ _ (c .before .before .before .before .before .if2 .left),
+      lt-leb _ _ (c .before .before .before .if3 .left),
+      ne-eqb _ _ (c .before .before .if4 .left),
+      le-leb _ _ (c .if5 .taken),
+    )
+
+returns-6 : tie.Need-returns-6
+unfolding rule-bad rule-from states symbols
+returns-6 c =
+    simp (
+      le-ltb _ _ (c .before .before .before .before .before .before .before .if1 .left),
+      ne-eqb _ _ (c .before .before .before .before .before .before .if2 .left),
+      lt-leb _ _ (c .before .before .before .before .if3 .left),
+      ne-eqb _ _ (c .before .before .before .if4 .left),
+      lt-leb _ _ (c .before .if5 .left),
+      lt-ltb _ _ (c .if6 .taken),
+    )
+
+move-off-requires : tie.Need-move-off-requires
+move-off-requires c κs = search needs
+
+returns-7 : tie.Need-returns-7
+unfolding rule-bad rule-from states symbols
+returns-7 c =
+    simp (
+      le-ltb _ _ (c .before .before .before .before .before .before .before .before .if1 .left),
+      ne-eqb _ _ (c .before .before .before .before .before .before .before .if2 .left),
+      lt-leb _ _ (c .before .before .before .before .before .if3 .left),
+      ne-eqb _ _ (c .before .before .before .before .if4 .left),
+      lt-leb _ _ (c .before .before .if5 .left),
+      le-ltb _ _ (c .before .if6 .left),
+    )
+    (c .move-off .ensures)
+
+pub rule-bad-spec : {M : Type 1} → statement M
+rule-bad-spec =
+    tie.close
+    (tie.spec
+    shared-slice-read-kind
+    add-state
+    shared-slice-read-state
+    add-symbol
+    shared-slice-read-symbol
+    add-direction
+    shared-slice-read-direction
+    returns
+    says-more-requires
+    returns-2
+    shared-slice-read-states
+    returns-3
+    pop-wrong-requires
+    returns-4
+    shared-slice-read-symbols
+    returns-5
+    returns-6
+    move-off-requires
+    returns-7)

@@ -1,0 +1,83 @@
+-- `validator::rule_check::rules` meets its contract. Assumes nothing.
+use Rattle.validator.proofs.CheckLoops.{Rules-left, rules-start, whole-rule, rules-count, rules-stop, rules-next, rules-end, left-as}
+use Rattle.validator.proofs.CheckParts.{three-counts}
+use Rattle.machine.specs.Refusals.{rule-count}
+use Rattle.machine.specs.Image.{states, classes, symbols}
+use lib.ListN.{length}
+use native.Mathlib.Omega.{arith}
+use Prim.Native.Nat.{_-_}
+use mathlib.Core.Path.{sym, _∙_}
+use borrow.Author.Needs.{needs}
+use Rattle.validator.proofs.rule_check.rules.Statement.{statement}
+use Rattle.validator.proofs.rule_check.rules.Tie as tie
+
+abbrev Inv-loop : tie.InvT-loop
+Inv-loop image columns symbols s₀ at₀ s at = Rules-left image s at
+
+abbrev μ-loop : tie.MeasureT-loop
+μ-loop image columns symbols s₀ at₀ s at = length image - at
+
+shared-slice-read-columns : tie.Need-shared-slice-read-columns Inv-loop μ-loop
+shared-slice-read-columns c = omega arith
+
+cast-columns : tie.Need-cast-columns Inv-loop μ-loop
+cast-columns c = omega (arith, c .shared-slice-known2 .given 25)
+
+add-columns : tie.Need-add-columns Inv-loop μ-loop
+add-columns c = omega (arith, c .shared-slice-known2 .given 25)
+
+shared-slice-read-symbols : tie.Need-shared-slice-read-symbols Inv-loop μ-loop
+shared-slice-read-symbols c = omega arith
+
+cast-symbols : tie.Need-cast-symbols Inv-loop μ-loop
+cast-symbols c = omega (arith, c .shared-slice-known3 .given 26)
+
+first-requires : tie.Need-first-requires Inv-loop μ-loop
+first-requires c κs = search needs
+
+loop-holds : tie.Need-loop-holds Inv-loop μ-loop
+loop-holds c = left-as (c .first .ensures) (rules-start _ (c .before .before .before .before .pre .0))
+
+rule-bad-requires : tie.Need-rule-bad-requires Inv-loop μ-loop
+rule-bad-requires c κs = (omega arith, omega (arith, whole-rule _ _ _ (c .before .loop .inv) (c .before .before .before .before .before .before .pre .1) (c .loop-test .taken)))
+
+returns : tie.Need-returns Inv-loop μ-loop
+returns c = rules-stop _ _ _ (c .before .before .before .loop .inv) (c .before .before .before .before .before .before .before .before .pre .1) (c .before .before .loop-test .taken) (sym (c .if1 .taken) ∙ c .before .rule-bad .ensures)
+
+add-at : tie.Need-add-at Inv-loop μ-loop
+add-at c = omega (arith, whole-rule _ _ _ (c .before .before .before .loop .inv) (c .before .before .before .before .before .before .before .before .pre .1) (c .before .before .loop-test .taken))
+
+next-requires : tie.Need-next-requires Inv-loop μ-loop
+unfolding rule-count states classes symbols
+next-requires c κs = rules-count _ _ _ (c .before .before .before .loop .inv) (c .before .before .before .before .before .before .before .before .pre .1) (c .before .before .loop-test .taken) (omega (arith, three-counts _ _ _ (c .before .before .before .before .before .shared-slice-known3 .given 24 .fits) (c .before .before .before .before .before .shared-slice-known3 .given 25 .fits) (c .before .before .before .before .before .shared-slice-known3 .given 26 .fits)))
+
+loop-less : tie.Need-loop-less Inv-loop μ-loop
+loop-less c = omega arith
+
+loop-again : tie.Need-loop-again Inv-loop μ-loop
+unfolding classes symbols
+loop-again c = left-as (c .next .ensures) (rules-next _ _ _ (c .before .before .before .before .loop .inv) (c .before .before .before .before .before .before .before .before .before .pre .1) (c .before .before .before .loop-test .taken) (sym (c .before .if1 .left) ∙ c .before .before .rule-bad .ensures))
+
+returns-2 : tie.Need-returns-2 Inv-loop μ-loop
+returns-2 c = rules-end _ _ _ (c .before .loop .inv) (c .before .before .before .before .before .before .pre .1) (c .loop-test .left)
+
+pub rules-spec : {M : Type 1} → statement M
+rules-spec =
+    tie.close
+    (tie.spec
+    Inv-loop
+    μ-loop
+    shared-slice-read-columns
+    cast-columns
+    add-columns
+    shared-slice-read-symbols
+    cast-symbols
+    first-requires
+    loop-holds
+    rule-bad-requires
+    returns
+    add-at
+    next-requires
+    loop-less
+    loop-again
+    returns-2)

@@ -1,0 +1,236 @@
+// The check of an image and of a capture's length: refusals 1 to 7, in the order of the table, for every byte string of any length.
+use crate::rule_check::rules;
+use machine::Checked;
+use machine::Refusal;
+use machine::format::CLASSES_OFFSET;
+use machine::format::COUNTS_LENGTH;
+use machine::format::COUNTS_OFFSET;
+use machine::format::FINALS_OFFSET;
+use machine::format::MAP_LENGTH;
+use machine::format::MAP_OFFSET;
+use machine::format::MAX_CAPTURE;
+use machine::format::MAX_CLASSES;
+use machine::format::MAX_STATES;
+use machine::format::MAX_SYMBOLS;
+use machine::format::RULE_LENGTH;
+use machine::format::RULES_OFFSET;
+use machine::format::STATES_OFFSET;
+use machine::format::SYMBOLS_OFFSET;
+use machine::format::ZERO_OFFSET;
+use machine::little_endian::four;
+ghost use mathlib.Core.Path.{_≡_};
+ghost use mathlib.Core.Bool.{not, _&&_, _||_, cond};
+ghost use Prim.Native.Nat.{_+_, _*_, _^_, _<_, _≤_};
+ghost use lib.Dec.{eqb, ltb};
+ghost use lib.ListN.{length};
+ghost use Rattle.machine.specs.Format.{map-offset, map-length, rules-offset, max-states};
+ghost use Rattle.machine.specs.Image.{symbols as symbols-of, rule-from};
+ghost use Rattle.machine.specs.Refusals.{refusal, fine, pair-is, directory as directory-of, count-wrong, counts as counts-of, map-from, move-off, rule-bad, rules-from, rule-count, image-refusal, capture-refusal};
+ghost use Rattle.machine.specs.Calls.{checked};
+
+// Whether the directory's pair at a place is this offset and length.
+fn pair_is(image: &[u8], at: usize, offset: usize, long: usize) -> bool
+    requires { ⌜ at + 7 < length (now image) ⌝ }
+    ensures { λ r. ⌜ r ≡ pair-is (now (image .entry)) at offset long ⌝ }
+{
+    let first = four(image, at) as usize;
+    if first != offset {
+        return false;
+    }
+    let second = four(image, at + 4) as usize;
+    second == long
+}
+
+// A refusal, or number 0 where a test is passed.
+fn refuse_unless(right: bool, number: u32, place: usize) -> Refusal
+    ensures { λ r. ⌜ r ≡ cond right fine (refusal number place) ⌝ }
+{
+    if right {
+        Refusal {
+            number: 0,
+            place: 0,
+        }
+    } else {
+        Refusal { number, place }
+    }
+}
+
+// Refusal 2: a pair of the directory.
+fn directory(image: &[u8]) -> Refusal
+    requires { ⌜ map-offset ≤ length (now image) ⌝ }
+    ensures { λ r. ⌜ r ≡ directory-of (now (image .entry)) ⌝ }
+{
+    if !pair_is(image, 0, COUNTS_OFFSET, COUNTS_LENGTH) {
+        return Refusal {
+            number: 2,
+            place: 0,
+        };
+    }
+    if !pair_is(image, 8, MAP_OFFSET, MAP_LENGTH) {
+        return Refusal {
+            number: 2,
+            place: 8,
+        };
+    }
+    let long = image.len();
+    if long < RULES_OFFSET {
+        return Refusal {
+            number: 2,
+            place: 16,
+        };
+    }
+    refuse_unless(pair_is(image, 16, RULES_OFFSET, long - RULES_OFFSET), 2, 16)
+}
+
+// Whether a count is 0 or over its limit.
+fn count_wrong(count: u8, limit: u8) -> bool
+    ensures { λ r. ⌜ r ≡ count-wrong count limit ⌝ }
+{
+    if count == 0 {
+        return true;
+    }
+    limit < count
+}
+
+// Refusal 3: a count, byte 27 or the finals.
+fn counts(image: &[u8]) -> Refusal
+    requires { ⌜ map-offset ≤ length (now image) ⌝ }
+    ensures { λ r. ⌜ r ≡ counts-of (now (image .entry)) ⌝ }
+{
+    let states = image[STATES_OFFSET];
+    if count_wrong(states, MAX_STATES) {
+        return Refusal {
+            number: 3,
+            place: STATES_OFFSET,
+        };
+    }
+    if count_wrong(image[CLASSES_OFFSET], MAX_CLASSES) {
+        return Refusal {
+            number: 3,
+            place: CLASSES_OFFSET,
+        };
+    }
+    if count_wrong(image[SYMBOLS_OFFSET], MAX_SYMBOLS) {
+        return Refusal {
+            number: 3,
+            place: SYMBOLS_OFFSET,
+        };
+    }
+    let zero = image[ZERO_OFFSET];
+    if zero != 0 {
+        return Refusal {
+            number: 3,
+            place: ZERO_OFFSET,
+        };
+    }
+    refuse_unless(within(four(image, FINALS_OFFSET), states), 3, FINALS_OFFSET)
+}
+
+// Whether the finals name only states that are there.
+fn within(finals: u32, states: u8) -> bool
+    requires { ⌜ states ≤ max-states ⌝ }
+    ensures { λ r. ⌜ r ≡ ltb finals (2 ^ states) ⌝ }
+{
+    let rest = (finals as u64) >> (states as u64);
+    rest == 0
+}
+
+// Refusal 5: the class map, byte by byte.
+fn class_map(image: &[u8]) -> Refusal
+    requires { ⌜ rules-offset ≤ length (now image) ⌝ }
+    ensures { λ r. ⌜ r ≡ map-from map-length map-offset (now (image .entry)) ⌝ }
+{
+    let classes = image[CLASSES_OFFSET];
+    let mut at: usize = MAP_OFFSET;
+    while at < RULES_OFFSET {
+        let class = image[at];
+        if classes <= class {
+            return Refusal {
+                number: 5,
+                place: at,
+            };
+        }
+        at += 1;
+    }
+    Refusal {
+        number: 0,
+        place: 0,
+    }
+}
+
+// How many rules the counts ask for.
+fn rule_count(image: &[u8]) -> u32
+    requires { ⌜ map-offset ≤ length (now image) ⌝ }
+    ensures { λ r. ⌜ r ≡ rule-count (now (image .entry)) ⌝ }
+{
+    let states = image[STATES_OFFSET] as u32;
+    let classes = image[CLASSES_OFFSET] as u32;
+    let symbols = image[SYMBOLS_OFFSET] as u32;
+    states * (classes + 2) * symbols
+}
+
+// The first refusal of an image, or number 0.
+fn first_refusal(image: &[u8]) -> Refusal
+    ensures { λ r. ⌜ r ≡ image-refusal (now (image .entry)) ⌝ }
+{
+    let long = image.len();
+    if long < MAP_OFFSET {
+        return Refusal {
+            number: 1,
+            place: long,
+        };
+    }
+    let directory_refusal = directory(image);
+    if directory_refusal.number != 0 {
+        return directory_refusal;
+    }
+    let counts_refusal = counts(image);
+    if counts_refusal.number != 0 {
+        return counts_refusal;
+    }
+    let count = rule_count(image) as usize;
+    let expected = RULES_OFFSET + RULE_LENGTH * count;
+    if long != expected {
+        return Refusal {
+            number: 4,
+            place: 20,
+        };
+    }
+    let map_refusal = class_map(image);
+    if map_refusal.number != 0 {
+        return map_refusal;
+    }
+    rules(image)
+}
+
+// Whether an image is good, and else why not and where.
+pub fn check_image(image: &[u8]) -> Checked
+    ensures { λ r. ⌜ r ≡ checked (image-refusal (now (image .entry))) ⌝ }
+{
+    let refusal = first_refusal(image);
+    if refusal.number == 0 {
+        Checked::Good
+    } else {
+        Checked::Refused(refusal)
+    }
+}
+
+// The first refusal of 1 to 7, of an image and a capture of n bytes, or number 0.
+pub fn capture_refusal(image: &[u8], n: usize) -> Refusal
+    ensures { λ r. ⌜ r ≡ capture-refusal (now (image .entry)) n ⌝ }
+{
+    let refusal = first_refusal(image);
+    if refusal.number != 0 {
+        return refusal;
+    }
+    if MAX_CAPTURE < n {
+        return Refusal {
+            number: 7,
+            place: n,
+        };
+    }
+    Refusal {
+        number: 0,
+        place: 0,
+    }
+}
