@@ -1,0 +1,88 @@
+/*
+ * Judges a capture by a grammar, as a bench program would:
+ *
+ *     accept GRAMMAR-FILE CAPTURE-FILE
+ *
+ * prints the answer's line, and leaves with status 0 if the capture is accepted, 1 if it is not, 2 if a call was refused
+ * or a file could not be read. Compile it with -I include, and link libsejimakpu.a.
+ */
+#include "sejimakpu.h"
+
+#include <inttypes.h>
+#include <stdio.h>
+#include <stdlib.h>
+
+enum { PASSED = 0, NOT_PASSED = 1, NOT_JUDGED = 2 };
+
+/* A file's bytes, at most limit + 1 of them: one more than allowed is enough to be refused. */
+static size_t bytes_of(const char *name, uint8_t *bytes, size_t limit)
+{
+    FILE *file = fopen(name, "rb");
+    size_t length;
+    if (file == NULL) {
+        fprintf(stderr, "accept: cannot read %s\n", name);
+        exit(NOT_JUDGED);
+    }
+    length = fread(bytes, 1, limit + 1, file);
+    fclose(file);
+    return length;
+}
+
+/* Ends the program where a call was refused: by number and place, as the table of refusals has them. */
+static void or_stop(uint32_t refusal, const sejimakpu_answer *answer)
+{
+    if (refusal != SEJIMAKPU_ANSWERED) {
+        printf("refused %" PRIu32 " %" PRIu64 "\n", refusal, answer->place);
+        exit(NOT_JUDGED);
+    }
+}
+
+static uint32_t *cells_of(uint64_t count)
+{
+    uint32_t *cells = calloc(count, sizeof *cells);
+    if (cells == NULL) {
+        fprintf(stderr, "accept: no memory for %" PRIu64 " cells\n", count);
+        exit(NOT_JUDGED);
+    }
+    return cells;
+}
+
+static const char *word_of(uint64_t verdict)
+{
+    switch (verdict) {
+    case SEJIMAKPU_ACCEPTED: return "accepted";
+    case SEJIMAKPU_ENDED: return "ended";
+    case SEJIMAKPU_STUCK: return "stuck";
+    case SEJIMAKPU_LOOPING: return "looping";
+    default: return "unknown";
+    }
+}
+
+int main(int count, char **words)
+{
+    static uint8_t grammar[SEJIMAKPU_MAX_GRAMMAR + 1];
+    static uint8_t capture[SEJIMAKPU_MAX_CAPTURE + 1];
+    static uint8_t image[SEJIMAKPU_MAX_BUILT_IMAGE];
+    sejimakpu_answer answer;
+
+    if (count != 3) {
+        fprintf(stderr, "usage: accept GRAMMAR-FILE CAPTURE-FILE\n");
+        return NOT_JUDGED;
+    }
+    size_t grammar_length = bytes_of(words[1], grammar, SEJIMAKPU_MAX_GRAMMAR);
+    size_t capture_length = bytes_of(words[2], capture, SEJIMAKPU_MAX_CAPTURE);
+
+    or_stop(sejimakpu_build(grammar, grammar_length, image, sizeof image, &answer), &answer);
+    size_t image_length = answer.count;
+
+    or_stop(sejimakpu_cells(image, image_length, capture_length, &answer), &answer);
+    size_t cells = answer.count;
+    uint32_t *notes = cells_of(cells), *work = cells_of(cells);
+
+    or_stop(sejimakpu_judge(image, image_length, capture, capture_length, notes, cells, work, cells, &answer), &answer);
+    printf("%s %" PRIu64 " %" PRIu64 " %" PRIu64 " %" PRIu64 "\n",
+           word_of(answer.verdict), answer.count, answer.state, answer.head, answer.symbol);
+    free(notes);
+    free(work);
+    return answer.verdict == SEJIMAKPU_ACCEPTED ? PASSED : NOT_PASSED;
+}

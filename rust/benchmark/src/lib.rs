@@ -1,0 +1,10 @@
+//! The benchmark's parts: an unverified twin of the proved judge, the workloads that both are given, and the measuring.
+pub mod backtracking_parser;
+pub mod clock;
+pub mod judging;
+pub mod measure;
+pub mod others;
+pub mod report;
+pub mod table;
+pub mod twin;
+pub mod workloads;

@@ -1,0 +1,47 @@
+//! The benchmark: the proved judge beside an unverified twin of the same algorithm. It prints tables and fails only where
+//! the two do not agree; what it measures is for a reader to judge.
+use benchmark::judging::{Cells, Line};
+use benchmark::workloads::{self, SIZES};
+use benchmark::{others, report};
+
+/// Rounds over all lines, so that what else the machine does for a while falls on no line alone.
+const ROUNDS: usize = 4;
+
+const METHOD: &str = "\
+ns/r: nanoseconds of a whole call (checks, clearing, run) over its readings. Processor time of the thread, the LEAST of
+  many calls: what else the machine does can only add to it. The ratio is also given by the median times.
+Judge and twin take turns on the same cells, which are allocated and touched before; both clear them in each call.
+judge clears, twin clears: the time of a call with the same image and length on a capture whose first byte ends the run
+  at once (checks, clearing, under 100 readings), over the time of the call. fill(0): both slices cleared by fill(0) and
+  nothing else, over the time of the twin's call.
+";
+
+fn main() {
+    let workloads = workloads::all();
+    println!("{METHOD}");
+    for workload in &workloads {
+        println!("{:<13} {}", workload.name, workload.about);
+    }
+    println!();
+
+    let mut cells = Cells::for_all(&workloads);
+    let mut lines = Vec::new();
+    for workload in &workloads {
+        for n in SIZES {
+            lines.push(Line::new(workload, n, &mut cells));
+        }
+    }
+    for _ in 0..ROUNDS {
+        for line in &mut lines {
+            line.measure(&mut cells);
+        }
+    }
+    report::print_lines(&lines);
+    report::print_growth(&workloads, &lines);
+    report::print_backtracking(&lines);
+    report::print_without_memory();
+    let [on_lines, _, _, on_two_way] = &workloads;
+    others::plain_runs(&[on_lines, on_two_way]);
+    others::images();
+    report::print_targets(&workloads, &lines);
+}

@@ -1,0 +1,147 @@
+//! The twin gives the library's answers, notes and cells, on small cases drawn from a fixed sequence of numbers.
+use benchmark::twin;
+use sejimakpu::MAX_BUILT_IMAGE;
+
+/// A sequence of numbers, the same in every run.
+struct Numbers(u64);
+
+impl Numbers {
+    fn below(&mut self, limit: usize) -> usize {
+        // xorshift, by Marsaglia
+        self.0 ^= self.0 << 13;
+        self.0 ^= self.0 >> 7;
+        self.0 ^= self.0 << 17;
+        (self.0 >> 11) as usize % limit
+    }
+
+    fn byte(&mut self, limit: usize) -> u8 {
+        self.below(limit) as u8
+    }
+
+    fn capture(&mut self) -> Vec<u8> {
+        (0..self.below(9)).map(|_| b'a' + self.byte(3)).collect()
+    }
+
+    fn grammar(&mut self) -> Vec<u8> {
+        let m = 1 + self.below(6);
+        let mut grammar = Vec::new();
+        for _ in 0..m {
+            grammar.extend(match self.below(6) {
+                0 | 1 => [1, self.byte(m), self.byte(m), 0],
+                2 => [2, self.byte(m), self.byte(m), 0],
+                3 => [3, self.byte(m), 0, 0],
+                4 => [4, 0, 0, 0],
+                _ => [5, b'a' + self.byte(2), b'b' + self.byte(2), 0],
+            });
+        }
+        grammar
+    }
+
+    /// A good image, most of whose rules lead somewhere.
+    fn image(&mut self) -> Vec<u8> {
+        let (q, k, g) = (1 + self.below(4), 1 + self.below(3), 1 + self.below(3));
+        let size = 4 * q * (k + 2) * g;
+        let counts = u32::from_le_bytes([q as u8, k as u8, g as u8, 0]);
+        let header = [24, 8, 32, 256, 288, size as u32, counts, self.below(1 << q) as u32];
+        let mut image: Vec<u8> = header.into_iter().flat_map(u32::to_le_bytes).collect();
+        image.extend((0..256).map(|_| self.byte(k)));
+        for rule in 0..size / 4 {
+            let class = rule / g % (k + 2);
+            image.extend(self.rule(q, g, class == k, class == k + 1));
+        }
+        image
+    }
+
+    fn rule(&mut self, q: usize, g: usize, is_left: bool, is_right: bool) -> [u8; 4] {
+        match self.below(8) {
+            0 => [0, 0, 0, 0],
+            1..=2 => [3, self.byte(q), 0, self.byte(2)],
+            kind => {
+                let moves: &[u8] = if is_left {
+                    &[0, 1]
+                } else if is_right {
+                    &[0, 2]
+                } else {
+                    &[0, 1, 1, 2]
+                };
+                [1 + (kind % 2) as u8, self.byte(q), self.byte(g), moves[self.below(moves.len())]]
+            }
+        }
+    }
+
+    /// Spoils a byte, or the length, of every third of the given bytes.
+    fn spoil(&mut self, bytes: &mut Vec<u8>) {
+        match self.below(9) {
+            0 => bytes.truncate(self.below(bytes.len() + 1)),
+            1 => {
+                let at = self.below(bytes.len().min(33));
+                bytes[at] = bytes[at].wrapping_add(1 + self.byte(255));
+            }
+            2 => {
+                let at = self.below(bytes.len());
+                bytes[at] = bytes[at].wrapping_add(1 + self.byte(255));
+            }
+            _ => {}
+        }
+    }
+}
+
+/// Both judge and run the same on an image, good or not, and leave the same in all lent cells.
+fn agree_on(image: &[u8], numbers: &mut Numbers) {
+    let capture = numbers.capture();
+    let checked = sejimakpu::check(image);
+    assert_eq!(twin::check(image), checked);
+
+    let needed = sejimakpu::cells(image, capture.len()).unwrap_or(3);
+    let few = |numbers: &mut Numbers| needed + 2 - numbers.below(8).saturating_sub(4).min(needed);
+    let (notes, work) = (vec![7; few(numbers)], vec![8; few(numbers)]);
+    let (mut a, mut b) = ((notes.clone(), work.clone()), (notes, work));
+    let judged = sejimakpu::judge(image, &capture, &mut a.0, &mut a.1);
+    assert_eq!(twin::judge(image, &capture, &mut b.0, &mut b.1), judged);
+    assert_eq!(a, b);
+
+    let (budget, cells) = (numbers.below(60) as u32, numbers.below(8));
+    let (mut a, mut b) = (vec![7; cells], vec![7; cells]);
+    let ran = sejimakpu::plain_run(image, &capture, budget, &mut a);
+    assert_eq!(twin::plain_run(image, &capture, budget, &mut b), ran);
+    assert_eq!(a, b);
+}
+
+#[test]
+fn on_images() {
+    let mut numbers = Numbers(0x9E37_79B9_7F4A_7C15);
+    for _ in 0..600 {
+        let mut image = numbers.image();
+        numbers.spoil(&mut image);
+        agree_on(&image, &mut numbers);
+    }
+}
+
+#[test]
+fn on_grammars() {
+    let mut numbers = Numbers(0xD1B5_4A32_D192_ED03);
+    for _ in 0..600 {
+        let mut grammar = numbers.grammar();
+        numbers.spoil(&mut grammar);
+        let room = if numbers.below(9) == 0 { 400 + numbers.below(300) } else { MAX_BUILT_IMAGE };
+        let (mut a, mut b) = (vec![7; room], vec![7; room]);
+        let built = sejimakpu::build(&grammar, &mut a);
+        assert_eq!(twin::build(&grammar, &mut b), built);
+        assert!(a == b);
+        if let Ok(length) = built {
+            agree_on(&a[..length], &mut numbers);
+        }
+    }
+}
+
+#[test]
+fn on_long_captures() {
+    let image = Numbers(3).image();
+    for n in [65_535, 65_536] {
+        let capture = vec![b'a'; n];
+        let (mut a, mut b) = ((vec![7; 900_000], vec![7; 900_000]), (vec![7; 900_000], vec![7; 900_000]));
+        let judged = sejimakpu::judge(&image, &capture, &mut a.0, &mut a.1);
+        assert_eq!(twin::judge(&image, &capture, &mut b.0, &mut b.1), judged);
+        assert!(a == b);
+    }
+}

@@ -1,0 +1,49 @@
+//! The workloads are what they say, at lengths far below those measured.
+use benchmark::backtracking_parser::{parse, TooManySteps};
+use benchmark::workloads::{self, backtracking, lines};
+use benchmark::{twin, workloads::building};
+use sejimakpu::{Judged, Verdict, MAX_BUILT_IMAGE};
+
+fn judged(image: &[u8], capture: &[u8]) -> Judged {
+    let cells = usize::from(image[24]) * (capture.len() + 2) * usize::from(image[26]);
+    twin::judge(image, capture, &mut vec![0; cells], &mut vec![0; cells]).unwrap()
+}
+
+#[test]
+fn verdicts() {
+    for workload in workloads::all() {
+        for n in 2..200 {
+            let capture = (workload.capture)(n);
+            assert_eq!(capture.len(), n);
+            assert_eq!(judged(&workload.image, &capture).verdict, workload.verdict, "{} of {n}", workload.name);
+            assert!(judged(&workload.image, &workload.short_capture(n)).readings < 100, "{} of {n}", workload.name);
+        }
+    }
+}
+
+#[test]
+fn parser_without_memory() {
+    let mut calls_before = 0;
+    for n in 0..12 {
+        let (accepted, calls) = parse(&backtracking::GRAMMAR, &backtracking::capture(n), 1_000_000).unwrap();
+        assert!(accepted && calls > 2 * calls_before, "each byte doubles the calls");
+        calls_before = calls;
+    }
+    assert_eq!(parse(&backtracking::GRAMMAR, &backtracking::capture(30), 1_000_000), Err(TooManySteps));
+
+    // It says what the judge says of captures that are wrong somewhere, too.
+    let workload = lines::workload();
+    for n in 2..120 {
+        let mut capture = (workload.capture)(n);
+        capture[n / 2] = b" \n#"[n % 3];
+        let (accepted, _) = parse(&lines::GRAMMAR, &capture, 1_000_000).unwrap();
+        assert_eq!(judged(&workload.image, &capture).verdict == Verdict::Accepted, accepted, "{n}");
+    }
+}
+
+#[test]
+fn most_rules_and_classes() {
+    let mut image = vec![0; MAX_BUILT_IMAGE];
+    assert_eq!(twin::build(&building::widest(), &mut image), Ok(MAX_BUILT_IMAGE));
+    assert_eq!((image[25], image[26]), (63, 63));
+}

@@ -1,0 +1,53 @@
+//! The comparing functions: what a call should have left behind and what it did, and the first difference in words.
+
+use model::answer::{Judged, Ran, Refusal};
+use std::fmt::{Debug, Display};
+
+/// Judging's answer, and all lent cells after it.
+#[derive(Clone, Debug)]
+pub struct Judging {
+    pub answer: Result<Judged, Refusal>,
+    pub notes: Vec<u32>,
+    pub work: Vec<u32>,
+}
+
+/// A plain run's answer, and all lent cells after it.
+#[derive(Clone, Debug)]
+pub struct Running {
+    pub answer: Result<Ran, Refusal>,
+    pub stack: Vec<u32>,
+}
+
+/// Building's answer, and the whole buffer after it.
+#[derive(Clone, Debug)]
+pub struct Building {
+    pub answer: Result<usize, Refusal>,
+    pub buffer: Vec<u8>,
+}
+
+pub fn answers<A: PartialEq + Debug>(name: &str, expected: &A, got: &A) -> Option<String> {
+    (expected != got).then(|| format!("{name}: expected {expected:?}, got {got:?}"))
+}
+
+/// Every cell, the later ones too.
+pub fn cells<T: PartialEq + Display>(name: &str, expected: &[T], got: &[T]) -> Option<String> {
+    if expected.len() != got.len() {
+        return Some(format!("{name}: expected {} cells, got {}", expected.len(), got.len()));
+    }
+    let at = (0..expected.len()).find(|&at| expected[at] != got[at])?;
+    Some(format!("{name}[{at}] of {}: expected {}, got {}", got.len(), expected[at], got[at]))
+}
+
+pub fn judging(expected: &Judging, got: &Judging) -> Option<String> {
+    answers("judge", &expected.answer, &got.answer)
+        .or_else(|| cells("notes", &expected.notes, &got.notes))
+        .or_else(|| cells("work", &expected.work, &got.work))
+}
+
+pub fn running(expected: &Running, got: &Running) -> Option<String> {
+    answers("plain run", &expected.answer, &got.answer).or_else(|| cells("stack", &expected.stack, &got.stack))
+}
+
+pub fn building(expected: &Building, got: &Building) -> Option<String> {
+    answers("build", &expected.answer, &got.answer).or_else(|| cells("buffer", &expected.buffer, &got.buffer))
+}

@@ -1,0 +1,43 @@
+//! The listed edges, each a case with a name. Where the document or plain counting tells the answer, it is written down
+//! here, so that the model is held against it too.
+
+mod long;
+mod program;
+mod refusals;
+mod runs;
+mod sizes;
+mod table;
+pub mod tools;
+
+use crate::findings::Findings;
+use crate::rng::Rng;
+
+type Case = dyn Fn(&mut Findings, &mut Rng);
+
+pub struct Edge {
+    pub name: String,
+    pub case: Box<Case>,
+}
+
+/// A list of edges in the making.
+#[derive(Default)]
+pub struct Edges(Vec<Edge>);
+
+impl Edges {
+    pub fn add(&mut self, name: impl Into<String>, case: impl Fn(&mut Findings, &mut Rng) + 'static) {
+        let name = name.into();
+        assert!(self.0.iter().all(|edge| edge.name != name), "two edges are named {name}");
+        self.0.push(Edge { name, case: Box::new(case) });
+    }
+}
+
+pub fn all() -> Vec<Edge> {
+    let mut edges = Edges::default();
+    table::add(&mut edges);
+    sizes::add(&mut edges);
+    refusals::add(&mut edges);
+    runs::add(&mut edges);
+    long::add(&mut edges);
+    program::add(&mut edges);
+    edges.0
+}

@@ -1,0 +1,106 @@
+//! Every machine and every grammar of the smallest sizes. Nothing is left to chance here: a case is a number, and its
+//! digits are the rules.
+
+use crate::edges::tools::{blank, set};
+use crate::findings::Findings;
+use crate::kinds::grammar_on;
+use crate::rng::Rng;
+use crate::sides;
+use model::image::write;
+
+/// Machines of one size, on captures of one length.
+pub struct Machines {
+    states: u8,
+    symbols: u8,
+    finals: u32,
+    length: usize,
+}
+
+/// With no byte on the tape the rules for bytes play no part, and machines may be a little larger.
+pub const MACHINES: &[Machines] = &[
+    Machines { states: 1, symbols: 1, finals: 1, length: 0 },
+    Machines { states: 1, symbols: 1, finals: 1, length: 1 },
+    Machines { states: 1, symbols: 1, finals: 1, length: 2 },
+    Machines { states: 1, symbols: 1, finals: 1, length: 3 },
+    Machines { states: 2, symbols: 1, finals: 2, length: 0 },
+    Machines { states: 1, symbols: 2, finals: 1, length: 0 },
+];
+
+impl Machines {
+    /// All good rules over a class: 0 is the bytes' one, 1 the left marker, 2 the right marker.
+    fn rules_over(&self, class: usize) -> Vec<[u8; 4]> {
+        let moves: &[u8] = [&[0, 1, 2][..], &[0, 1], &[0, 2]][class];
+        let mut rules = vec![[0; 4]];
+        if class == 0 && self.length == 0 {
+            return rules;
+        }
+        for state in 0..self.states {
+            for kind in [1, 2] {
+                for symbol in 0..self.symbols {
+                    rules.extend(moves.iter().map(|&go| [kind, state, symbol, go]));
+                }
+            }
+            rules.extend([[3, state, 0, 0], [3, state, 0, 1]]);
+        }
+        rules
+    }
+
+    pub fn count(&self) -> usize {
+        let of_one_pair: usize = (0..3).map(|class| self.rules_over(class).len()).product();
+        of_one_pair.pow(self.states as u32 * self.symbols as u32)
+    }
+
+    fn image(&self, mut number: usize) -> Vec<u8> {
+        let mut parts = blank(self.states, 1, self.symbols, self.finals);
+        for state in 0..self.states as usize {
+            for class in 0..3 {
+                for symbol in 0..self.symbols as usize {
+                    let rules = self.rules_over(class);
+                    set(&mut parts, state, class, symbol, rules[number % rules.len()]);
+                    number /= rules.len();
+                }
+            }
+        }
+        write(&parts)
+    }
+
+    pub fn case(&self, number: usize, found: &mut Findings, rng: &mut Rng) {
+        let (image, capture) = (self.image(number), vec![b'x'; self.length]);
+        let _ = sides::check(found, &image);
+        let needed = sides::cells(found, &image, capture.len()).unwrap_or(8);
+        let _ = sides::judge(found, rng, &image, &capture, needed + 1, needed + 1);
+        let (budget, cells) = (rng.below(12) as u32, rng.within(1..=4));
+        let _ = sides::plain_run(found, rng, &image, &capture, budget, cells);
+    }
+}
+
+/// All rules of a grammar of so many rules over the bytes a and b.
+fn grammar_rules(rules: u8) -> Vec<[u8; 4]> {
+    let mut all = vec![[4, 0, 0, 0], [5, b'a', b'a', 0], [5, b'b', b'b', 0], [5, b'a', b'b', 0]];
+    for b in 0..rules {
+        all.push([3, b, 0, 0]);
+        for c in 0..rules {
+            all.extend([[1, b, c, 0], [2, b, c, 0]]);
+        }
+    }
+    all
+}
+
+/// The captures of up to two bytes over a and b, and some longer ones.
+const CAPTURES: &[&[u8]] = &[b"", b"a", b"b", b"aa", b"ab", b"ba", b"bb", b"aab", b"abab"];
+
+pub fn grammar_count(rules: u8) -> usize {
+    grammar_rules(rules).len().pow(rules as u32)
+}
+
+pub fn grammar_case(rules: u8, mut number: usize, found: &mut Findings, rng: &mut Rng) {
+    let all = grammar_rules(rules);
+    let mut bytes = Vec::new();
+    for _ in 0..rules {
+        bytes.extend(all[number % all.len()]);
+        number /= all.len();
+    }
+    for capture in CAPTURES {
+        grammar_on(found, rng, &bytes, capture, 100);
+    }
+}

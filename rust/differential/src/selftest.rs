@@ -1,0 +1,96 @@
+//! The tests can fail: wrong answers made on purpose are told apart from right ones by the comparing functions.
+
+use crate::compare::{building, judging, running, Building, Judging, Running};
+use crate::findings::{Findings, Tally};
+use model::answer::{Config, Judged, Ran, Refusal, Verdict};
+use model::{building as model_building, calls, grammar, image, plain, walk};
+use std::time::Duration;
+
+/// C3, judged with two cells more than needed.
+fn right_judging() -> Judging {
+    let image = model_building::build(&grammar::read(&[5, 0x61, 0x61, 0]).unwrap());
+    let outcome = walk::judge(image::read(&image).unwrap(), b"a", 100).unwrap().outcome;
+    let (mut notes, mut work) = (vec![7; outcome.notes.len() + 2], vec![9; outcome.notes.len() + 2]);
+    let answer = Ok(calls::judge_answer(&outcome, &mut notes, &mut work));
+    Judging { answer, notes, work }
+}
+
+/// Spoils a right judging and asks whether that is seen.
+fn seen(spoil: impl Fn(&mut Judging)) -> bool {
+    let right = right_judging();
+    let mut wrong = right.clone();
+    assert_eq!(judging(&right, &wrong), None);
+    spoil(&mut wrong);
+    judging(&right, &wrong).is_some()
+}
+
+fn spoil_answer(spoil: impl Fn(&mut Judged)) -> impl Fn(&mut Judging) {
+    move |judging| spoil(judging.answer.as_mut().unwrap())
+}
+
+#[test]
+fn a_wrong_judging_is_seen() {
+    assert!(seen(spoil_answer(|judged| judged.verdict = Verdict::Stuck)));
+    assert!(seen(spoil_answer(|judged| judged.readings += 1)));
+    assert!(seen(spoil_answer(|judged| judged.end.state += 1)));
+    assert!(seen(spoil_answer(|judged| judged.end.head -= 1)));
+    assert!(seen(spoil_answer(|judged| judged.end.symbol += 1)));
+    assert!(seen(|judging| judging.answer = Err(Refusal { number: 8, place: 45 })));
+}
+
+#[test]
+fn every_wrong_cell_is_seen() {
+    let count = right_judging().notes.len();
+    for at in 0..count {
+        assert!(seen(|judging| judging.notes[at] ^= 1));
+        assert!(seen(|judging| judging.work[at] ^= 1 << 31));
+    }
+    assert!(seen(|judging| judging.notes.truncate(count - 1)));
+}
+
+#[test]
+fn a_wrong_refusal_is_seen() {
+    let mut right = right_judging();
+    right.answer = Err(Refusal { number: 8, place: 45 });
+    for (number, place) in [(9, 45), (8, 44)] {
+        let mut wrong = right.clone();
+        wrong.answer = Err(Refusal { number, place });
+        assert!(judging(&right, &wrong).is_some());
+    }
+}
+
+#[test]
+fn a_wrong_plain_run_is_seen() {
+    let image = model_building::build(&grammar::read(&[4, 0, 0, 0]).unwrap());
+    let ran = plain::run(image::read(&image).unwrap(), b"", 2, 2);
+    let right = Running { answer: Ok(ran), stack: vec![0; 2] };
+    assert_eq!(running(&right, &right.clone()), None);
+    let reached = Config { head: 0, ..ran.reached };
+    for answer in [Ran { verdict: Verdict::Deep, ..ran }, Ran { steps: 3, ..ran }, Ran { reached, ..ran }] {
+        assert!(running(&right, &Running { answer: Ok(answer), stack: vec![0; 2] }).is_some());
+    }
+    assert!(running(&right, &Running { answer: Ok(ran), stack: vec![0, 1] }).is_some());
+}
+
+#[test]
+fn a_wrong_image_is_seen() {
+    let right = Building { answer: Ok(3), buffer: vec![1, 2, 3, 4] };
+    assert_eq!(building(&right, &right.clone()), None);
+    for at in 0..4 {
+        let mut wrong = right.clone();
+        wrong.buffer[at] ^= 1;
+        assert!(building(&right, &wrong).is_some());
+    }
+    assert!(building(&right, &Building { answer: Ok(4), ..right.clone() }).is_some());
+}
+
+#[test]
+fn a_difference_is_counted() {
+    let mut tally = Tally::start();
+    tally.add("edges", "good", Findings::default(), Duration::ZERO);
+    assert_eq!(tally.failed(), 0);
+    let mut found = Findings::default();
+    found.note(Some("on purpose".into()), &[("bytes", b"x")]);
+    tally.add("edges", "bad", found, Duration::ZERO);
+    assert_eq!(tally.failed(), 1);
+}

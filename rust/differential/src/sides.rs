@@ -1,0 +1,149 @@
+//! The two sides of a comparison: each function here calls the library and the model with the same inputs and the same
+//! lent cells, and notes a difference.
+
+use crate::compare::{self, Building, Judging, Running};
+use crate::findings::Findings;
+use crate::rng::Rng;
+use model::answer::{Config, Judged, Ran, Refusal, Verdict};
+use model::machine::Machine;
+use model::{calls, image, summary, walk};
+
+/// Runs up to so many steps are judged by walking too.
+const WALK_LIMIT: usize = 100_000;
+
+fn refusal(of: sejimakpu::Refusal) -> Refusal {
+    Refusal { number: of.number, place: of.place }
+}
+
+fn verdict(of: sejimakpu::Verdict) -> Verdict {
+    match of {
+        sejimakpu::Verdict::Accepted => Verdict::Accepted,
+        sejimakpu::Verdict::Ended => Verdict::Ended,
+        sejimakpu::Verdict::Stuck => Verdict::Stuck,
+        sejimakpu::Verdict::Looping => Verdict::Looping,
+        sejimakpu::Verdict::Spent => Verdict::Spent,
+        sejimakpu::Verdict::Deep => Verdict::Deep,
+    }
+}
+
+fn config(of: sejimakpu::Config) -> Config {
+    Config { state: of.state as usize, head: of.head as usize, symbol: of.symbol as usize }
+}
+
+/// Checking alone.
+pub fn check(found: &mut Findings, image: &[u8]) -> Result<(), Refusal> {
+    let expected = image::read(image).map(|_| ());
+    let got = sejimakpu::check(image).map_err(refusal);
+    found.note(compare::answers("check", &expected, &got), &[("image", image)]);
+    got
+}
+
+/// The number of cells.
+pub fn cells(found: &mut Findings, image: &[u8], capture_length: usize) -> Result<usize, Refusal> {
+    let expected = calls::cells(image::read(image), capture_length);
+    let got = sejimakpu::cells(image, capture_length).map_err(refusal);
+    let name = format!("cells for {capture_length}");
+    found.note(compare::answers(&name, &expected, &got), &[("image", image)]);
+    got
+}
+
+/// Judging, with so many notes and work cells lent; answers what the library did.
+pub fn judge(
+    found: &mut Findings,
+    rng: &mut Rng,
+    image: &[u8],
+    capture: &[u8],
+    notes: usize,
+    work: usize,
+) -> Result<Judged, Refusal> {
+    let (notes, work) = (rng.cells(notes), rng.cells(work));
+    let mut got_notes = notes.clone();
+    let mut got_work = work.clone();
+    let answer = sejimakpu::judge(image, capture, &mut got_notes, &mut got_work).map_err(refusal).map(|judged| {
+        let (verdict, readings) = (verdict(judged.verdict), judged.readings as usize);
+        Judged { verdict, readings, end: config(judged.end) }
+    });
+    let got = Judging { answer, notes: got_notes, work: got_work };
+    let expected = judged_by_model(found, image, capture, notes, work);
+    found.note(compare::judging(&expected, &got), &[("image", image), ("capture", capture)]);
+    got.answer
+}
+
+/// Judging by the model, in both of its ways where the run is short enough; these are compared too.
+fn judged_by_model(
+    found: &mut Findings,
+    image: &[u8],
+    capture: &[u8],
+    mut notes: Vec<u32>,
+    mut work: Vec<u32>,
+) -> Judging {
+    let answer = calls::judge_checks(image::read(image), capture.len(), notes.len(), work.len()).map(|(machine, _)| {
+        let outcome = summary::judge(machine, capture);
+        if let Some(walked) = walk::judge(machine, capture, WALK_LIMIT) {
+            let agree = compare::answers("the model's two ways agree", &true, &(walked.outcome == outcome));
+            found.note(agree, &[("image", image), ("capture", capture)]);
+            found.walked += 1;
+            let entered = outcome.notes.iter().filter(|&&note| note != 0).count();
+            found.repeating += (walked.steps > entered) as usize;
+        }
+        let judged = calls::judge_answer(&outcome, &mut notes, &mut work);
+        found.verdicts.push(judged.verdict);
+        found.readings.push(judged.readings);
+        judged
+    });
+    Judging { answer, notes, work }
+}
+
+/// The plain run, with so many stack cells lent.
+pub fn plain_run(
+    found: &mut Findings,
+    rng: &mut Rng,
+    image: &[u8],
+    capture: &[u8],
+    budget: u32,
+    cells: usize,
+) -> Result<Ran, Refusal> {
+    let mut stack = rng.cells(cells);
+    let mut got_stack = stack.clone();
+    let answer = sejimakpu::plain_run(image, capture, budget, &mut got_stack).map_err(refusal).map(|ran| {
+        let (verdict, steps) = (verdict(ran.verdict), ran.steps as u64);
+        Ran { verdict, steps, reached: config(ran.reached) }
+    });
+    let got = Running { answer, stack: got_stack };
+    let answer = calls::plain_run(image::read(image), capture, budget, &mut stack);
+    if let Ok(ran) = answer {
+        found.verdicts.push(ran.verdict);
+    }
+    let expected = Running { answer, stack };
+    let inputs: &[(&str, &[u8])] = &[("image", image), ("capture", capture), ("budget", &budget.to_le_bytes())];
+    found.note(compare::running(&expected, &got), inputs);
+    got.answer
+}
+
+/// Building into a buffer of so many bytes; answers what the library built, if it did.
+pub fn build(found: &mut Findings, rng: &mut Rng, grammar: &[u8], buffer: usize) -> Result<Vec<u8>, Refusal> {
+    let mut buffer = rng.bytes(buffer);
+    let mut got_buffer = buffer.clone();
+    let answer = sejimakpu::build(grammar, &mut got_buffer).map_err(refusal);
+    let got = Building { answer, buffer: got_buffer };
+    let answer = calls::build(grammar, &mut buffer);
+    found.note(compare::building(&Building { answer, buffer }, &got), &[("grammar", grammar)]);
+    got.answer.map(|length| got.buffer[..length].to_vec())
+}
+
+/// How long a run is and how high its stack gets, if it ends within the limit; by the model's run.
+pub fn measure(machine: Machine, capture: &[u8], limit: usize) -> (usize, usize, bool) {
+    let mut run = model::run::Run::start(machine, capture);
+    let (mut steps, mut height) = (0, 1);
+    while steps < limit {
+        match run.step() {
+            model::run::Step::Stuck => return (steps, height, true),
+            model::run::Step::Over(_) => return (steps + 1, height, true),
+            _ => {
+                steps += 1;
+                height = height.max(run.stack.len());
+            }
+        }
+    }
+    (steps, height, false)
+}

@@ -1,0 +1,18 @@
+//! The judge once more, written from the prose of the scope document alone: what the comparison believes.
+//!
+//! It shares no code with the proved library and prefers the plain way to the fast one. Judging is here twice, in two
+//! different ways ([`walk`] follows the run itself, [`summary`] saturates a table), so that each can be held against
+//! the other as well.
+
+pub mod answer;
+pub mod building;
+pub mod calls;
+pub mod grammar;
+pub mod image;
+pub mod machine;
+pub mod parse;
+pub mod plain;
+pub mod program;
+pub mod run;
+pub mod summary;
+pub mod walk;
