@@ -1,11 +1,9 @@
 -- Building and then judging gives what parsing says, with few readings. Assumes nothing.
 use mathlib.Core.Path.{_≡_, refl, sym, subst, _∙_, ap}
-use mathlib.Core.Bool.{Bool, false}
 use mathlib.Core.List.{List, _++_}
 use mathlib.Core.Option.{Option, some}
-use Prim.Native.Nat.{ℕ, zero, suc, _+_, _*_, _<_, _≤_}
+use Prim.Native.Nat.{ℕ, zero, suc, _+_, _≤_}
 use native.Mathlib.Omega.{arith}
-use lib.Dec.{ltb, eqb}
 use lib.ListN.{length, take, drop}
 use lib.Seq.{take-at}
 use borrow.Author.Tests.{le-ltb, eq-eqb}
@@ -14,20 +12,18 @@ use Rattle.machine.specs.declared.Refusal.{Refusal}
 use Rattle.machine.specs.declared.Verdict.{Verdict}
 use Rattle.machine.specs.declared.Verdict.the-variants.{Accepted, Ended, Stuck, Looping, Spent, Deep}
 use Rattle.machine.specs.Format
-use Rattle.machine.specs.Run.{Machine, how-many}
 use Rattle.machine.specs.Image.{machine}
 use Rattle.machine.specs.Verdicts.{Says}
-use Rattle.machine.specs.Refusals.{refusal, fine, or-else, refuse-if, image-refusal}
+use Rattle.machine.specs.Refusals.{or-else, refuse-if, image-refusal}
 use Rattle.machine.specs.Promises.{One-verdict}
 use Rattle.machine.proofs.OneVerdict.{one-verdict}
 use Rattle.simulator.specs.declared.Judged.{Judged}
-use Rattle.simulator.specs.declared.Judged.the-variants.{Refused, Answer}
 use Rattle.simulator.specs.Calls.{judge-refusal, Right, Judge-as, Judge-says}
 use Rattle.simulator.proofs.JudgeRefusals.{not-refused}
 use Rattle.machine.proofs.Refused.{then-fine}
 use Rattle.grammar.specs.declared.Built.{Built}
 use Rattle.grammar.specs.declared.Built.the-variants.{Image}
-use Rattle.grammar.specs.Grammar.{rules, expression, grammar-refusal}
+use Rattle.grammar.specs.Grammar.{expression, grammar-refusal}
 use Rattle.grammar.specs.Parsing.{Parses}
 use Rattle.grammar.specs.Image.{built, built-length}
 use Rattle.grammar.specs.Calls.{build-refusal, Build-as, Build-says}

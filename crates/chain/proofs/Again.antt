@@ -1,21 +1,20 @@
 -- A configuration that is looked at while it is open is the first one in the run to come again with the stack never below: the run goes on for ever. Assumes nothing.
-use mathlib.Core.Path.{_≡_, refl, sym, subst, _∙_, ap}
+use mathlib.Core.Path.{_≡_, sym, subst, _∙_, ap}
 use mathlib.Core.Bool.{Bool}
 use mathlib.Core.List.{List, [], _∷_}
-use mathlib.Core.Option.{Option, none, some}
-use mathlib.Core.Logic.{_⊎_, inl, inr}
-use Prim.Native.Nat.{ℕ, zero, suc, _+_, _-_, _<_, _≤_}
+use mathlib.Core.Option.{some}
+use Prim.Native.Nat.{ℕ, suc, _+_, _-_, _<_, _≤_}
 use native.Mathlib.Omega.{arith}
 use native.Mathlib.Decide.{decLt, ℕ-discrete}
 use lib.ListN.{length}
 use Rattle.machine.specs.declared.Config.{Config}
 use Rattle.machine.specs.declared.Action.the-variants.{Pop}
-use Rattle.machine.specs.Run.{Machine, Entry, entry, Instant, instant, Outcome, over, next, step, returned, after, start, config, config-of, top}
-use Rattle.machine.specs.Verdicts.{over-base, Again, First-again, Goes-on}
-use Rattle.machine.proofs.Runs.{after-zero, after-then, after-split, after-last, some-same, config-over, step-pop, step-pop-last, Topped, entered-topped}
+use Rattle.machine.specs.Run.{Machine, Entry, Instant, instant, next, step, returned, after, start, config, config-of}
+use Rattle.machine.specs.Verdicts.{over-base, Again, First-again}
+use Rattle.machine.proofs.Runs.{after-then, after-split, after-last, some-same, config-over, step-pop, step-pop-last, entered-topped}
 use Rattle.machine.proofs.Ends.{Ends, count, ends-inside, ends-reach, ends-pops}
-use Rattle.chain.proofs.Travel.{Visit, Arrival, Travels, visit-later, forever}
-use Rattle.chain.proofs.Path.{Open, open-as, Among, here, later, Leads, lead-steps, lead-inner, Path, begin, on, path-steps, path-travels, path-along, Along}
+use Rattle.chain.proofs.Travel.{Arrival}
+use Rattle.chain.proofs.Path.{Open, open-as, Among, here, later, lead-inner, Path, begin, on, path-steps, path-travels, path-along, Along}
 
 -- no configuration is open twice
 pub data Distinct-open : List Open → Type 0 where

@@ -1,35 +1,28 @@
 -- The program's own chain judges every image and capture that is not refused; and each of its standings is one that a step may take. Assumes nothing.
 use mathlib.Core.Path.{_≡_, refl, sym, subst, _∙_, ap}
-use mathlib.Core.Bool.{Bool, true, false, _&&_, cond}
-use mathlib.Core.List.{List, [], _∷_}
-use mathlib.Core.Option.{Option, none, some}
-use Prim.Native.Nat.{ℕ, zero, suc, _+_, _*_, _-_, _/_, _%_, _^_, _<_, _≤_}
+use mathlib.Core.List.{List}
+use Prim.Native.Nat.{ℕ, zero, suc, _+_, _-_, _<_, _≤_}
 use native.Mathlib.Omega.{arith}
 use native.Mathlib.Numerals.{add-one, add-two}
 use lib.Dec.{eqb, eqb·suc-suc}
-use lib.ListN.{length, getD, take, drop, replicate}
+use lib.ListN.{length, take, drop}
 use lib.Seq.{getD-take, getD-drop}
-use Rattle.machine.specs.declared.Config.{Config}
 use Rattle.machine.specs.declared.Sizes.{Sizes}
-use Rattle.machine.specs.declared.Verdict.{Verdict}
-use Rattle.machine.specs.Run.{Machine, There, config, number, how-many}
 use Rattle.machine.specs.Image.{byte, four, symbols, classes, final, accepting, machine, sizes-of}
 use Rattle.machine.specs.Refusals.{Unrefused}
 use Rattle.machine.specs.Verdicts.{All-entered}
-use Rattle.machine.proofs.Inside.{Inside, inside}
+use Rattle.machine.proofs.Inside.{inside}
 use Rattle.machine.proofs.Reach.{entered-there}
-use Rattle.chain.specs.declared.Mode.{Mode}
-use Rattle.chain.specs.declared.Mode.the-variants.{Look}
 use Rattle.chain.specs.declared.Record.{Record}
 use Rattle.chain.specs.Turn.{Standing, standing, turn, accepts}
-use Rattle.chain.specs.Chain.{Chain, Reached, turned, begun, reached, begin-record, chain, verdict-of, Judges, Chain-judges}
-use Rattle.chain.proofs.Invariant.{Fitted, Shared, Settled, Holds}
+use Rattle.chain.specs.Chain.{turned, begun, reached, begin-record, chain, Chain-judges}
+use Rattle.chain.proofs.Invariant.{Holds}
 use Rattle.machine.proofs.Listing.{all-entered}
 use Rattle.chain.specs.Ready.{Ready}
 use Rattle.chain.proofs.StepAdds.{turn-adds}
 use Rattle.chain.proofs.SizesKept.{turn-sizes}
 use Rattle.chain.proofs.Readies.{holds-ready}
-use Rattle.chain.proofs.Finish.{Empty, Starts, begin-holds, few-steps, settled-at, work-zero, Finished, finish}
+use Rattle.chain.proofs.Finish.{Starts, begin-holds, few-steps, settled-at, work-zero, Finished, finish}
 
 -- a byte of the counts
 count-byte : (bs : List ℕ) (k : ℕ) → k < 8 → byte (take 8 (drop 24 bs)) k ≡ byte bs (24 + k)

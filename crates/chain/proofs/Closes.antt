@@ -1,13 +1,12 @@
 -- The newest open configuration gets its terminator: what holds of the chain then. Assumes nothing.
-use mathlib.Core.Path.{_≡_, refl, sym, subst, _∙_, ap}
+use mathlib.Core.Path.{_≡_, sym, _∙_}
 use mathlib.Core.Bool.{Bool, true, false, cond}
-use mathlib.Core.List.{List, [], _∷_}
+use mathlib.Core.List.{List, _∷_}
 use Prim.Native.Nat.{ℕ, suc, _+_, _*_, _<_, _≤_}
 use native.Mathlib.Omega.{arith}
 use lib.ListN.{length, getD, set, length-set}
 use Rattle.machine.specs.declared.Config.{Config}
 use Rattle.machine.specs.Run.{Machine, There, number, how-many}
-use Rattle.machine.specs.Verdicts.{nonzero}
 use Rattle.machine.proofs.Inside.{Inside}
 use Rattle.machine.proofs.Nonzero.{nonzero-set-old}
 use Rattle.machine.proofs.Numbers.{number-below}

@@ -1,15 +1,14 @@
 -- How a run ends that follows a path of open configurations: over, stuck or never. In each case every configuration entered has P, and the open ones have no end. Assumes nothing.
-use mathlib.Core.Path.{_≡_, refl, sym, subst, _∙_, ap}
+use mathlib.Core.Path.{_≡_, sym, subst, _∙_, ap}
 use mathlib.Core.Bool.{Bool}
 use mathlib.Core.List.{List, [], _∷_}
-use mathlib.Core.Option.{Option, none, some}
-use Prim.Native.Nat.{ℕ, zero, suc, _+_, _-_, _<_, _≤_}
+use mathlib.Core.Option.{some}
+use Prim.Native.Nat.{ℕ, suc, _-_, _<_, _≤_}
 use native.Mathlib.Omega.{arith}
 use native.Mathlib.Decide.{decLt, decLe, ℕ-discrete}
-use lib.ListN.{length}
 use Rattle.machine.specs.declared.Config.{Config}
 use Rattle.machine.specs.declared.Action.the-variants.{Stop, Pop}
-use Rattle.machine.specs.Run.{Machine, Entry, Instant, Outcome, stuck, over, step, after, start, returned, config, config-of}
+use Rattle.machine.specs.Run.{Machine, Entry, Outcome, stuck, over, step, after, start, returned, config, config-of}
 use Rattle.machine.specs.Verdicts.{over-base, Entered, No-end, Over, Stuck-at, Goes-on}
 use Rattle.machine.proofs.Runs.{some-same, not-none, config-over, step-stop, step-pop-last, halted-stuck, halted-over, halts-once, halted-no-more}
 use Rattle.machine.proofs.Ends.{Ends, count, ends-reach, ends-inside}

@@ -1,29 +1,28 @@
 -- A sequence of standings that starts empty and goes on by the judge's step: what holds at each of them, and that it comes to a verdict within the bound. Assumes nothing.
-use mathlib.Core.Path.{_≡_, refl, sym, subst, _∙_, ap}
-use mathlib.Core.Bool.{Bool, true}
-use mathlib.Core.List.{List, [], _∷_}
+use mathlib.Core.Path.{_≡_, refl, sym, subst, _∙_}
+use mathlib.Core.Bool.{true}
+use mathlib.Core.List.{List, []}
 use mathlib.Core.Option.{Option, none, some}
 use mathlib.Core.Logic.{_⊎_, inl, inr}
 use Prim.Native.Nat.{ℕ, zero, suc, _+_, _*_, _<_, _≤_}
 use native.Mathlib.Omega.{arith}
 use native.Mathlib.Decide.{decLt}
-use lib.ListN.{length, getD, replicate, length-replicate, getD-replicate}
+use lib.ListN.{getD, replicate, length-replicate, getD-replicate}
 use lib.Seq.{ext-getD}
 use Rattle.machine.specs.declared.Config.{Config}
 use Rattle.machine.specs.declared.Verdict.{Verdict}
 use Rattle.machine.specs.Run.{Machine, There, config, number, how-many}
-use Rattle.machine.specs.Verdicts.{nonzero}
 use Rattle.machine.proofs.Inside.{Inside}
 use Rattle.machine.proofs.Numbers.{number-below, config-at, config-at-there, number-config-at}
 use Rattle.machine.proofs.Nonzero.{nonzero-zeros, nonzero-most}
 use Rattle.chain.specs.declared.Mode.{Mode}
-use Rattle.chain.specs.declared.Mode.the-variants.{Look, Unwind, Clear, Done}
+use Rattle.chain.specs.declared.Mode.the-variants.{Look}
 use Rattle.chain.specs.declared.Record.{Record}
 use Rattle.chain.specs.Turn.{Standing, standing, turn, turn-by}
 use Rattle.chain.specs.Chain.{verdict-of}
 use Rattle.chain.proofs.Path.{Open, Among, Path, begin}
 use Rattle.chain.proofs.Again.{none-open}
-use Rattle.chain.proofs.Cells.{Seen, top-of, no-link, Cell, unseen, Running}
+use Rattle.chain.proofs.Cells.{Seen, top-of, no-link, unseen, Running}
 use Rattle.chain.proofs.Invariant.{Fitted, Shared, pushes, Settled, Phase, looking, unwinding, clearing, done, Holds}
 use Rattle.chain.proofs.Resumes.{not-among-none}
 use Rattle.chain.proofs.LookKeeps.{look-keeps}

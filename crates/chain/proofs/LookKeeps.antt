@@ -2,7 +2,7 @@
 use mathlib.Core.Path.{_≡_, refl, sym, subst, _∙_, ap}
 use mathlib.Core.Bool.{Bool, true, false, cond}
 use mathlib.Core.List.{List, [], _∷_}
-use Prim.Native.Nat.{ℕ, zero, suc, _+_, _*_, _-_, _/_, _%_, _<_, _≤_}
+use Prim.Native.Nat.{ℕ, zero, suc, _+_, _*_, _-_, _<_, _≤_}
 use native.Mathlib.Omega.{arith}
 use lib.Dec.{eqb}
 use lib.ListN.{length, getD, set}
@@ -12,20 +12,20 @@ use Rattle.machine.specs.declared.Config.{Config}
 use Rattle.machine.specs.declared.Action.{Action}
 use Rattle.machine.specs.declared.Action.the-variants.{Stop, Change, Push, Pop}
 use Rattle.machine.specs.declared.Verdict.the-variants.{Stuck, Looping}
-use Rattle.machine.specs.Run.{Machine, There, config, number, how-many, config-from}
+use Rattle.machine.specs.Run.{Machine, There, number, how-many, config-from}
 use Rattle.machine.proofs.Inside.{Inside}
 use Rattle.machine.proofs.Numbers.{number-below, config-at, config-at-number}
-use Rattle.machine.proofs.Ends.{Ends, pops, ends-map, ends-pops}
+use Rattle.machine.proofs.Ends.{Ends, pops, ends-pops}
 use Rattle.chain.specs.declared.Mode.{Mode}
-use Rattle.chain.specs.declared.Mode.the-variants.{Look, Unwind, Clear, Done}
+use Rattle.chain.specs.declared.Mode.the-variants.{Look, Unwind, Clear}
 use Rattle.chain.specs.declared.Record.{Record}
 use Rattle.chain.specs.Turn.{Standing, standing, with-now, link, accepts, resumed, counted, opened, first-look, look, turn-by}
 use Rattle.chain.specs.Turn.{closed as closed-record}
-use Rattle.chain.proofs.Path.{Open, open-as, Among, here, later, Leads, by-change, by-push, Path, begin, on, path-map, leads-ends}
+use Rattle.chain.proofs.Path.{Open, open-as, Among, here, later, by-change, by-push, Path, on, path-map}
 use Rattle.chain.proofs.Again.{first-again}
 use Rattle.chain.proofs.Endings.{path-entered, stuck-at, stuck-complete, stuck-no-end, loop-goes-on, loop-complete, loop-no-end}
-use Rattle.chain.proofs.Cells.{Seen, seen-set, top-of, Linked, Cell, unseen, still-open, closed, Running, running-open, among-seen, settle, zero-else}
-use Rattle.chain.proofs.Invariant.{Fitted, Shared, bit, pushes, Settled, Phase, looking, unwinding, clearing, Holds}
+use Rattle.chain.proofs.Cells.{Seen, seen-set, Cell, unseen, still-open, closed, Running, running-open, among-seen, settle, zero-else}
+use Rattle.chain.proofs.Invariant.{Fitted, Shared, bit, pushes, Settled, Phase, looking, clearing, Holds}
 use Rattle.chain.proofs.Shares.{moved-shared, opened-shared, number-kept}
 use Rattle.chain.proofs.Resumes.{resumed-holds, not-among-none}
 use Rattle.chain.proofs.Closes.{path-pushes, unwinding-next, closed-by}

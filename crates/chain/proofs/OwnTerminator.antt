@@ -1,5 +1,5 @@
 -- A configuration that pops is its own terminator: its head is its entry's pointer, so that a return changes nothing. Assumes nothing.
-use mathlib.Core.Path.{_≡_, refl}
+use mathlib.Core.Path.{_≡_}
 use mathlib.Core.Bool.{Bool, true, false}
 use Prim.Native.Nat.{ℕ, _+_}
 use Rattle.machine.specs.declared.Action.the-variants.{Pop}

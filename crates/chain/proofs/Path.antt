@@ -1,21 +1,18 @@
 -- The open configurations as a path from the start to the configuration looked at: each leads to the next by a change, by a push, or by a push whose entry is gone again.
 -- From it: where the run is, and how it goes on from each open configuration. Assumes nothing.
-use mathlib.Core.Path.{_≡_, refl, sym, subst, _∙_, ap}
+use mathlib.Core.Path.{_≡_, refl, subst, _∙_}
 use mathlib.Core.Bool.{Bool, true, false}
 use mathlib.Core.List.{List, [], _∷_}
-use mathlib.Core.Option.{Option, none, some}
-use mathlib.Core.Logic.{_⊎_, inl, inr}
-use Prim.Native.Nat.{ℕ, zero, suc, _+_, _-_, _<_, _≤_}
+use mathlib.Core.Option.{some}
+use Prim.Native.Nat.{ℕ, zero, suc, _+_, _-_, _<_}
 use native.Mathlib.Omega.{arith}
-use native.Mathlib.Decide.{decLt}
-use lib.ListN.{length}
 use Rattle.machine.specs.declared.Config.{Config}
 use Rattle.machine.specs.declared.Action.the-variants.{Change, Push, Pop}
-use Rattle.machine.specs.Run.{Machine, Entry, entry, Instant, after, start, config, config-of, top}
-use Rattle.machine.specs.Verdicts.{over-base, Entered}
-use Rattle.machine.proofs.Runs.{after-zero, after-then, after-front, some-same, config-over, step-change, step-push}
-use Rattle.machine.proofs.Ends.{Ends, pops, changes, pushes, count, resume, after-push, ends-inside, ends-reach, ends-map}
-use Rattle.chain.proofs.Travel.{Visit, Arrival, Travels, travels-none, travels-then}
+use Rattle.machine.specs.Run.{Machine, Entry, entry, Instant, after, config, config-of, top}
+use Rattle.machine.specs.Verdicts.{over-base}
+use Rattle.machine.proofs.Runs.{after-zero, after-front, some-same, step-change, step-push}
+use Rattle.machine.proofs.Ends.{Ends, changes, pushes, count, resume, after-push, ends-inside, ends-reach, ends-map}
+use Rattle.chain.proofs.Travel.{Visit, Travels, travels-none, travels-then}
 
 -- an open configuration, and whether a push entered it
 pub record Open : Type 0 where

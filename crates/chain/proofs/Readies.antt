@@ -1,24 +1,22 @@
 -- What holds of the chain makes its next step safe. Assumes nothing.
-use mathlib.Core.Path.{_≡_, refl, sym, subst, _∙_, ap}
-use mathlib.Core.List.{List, [], _∷_}
-use Prim.Native.Nat.{ℕ, suc, _+_, _-_, _<_, _≤_}
+use mathlib.Core.Path.{_≡_, refl, subst}
+use mathlib.Core.List.{List}
+use Prim.Native.Nat.{ℕ, _+_, _-_, _<_, _≤_}
 use native.Mathlib.Omega.{arith}
 use native.Mathlib.Decide.{decLt}
-use lib.ListN.{length, getD, List·getD-eq-default}
+use lib.ListN.{getD, List·getD-eq-default}
 use Rattle.machine.specs.declared.Config.{Config}
-use Rattle.machine.specs.declared.Sizes.{Sizes}
 use Rattle.machine.specs.Run.{Machine, There, number, how-many}
 use Rattle.machine.specs.Image.{machine, sizes-of}
 use Rattle.machine.specs.Refusals.{Unrefused}
-use Rattle.machine.specs.Verdicts.{Note, never, unended, ended, Noted}
+use Rattle.machine.specs.Verdicts.{Note, never, unended, ended}
 use Rattle.machine.proofs.Numbers.{number-below, config-at, config-at-there, number-config-at}
 use Rattle.chain.specs.declared.Mode.{Mode}
-use Rattle.chain.specs.declared.Mode.the-variants.{Look, Unwind, Clear, Done}
 use Rattle.chain.specs.Turn.{Standing}
 use Rattle.chain.specs.Ready.{Open-for, Ready}
 use Rattle.chain.proofs.Path.{Open, Among, here}
-use Rattle.chain.proofs.Cells.{Seen, top-of, Linked, no-link, a-link, Cell, unseen, still-open, closed, Running, among-there}
-use Rattle.chain.proofs.Invariant.{Shared, Settled, Phase, looking, unwinding, clearing, done, Holds}
+use Rattle.chain.proofs.Cells.{top-of, Linked, no-link, a-link, Cell, unseen, still-open, closed, among-there}
+use Rattle.chain.proofs.Invariant.{Shared, Phase, looking, unwinding, clearing, done, Holds}
 use Rattle.chain.proofs.Finish.{readings-most}
 
 top-low : {M : Machine} {work : List ℕ} {os : List Open} → Linked M work os → top-of M os ≤ how-many M

@@ -1,15 +1,13 @@
 -- A terminator is known for an entry that was pushed: its pusher resumes, or the run is over. Assumes nothing.
-use mathlib.Core.Path.{_≡_, refl, sym, subst, _∙_, ap}
+use mathlib.Core.Path.{_≡_, refl, sym, subst}
 use mathlib.Core.Bool.{Bool, true, false, cond}
 use mathlib.Core.List.{List, [], _∷_}
-use Prim.Native.Nat.{ℕ, suc, _+_, _*_, _-_, _/_, _%_, _<_, _≤_}
+use Prim.Native.Nat.{ℕ, suc, _+_, _*_, _-_, _%_, _<_, _≤_}
 use native.Mathlib.Omega.{arith}
-use lib.Dec.{eqb}
-use lib.ListN.{length, getD}
+use lib.ListN.{length}
 use borrow.Author.Tests.{ne-eqb}
 use Rattle.machine.specs.declared.Config.{Config}
 use Rattle.machine.specs.declared.Action.the-variants.{Push, Pop}
-use Rattle.machine.specs.declared.Verdict.{Verdict}
 use Rattle.machine.specs.declared.Verdict.the-variants.{Accepted, Ended}
 use Rattle.machine.specs.Run.{Machine, There, config, returned, number}
 use Rattle.machine.specs.Verdicts.{Says}
@@ -17,13 +15,13 @@ use Rattle.machine.proofs.Inside.{Inside}
 use Rattle.machine.proofs.Digits.{low-digit}
 use Rattle.machine.proofs.Ends.{Ends, resume}
 use Rattle.chain.specs.declared.Mode.{Mode}
-use Rattle.chain.specs.declared.Mode.the-variants.{Look, Unwind, Clear, Done}
+use Rattle.chain.specs.declared.Mode.the-variants.{Look, Done}
 use Rattle.chain.specs.declared.Record.{Record}
-use Rattle.chain.specs.Turn.{Standing, standing, with-now, resumed, accepts}
-use Rattle.chain.proofs.Path.{Open, open-as, Among, here, later, Leads, by-change, by-push, by-return, Path, begin, on}
+use Rattle.chain.specs.Turn.{standing, with-now, resumed}
+use Rattle.chain.proofs.Path.{Open, open-as, Among, here, later, by-push, by-return, Path, begin, on}
 use Rattle.chain.proofs.Endings.{over-at, over-complete}
 use Rattle.chain.proofs.Cells.{Seen, top-of, Linked, a-link, Running, settle, zero-else}
-use Rattle.chain.proofs.Invariant.{Fitted, Shared, bit, pushes, Settled, Phase, looking, done, Holds}
+use Rattle.chain.proofs.Invariant.{Fitted, Shared, bit, pushes, looking, done, Holds}
 
 -- the symbol of a configuration from one more than its number
 symbol-kept : {M : Machine} {r : Record} (c : Config) → Fitted M r → There M c → (number M c + 1 - 1) % r .sizes .symbols ≡ c .symbol

@@ -1,14 +1,13 @@
 -- What every phase needs, kept by each kind of step: a record moved on over the same cells, a configuration opened, the newest open one taken off. Assumes nothing.
 use mathlib.Core.Path.{_≡_, refl, sym, subst, _∙_, ap}
-use mathlib.Core.Bool.{Bool, true, false, cond}
-use mathlib.Core.List.{List, [], _∷_}
-use Prim.Native.Nat.{ℕ, suc, _+_, _*_, _-_, _/_, _%_, _<_}
+use mathlib.Core.Bool.{Bool}
+use mathlib.Core.List.{List, _∷_}
+use Prim.Native.Nat.{ℕ, suc, _+_, _-_, _<_}
 use native.Mathlib.Numerals.{add-one}
 use native.Mathlib.Omega.{arith}
 use lib.ListN.{length, getD, set, length-set}
 use lib.Seq.{getD-set-same}
 use Rattle.machine.specs.declared.Config.{Config}
-use Rattle.machine.specs.declared.Sizes.{Sizes}
 use Rattle.machine.specs.Run.{Machine, There, number, how-many, config-number}
 use Rattle.machine.specs.Verdicts.{nonzero}
 use Rattle.machine.proofs.Numbers.{number-below, number-injective}
@@ -16,9 +15,9 @@ use Rattle.machine.proofs.Nonzero.{nonzero-set-new}
 use Rattle.chain.specs.declared.Mode.{Mode}
 use Rattle.chain.specs.declared.Record.{Record}
 use Rattle.chain.specs.Turn.{Standing, standing, with-now, link, accepts}
-use Rattle.chain.proofs.Path.{Open, open-as, Among, here, later}
-use Rattle.chain.proofs.Again.{Distinct-open, none-open, one-more}
-use Rattle.chain.proofs.Cells.{top-of, Linked, no-link, a-link, linked-set, among-there}
+use Rattle.chain.proofs.Path.{Open, open-as, Among}
+use Rattle.chain.proofs.Again.{Distinct-open, one-more}
+use Rattle.chain.proofs.Cells.{top-of, Linked, a-link, linked-set, among-there}
 use Rattle.chain.proofs.Invariant.{Fitted, Shared}
 
 pub fitted-now :

@@ -1,5 +1,5 @@
 -- A step that unwinds or clears keeps what holds of the chain: the newest open configuration is closed with its terminator, or its work cell is cleared. Assumes nothing.
-use mathlib.Core.Path.{_≡_, refl, sym, subst, _∙_, ap}
+use mathlib.Core.Path.{_≡_, sym, subst, _∙_, ap}
 use mathlib.Core.Bool.{Bool, true, false, cond}
 use mathlib.Core.List.{List, [], _∷_}
 use mathlib.Core.Logic.{_⊎_, inl, inr}
@@ -7,27 +7,24 @@ use Prim.Native.Nat.{ℕ, suc, _+_, _*_, _-_, _/_, _%_, _<_, _≤_}
 use native.Mathlib.Omega.{arith}
 use native.Mathlib.Decide.{ℕ-discrete}
 use lib.Dec.{eqb}
-use lib.ListN.{length, getD, set, length-set}
+use lib.ListN.{length, getD, set}
 use lib.Seq.{getD-set-same, getD-set-other}
 use borrow.Author.Tests.{eq-eqb, ne-eqb}
 use Rattle.machine.specs.declared.Config.{Config}
-use Rattle.machine.specs.declared.Action.the-variants.{Pop}
 use Rattle.machine.specs.declared.Verdict.{Verdict}
-use Rattle.machine.specs.Run.{Machine, There, number, how-many}
-use Rattle.machine.specs.Verdicts.{nonzero}
+use Rattle.machine.specs.Run.{Machine, There, number}
 use Rattle.machine.proofs.Inside.{Inside}
 use Rattle.machine.proofs.Digits.{middle-digit}
-use Rattle.machine.proofs.Nonzero.{nonzero-set-old}
-use Rattle.machine.proofs.Numbers.{number-below, number-injective}
-use Rattle.machine.proofs.Ends.{Ends, ends-map, ends-pops}
+use Rattle.machine.proofs.Numbers.{number-below}
+use Rattle.machine.proofs.Ends.{Ends}
 use Rattle.chain.specs.declared.Mode.{Mode}
-use Rattle.chain.specs.declared.Mode.the-variants.{Look, Unwind, Clear, Done}
+use Rattle.chain.specs.declared.Mode.the-variants.{Unwind, Clear, Done}
 use Rattle.chain.specs.declared.Record.{Record}
-use Rattle.chain.specs.Turn.{Standing, standing, with-now, link, resumed, unwound, unwind, cleared, turn-by}
-use Rattle.chain.proofs.Path.{Open, open-as, Among, here, later, Path, path-map}
-use Rattle.chain.proofs.Cells.{Seen, seen-set, top-of, Linked, a-link, Running, running-close, among-seen, among-other}
-use Rattle.chain.proofs.Invariant.{Fitted, Shared, bit, pushes, Settled, Phase, clearing, done, Holds}
-use Rattle.chain.proofs.Shares.{newest-fresh, taken-shared, number-kept}
+use Rattle.chain.specs.Turn.{Standing, standing, with-now, link, unwound, unwind, cleared, turn-by}
+use Rattle.chain.proofs.Path.{Open, Among, Path}
+use Rattle.chain.proofs.Cells.{Seen, top-of, Linked, a-link, Running, among-other}
+use Rattle.chain.proofs.Invariant.{Fitted, Shared, bit, pushes, Settled, clearing, done, Holds}
+use Rattle.chain.proofs.Shares.{taken-shared, number-kept}
 use Rattle.chain.proofs.Closes.{newest-there, closed-by}
 
 -- a link's two parts

@@ -15,7 +15,7 @@ use Rattle.machine.specs.Refusals.{Unrefused}
 use Rattle.chain.specs.declared.Mode.{Mode}
 use Rattle.chain.specs.declared.Mode.the-variants.{Look, Unwind, Clear, Done}
 use Rattle.chain.specs.declared.Record.{Record}
-use Rattle.chain.specs.Turn.{Standing, standing, turn}
+use Rattle.chain.specs.Turn.{standing, turn}
 
 -- OF ANY PROGRAM: records of its own, started from the image's counts and finals and the capture's length alone
 pub record Chain (S : Type 0) : Type 0 where

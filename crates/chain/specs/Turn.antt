@@ -2,7 +2,7 @@
 -- Work cells hold the open configurations as one linked list, newest first: twice the link (one more than the number of the next older one, or 0), and one more if a push entered it.
 use mathlib.Core.Bool.{Bool, true, false, _&&_, cond}
 use mathlib.Core.List.{List}
-use Prim.Native.Nat.{ℕ, suc, _+_, _*_, _-_, _/_, _%_, _^_}
+use Prim.Native.Nat.{ℕ, _+_, _*_, _-_, _/_, _%_, _^_}
 use lib.Dec.{eqb}
 use lib.ListN.{getD, set}
 use Rattle.machine.specs.declared.Config.{Config}

@@ -7,7 +7,7 @@ use native.Mathlib.Nat.{mul-le-mul}
 use native.Mathlib.Numerals.{add-one}
 use native.Mathlib.Omega.{arith}
 use lib.ListN.{length}
-use Rattle.grammar.specs.Grammar.{rules, grammar-refusal}
+use Rattle.grammar.specs.Grammar.{grammar-refusal}
 use Rattle.grammar.specs.Classes.{cut, class-of, class-count}
 use Rattle.grammar.specs.Image.{symbols-of, built-rules}
 use Rattle.grammar.proofs.GrammarGood.{good-grammar}

@@ -8,9 +8,7 @@ use native.Mathlib.Omega.{arith}
 use lib.Dec.{ltb, leb, eqb}
 use lib.ListN.{length}
 use borrow.Author.Tests.{ltb-true, ltb-false, leb-true, eqb-true, eqb-false}
-use Rattle.machine.specs.declared.Refusal.{Refusal}
 use Rattle.machine.specs.Image.{byte}
-use Rattle.machine.specs.Refusals.{refusal}
 use Rattle.grammar.specs.declared.Expression.{Expression}
 use Rattle.grammar.specs.declared.Expression.the-variants.{Sequence, Choice, Not, Empty, Range}
 use Rattle.grammar.specs.Grammar.{rules, kind-of, b-of, c-of, expression-by, expression, rule-right, rules-from, grammar-refusal}

@@ -4,12 +4,9 @@ use mathlib.Core.List.{List}
 use Prim.Native.Nat.{ℕ, zero, suc}
 use lib.ListN.{length}
 use Rattle.machine.specs.declared.Refusal.{Refusal}
-use Rattle.machine.specs.Image.{machine}
-use Rattle.grammar.specs.Grammar.{rules, expression}
-use Rattle.grammar.specs.Image.{built}
 use Rattle.grammar.specs.declared.Built.{Built}
 use Rattle.grammar.specs.Calls.{build-refusal, Build-as, Build-says, Build-determined}
-use Rattle.grammar.specs.Promises.{Built-right, Built-parses, Few-readings}
+use Rattle.grammar.specs.Promises.{Built-parses, Few-readings}
 use Rattle.grammar.proofs.BuiltGood.{built-good}
 use Rattle.grammar.proofs.BuiltTable.{table}
 use Rattle.grammar.proofs.Parsed.{parses-right}

@@ -1,6 +1,6 @@
 -- What the theory of a grammar's machine rests on: a machine whose rules are the table's, for a grammar whose rules name only rules below m. Assumes nothing: these are definitions.
 use mathlib.Core.Path.{_≡_}
-use mathlib.Core.Bool.{Bool, true, false, _&&_}
+use mathlib.Core.Bool.{Bool, false, _&&_}
 use mathlib.Core.List.{List}
 use Prim.Native.Nat.{ℕ, suc, _+_, _*_, _<_, _≤_}
 use lib.Dec.{ltb, eqb}

@@ -1,5 +1,5 @@
 -- The image of a grammar: states 0 start, 1 work, 2 ok, 3 fail, 4 done; symbol 0, and two symbols a rule. Assumes nothing: these are definitions.
-use mathlib.Core.Bool.{Bool, true, false, _&&_, cond}
+use mathlib.Core.Bool.{Bool, false, _&&_, cond}
 use mathlib.Core.List.{List, [], _∷_, _++_}
 use Prim.Native.Nat.{ℕ, zero, suc, _+_, _*_, _/_, _%_}
 use lib.Dec.{ltb, eqb}

@@ -1,7 +1,7 @@
 -- What is promised of the image of a grammar. Each statement is a type whose proof is owed. Assumes nothing.
 use mathlib.Core.Path.{_≡_}
 use mathlib.Core.List.{List}
-use mathlib.Core.Option.{Option, none, some}
+use mathlib.Core.Option.{Option, some}
 use Prim.Native.Nat.{ℕ, _+_, _*_, _<_, _≤_}
 use lib.ListN.{length}
 use Rattle.machine.specs.declared.Config.{Config}

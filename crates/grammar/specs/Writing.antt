@@ -2,7 +2,7 @@
 use mathlib.Core.Path.{_≡_}
 use mathlib.Core.Bool.{Bool, false, _&&_}
 use mathlib.Core.List.{List, [], _∷_, _++_}
-use Prim.Native.Nat.{ℕ, suc, _+_, _*_, _<_, _≤_}
+use Prim.Native.Nat.{ℕ, _+_, _<_, _≤_}
 use lib.Dec.{ltb, leb}
 use lib.ListN.{length}
 use Rattle.machine.specs.Format
@@ -10,7 +10,7 @@ use Rattle.machine.specs.Image.{byte, Rule}
 use Rattle.grammar.specs.declared.Expression.{Expression}
 use Rattle.grammar.specs.declared.Expression.the-variants.{Sequence, Choice, Not, Empty, Range}
 use Rattle.grammar.specs.declared.RuleBytes.{RuleBytes}
-use Rattle.grammar.specs.Grammar.{max-rules, rules, grammar-refusal}
+use Rattle.grammar.specs.Grammar.{max-rules, grammar-refusal}
 use Rattle.grammar.specs.Classes.{class-of, class-count}
 use Rattle.grammar.specs.Image.{rule, little-endian, built-rules, built-length}
 

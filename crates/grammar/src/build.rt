@@ -20,7 +20,7 @@ use machine::format::MAP_OFFSET;
 use machine::format::RULE_LENGTH;
 use machine::format::RULES_OFFSET;
 ghost use mathlib.Core.Path.{_≡_};
-ghost use mathlib.Core.Bool.{_&&_, cond};
+ghost use mathlib.Core.Bool.{_&&_};
 ghost use mathlib.Core.List.{_++_, _∷_, []};
 ghost use Prim.Native.Nat.{_+_, _*_, _<_, _≤_};
 ghost use lib.Dec.{ltb};
@@ -29,7 +29,7 @@ ghost use Rattle.machine.specs.Format.{map-offset, rules-offset};
 ghost use Rattle.machine.specs.Refusals.{refusal, refuse-if};
 ghost use Rattle.grammar.specs.Grammar.{max-rules, grammar-refusal};
 ghost use Rattle.grammar.specs.Classes.{class-count as class-count-of};
-ghost use Rattle.grammar.specs.Image.{made as made-of, little-endian, symbols-of, built-rules, built-length, rules-made, built};
+ghost use Rattle.grammar.specs.Image.{made as made-of, little-endian, symbols-of, built-rules, rules-made, built};
 ghost use Rattle.grammar.specs.Calls.{build-refusal, Build-says};
 ghost use Rattle.grammar.specs.Writing.{rule-of, header-of, class-between, inside-by, Rows-ready, Write-ready};
 

@@ -6,12 +6,11 @@ use machine::format::MAP_OFFSET;
 ghost use mathlib.Core.Path.{_≡_};
 ghost use mathlib.Core.Bool.{_||_, cond};
 ghost use mathlib.Core.List.{_++_};
-ghost use Prim.Native.Nat.{_+_, _*_, _<_, _≤_};
+ghost use Prim.Native.Nat.{_+_, _<_, _≤_};
 ghost use lib.Dec.{eqb};
 ghost use lib.ListN.{length, take};
 ghost use Rattle.machine.specs.Format.{map-offset, map-length, rules-offset};
-ghost use Rattle.grammar.specs.Grammar.{max-rules};
-ghost use Rattle.grammar.specs.Classes.{cuts-at, cut as cut-of, class-of, class-count as class-count-of};
+ghost use Rattle.grammar.specs.Classes.{cuts-at, cut as cut-of, class-count as class-count-of};
 ghost use Rattle.grammar.specs.Image.{map-made};
 
 // Whether a range begins at v, or ends before it.

@@ -3,7 +3,7 @@ use crate::Expression;
 use crate::RuleBytes;
 ghost use mathlib.Core.Path.{_≡_};
 ghost use mathlib.Core.Bool.{_&&_, cond};
-ghost use Prim.Native.Nat.{_+_, _*_, _<_, _≤_};
+ghost use Prim.Native.Nat.{_+_, _*_, _<_};
 ghost use lib.Dec.{eqb};
 ghost use Rattle.grammar.specs.Grammar.{max-rules};
 ghost use Rattle.grammar.specs.Image.{rule, no-rule, first, push-first, to-second, pop-fail, work-first, ok-first, fail-first, work-second, ok-second, fail-second, row-first, row-second, row-zero};

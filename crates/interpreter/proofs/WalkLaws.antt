@@ -14,7 +14,7 @@ use Rattle.interpreter.specs.declared.Went.the-variants.{On, Halted}
 use Rattle.interpreter.specs.declared.Ran.the-variants.{Answer}
 use Rattle.interpreter.specs.PlainRun.{run-end, run-on}
 use Rattle.interpreter.specs.Calls.{answer}
-use Rattle.interpreter.specs.Stepping.{stack-of, instant-of, spot, went-by, cells-by, Ready, Stepped}
+use Rattle.interpreter.specs.Stepping.{stack-of, spot, went-by, cells-by, Ready, Stepped}
 use Rattle.interpreter.proofs.StepLaws.{run-from, Goes, Told, told}
 use Rattle.interpreter.proofs.MachineLaws.{runnable}
 

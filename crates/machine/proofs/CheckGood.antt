@@ -8,9 +8,8 @@ use native.Mathlib.Omega.{arith}
 use lib.Dec.{ltb, leb, eqb}
 use lib.ListN.{length}
 use borrow.Author.Tests.{ltb-true, ltb-false, leb-true, leb-false, eqb-true, eqb-false}
-use Rattle.machine.specs.declared.Refusal.{Refusal}
 use Rattle.machine.specs.Image.{byte, four, states, classes, symbols, rule-from}
-use Rattle.machine.specs.Refusals.{refusal, fine, or-else, pair-is, directory, count-wrong, counts, map-from, rule-bad, index-class, rules-from, rule-count, image-refusal}
+use Rattle.machine.specs.Refusals.{refusal, fine, pair-is, directory, count-wrong, counts, map-from, rule-bad, index-class, rules-from, rule-count, image-refusal}
 use Rattle.machine.proofs.Refused.{Fine, passed, held, neither}
 
 pub record Good-image (bs : List ℕ) : Type 0 where

@@ -1,13 +1,12 @@
 -- Notes speak of the run itself, each time that it enters a configuration. Assumes nothing.
-use mathlib.Core.Path.{_≡_, refl}
+use mathlib.Core.Path.{_≡_}
 use mathlib.Core.List.{List}
 use mathlib.Core.Option.{some}
 use Prim.Native.Nat.{ℕ}
-use lib.ListN.{getD}
 use Rattle.machine.specs.declared.Config.{Config}
-use Rattle.machine.specs.Run.{Machine, There, Entry, start, after, number, config-of}
-use Rattle.machine.specs.Verdicts.{over-base, Entered, Note, never, unended, ended}
-use Rattle.machine.specs.Promises.{Removed, Terminators-of-run, Same-each-time, Tells, kept, removed, Notes-of-run}
+use Rattle.machine.specs.Run.{Machine, Entry, start, after}
+use Rattle.machine.specs.Verdicts.{over-base, Note, never, unended, ended}
+use Rattle.machine.specs.Promises.{Terminators-of-run, Same-each-time, Tells, kept, removed, Notes-of-run}
 use Rattle.machine.proofs.Runs.{config-over}
 use Rattle.machine.proofs.Terminators.{terminators-of-run}
 

@@ -1,14 +1,14 @@
 -- A machine whose rules stay inside enters only configurations of its own. Assumes nothing.
-use mathlib.Core.Path.{_≡_, refl, sym, subst, _∙_, ap}
+use mathlib.Core.Path.{_≡_, refl, subst}
 use mathlib.Core.Bool.{Bool, true, false}
 use mathlib.Core.List.{List, [], _∷_}
-use mathlib.Core.Option.{Option, none, some}
+use mathlib.Core.Option.{some}
 use Prim.Native.Nat.{ℕ, zero, suc, _<_}
 use native.Mathlib.Omega.{arith}
 use Rattle.machine.specs.declared.Config.{Config}
 use Rattle.machine.specs.declared.Action.{Action}
 use Rattle.machine.specs.declared.Action.the-variants.{Stop, Change, Push, Pop}
-use Rattle.machine.specs.Run.{Machine, There, Entry, entry, Instant, instant, Outcome, stuck, over, next, returned, step, step-on, step-by, start, after, config, config-of, top}
+use Rattle.machine.specs.Run.{Machine, There, Entry, entry, Instant, next, returned, step, step-on, step-by, start, after, config, config-of, top}
 use Rattle.machine.specs.Verdicts.{Entered}
 use Rattle.machine.proofs.Inside.{Inside}
 use Rattle.machine.proofs.Runs.{after-zero, after-last, some-same}

@@ -10,7 +10,6 @@ use borrow.Author.Tests.{lt-ltb, le-ltb, ltb-false, eq-eqb, ne-eqb, eqb-true, eq
 use Rattle.machine.specs.declared.Refusal.{Refusal}
 use Rattle.machine.specs.Format
 use Rattle.machine.specs.Image.{byte}
-use Rattle.machine.specs.declared.Checked.{Checked}
 use Rattle.machine.specs.declared.Checked.the-variants.{Good, Refused}
 use Rattle.machine.specs.Refusals.{refusal, fine, or-else, refuse-if, image-refusal, capture-refusal, Unrefused}
 use Rattle.machine.specs.Calls.{checked}

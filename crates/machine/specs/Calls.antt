@@ -1,4 +1,4 @@
--- What the calls of this crate answer, as values of the code's own types. Assumes nothing: these are definitions.
+-- What a check answers, of an image or of a grammar, as a value of the code's own type. Assumes nothing: these are definitions.
 use mathlib.Core.Bool.{cond}
 use lib.Dec.{eqb}
 use Rattle.machine.specs.declared.Refusal.{Refusal}

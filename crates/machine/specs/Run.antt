@@ -1,10 +1,8 @@
 -- The step-by-step run of a machine: configurations, stack entries, one step, so many steps. Paper 000 calls it the interpreter. Assumes nothing: these are definitions.
-use mathlib.Core.Path.{_≡_}
-use mathlib.Core.Bool.{Bool, true, false, cond}
+use mathlib.Core.Bool.{Bool, cond}
 use mathlib.Core.List.{List, [], _∷_}
 use mathlib.Core.Option.{Option, none, some}
 use Prim.Native.Nat.{ℕ, zero, suc, _+_, _*_, _/_, _%_, _<_}
-use lib.ListN.{length}
 use Rattle.machine.specs.declared.Config.{Config}
 use Rattle.machine.specs.declared.Sizes.{Sizes}
 use Rattle.machine.specs.declared.Action.{Action}

@@ -1,15 +1,15 @@
 -- What a run enters, terminators, verdicts with their end configurations, and notes; all of the run alone. Assumes nothing: these are definitions.
 use mathlib.Core.Path.{_≡_}
-use mathlib.Core.Bool.{Bool, true, false, cond}
+use mathlib.Core.Bool.{true, false, cond}
 use mathlib.Core.List.{List, [], _∷_, List·Memᴰ}
-use mathlib.Core.Option.{Option, none, some}
+use mathlib.Core.Option.{some}
 use Prim.Native.Nat.{ℕ, zero, suc, _+_, _<_, _≤_}
 use lib.Dec.{eqb}
 use lib.ListN.{length, getD}
 use Rattle.machine.specs.declared.Config.{Config}
 use Rattle.machine.specs.declared.Verdict.{Verdict}
 use Rattle.machine.specs.declared.Verdict.the-variants.{Accepted, Ended, Stuck, Looping, Spent, Deep}
-use Rattle.machine.specs.Run.{Machine, There, Instant, instant, entry, Outcome, stuck, over, step, start, after, config, config-of, number}
+use Rattle.machine.specs.Run.{Machine, There, Instant, instant, entry, stuck, over, step, start, after, config-of, number}
 
 -- ENTERED: the run is in it after some number of steps
 pub record Entered (M : Machine) (c : Config) : Type 0 where

@@ -13,7 +13,6 @@ use telling::judge_reply;
 use telling::run_reply;
 use telling::tell;
 use validator::check::check_image;
-ghost use mathlib.Core.Path.{_≡_};
 ghost use Rattle.machine.specs.Refusals.{image-refusal, capture-refusal};
 ghost use Rattle.machine.specs.Calls.{checked};
 ghost use Rattle.simulator.specs.Calls.{cells-needed, needs};

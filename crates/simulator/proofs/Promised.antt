@@ -1,12 +1,9 @@
 -- The promises of judging: every unrefused image and capture has a verdict, and reported readings count the configurations entered. Assumes nothing.
 use mathlib.Core.Path.{_≡_, refl, sym, subst, _∙_}
-use mathlib.Core.Bool.{false}
 use mathlib.Core.List.{List}
-use Prim.Native.Nat.{ℕ, zero, suc, _<_, _≤_}
+use Prim.Native.Nat.{ℕ, zero, suc, _<_}
 use native.Mathlib.Omega.{arith}
-use lib.Dec.{ltb}
 use lib.ListN.{length}
-use borrow.Author.Tests.{ltb-false}
 use Rattle.machine.specs.declared.Config.{Config}
 use Rattle.machine.specs.declared.Refusal.{Refusal}
 use Rattle.machine.specs.declared.Verdict.{Verdict}
@@ -19,7 +16,6 @@ use Rattle.machine.proofs.Refused.{neither, unrefused-by}
 use Rattle.machine.proofs.Inside.{inside}
 use Rattle.machine.proofs.Reach.{entered-there}
 use Rattle.machine.proofs.Listing.{all-entered}
-use Rattle.simulator.specs.declared.Judged.{Judged}
 use Rattle.simulator.specs.declared.Judged.the-variants.{Refused, Answer}
 use Rattle.chain.specs.Chain.{Chain-judges, chain, reached}
 use Rattle.simulator.specs.Calls.{judge-refusal, Right, Judge-as, Judge-says}

@@ -1,4 +1,4 @@
--- What the call `judge` answers and leaves in the lent cells. Assumes nothing: these are definitions.
+-- What the calls `cells` and `judge` answer, and what judging leaves in the lent cells. Assumes nothing: these are definitions.
 use mathlib.Core.Path.{_≡_}
 use mathlib.Core.List.{List, _++_}
 use mathlib.Core.Bool.{cond}

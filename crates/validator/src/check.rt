@@ -19,13 +19,12 @@ use machine::format::SYMBOLS_OFFSET;
 use machine::format::ZERO_OFFSET;
 use machine::little_endian::four;
 ghost use mathlib.Core.Path.{_≡_};
-ghost use mathlib.Core.Bool.{not, _&&_, _||_, cond};
+ghost use mathlib.Core.Bool.{cond};
 ghost use Prim.Native.Nat.{_+_, _*_, _^_, _<_, _≤_};
-ghost use lib.Dec.{eqb, ltb};
+ghost use lib.Dec.{ltb};
 ghost use lib.ListN.{length};
 ghost use Rattle.machine.specs.Format.{map-offset, map-length, rules-offset, max-states};
-ghost use Rattle.machine.specs.Image.{symbols as symbols-of, rule-from};
-ghost use Rattle.machine.specs.Refusals.{refusal, fine, pair-is, directory as directory-of, count-wrong, counts as counts-of, map-from, move-off, rule-bad, rules-from, rule-count, image-refusal, capture-refusal};
+ghost use Rattle.machine.specs.Refusals.{refusal, fine, pair-is, directory as directory-of, count-wrong, counts as counts-of, map-from, rule-count, image-refusal, capture-refusal};
 ghost use Rattle.machine.specs.Calls.{checked};
 
 // Whether the directory's pair at a place is this offset and length.
