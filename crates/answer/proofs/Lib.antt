@@ -7,3 +7,4 @@ pub mod Refusing
 pub mod Answering
 pub mod Promised
 pub mod TwoCallsHold
+pub mod Answered

@@ -1,25 +1,30 @@
 -- What is promised of the answer's line. Assumes nothing.
 use mathlib.Core.Path.{_≡_, refl, sym, ap, _∙_}
-use mathlib.Core.List.{List, [], _∷_}
-use Prim.Native.Nat.{ℕ, zero, suc}
+use mathlib.Core.List.{List, [], _∷_, _++_}
+use Prim.Native.Nat.{ℕ, zero, suc, _≤_}
+use lib.Dec.{ltb}
+use lib.ListN.{length, drop}
 use native.Mathlib.Nat.{le-trans}
 use borrow.Author.Tests.{eq-eqb}
 use Rattle.machine.specs.declared.Refusal.{Refusal}
 use Rattle.machine.specs.declared.Verdict.the-variants.{Looping}
-use Rattle.machine.specs.Run.{config}
-use Rattle.machine.specs.Refusals.{refusal, or-else, capture-refusal}
+use Rattle.machine.specs.Format.{max-capture}
+use Rattle.machine.specs.Run.{config, how-many}
+use Rattle.machine.specs.Image.{machine}
+use Rattle.machine.specs.Refusals.{refusal, or-else, refuse-if, capture-refusal}
 use Rattle.simulator.specs.declared.Judged.the-variants.{Answer}
-use Rattle.simulator.specs.Calls.{Judge-determined, judge-refusal}
+use Rattle.simulator.specs.Calls.{judge-refusal}
 use Rattle.simulator.proofs.Determined.{judge-determined}
+use Rattle.grammar.specs.Grammar.{grammar-refusal}
 use Rattle.grammar.specs.Image.{built}
 use Rattle.grammar.proofs.BuiltGood.{built-good}
-use Rattle.answer.specs.Text.{digits, decimal, field, verdict-word, refused-word, refusal-line, answer-line, judged-line, written, Lined}
+use Rattle.answer.specs.Text.{digits, decimal, field, verdict-word, refused-word, refusal-line, answer-line, judged-line, written, max-line, Lined}
 use Rattle.answer.specs.Calls.{Lent, Judges, Parts-as, Parts-say, Input-as, Input-says, Answer-says}
-use Rattle.answer.specs.Promises.{Line-whole, Answer-determined, Refusals-left}
 use Rattle.answer.proofs.Writing.{written-whole}
 
-pub line-whole : Line-whole
-unfolding Line-whole
+pub line-whole :
+    (line buffer buffer-now : List ℕ) (count : ℕ) → Lined line buffer buffer-now count → max-line ≤ length buffer →
+    (count ≡ length line) × (buffer-now ≡ line ++ drop (length line) buffer)
 line-whole line buffer now count h room =
     let w = written-whole (h .holds) (le-trans (h .short) room) in
     (w .counted, w .bytes)
@@ -30,7 +35,6 @@ record Same (y z : Lent) (l k : List ℕ) : Type 0 where
   line-same : l ≡ k
 
 judges-same : (gs cs : List ℕ) (x y z : Lent) (l k : List ℕ) → Judges gs cs x y l → Judges gs cs x z k → Same y z l k
-unfolding Judge-determined
 judges-same gs cs x y z l k a b =
     let (j, n, w) = judge-determined (built gs) cs (x .notes) (x .work) (a .judged) (b .judged) (y .notes) (y .work) (z .notes) (z .work) (a .judges) (b .judges) in
     let m : y .image ≡ z .image = a .image-now ∙ sym (b .image-now) in
@@ -52,15 +56,22 @@ lined-same : (l k out p q : List ℕ) (n m : ℕ) → Lined l out p n → Lined 
 lined-same l k out p q n m a b e =
     (a .holds .bytes ∙ ap (λ (t : List ℕ). written t out) e ∙ sym (b .holds .bytes), cc (a .holds .counted, b .holds .counted))
 
-pub answer-determined : Answer-determined
-unfolding Answer-determined Answer-says Input-says
+pub answer-determined :
+    (xs : List ℕ) (x y z : Lent) (out p q : List ℕ) (n m : ℕ) → Answer-says xs x y out p n → Answer-says xs x z out q m →
+    (y ≡ z) × (p ≡ q) × (n ≡ m)
+unfolding Answer-says Input-says
 answer-determined xs x y z out p q n m a b =
     let s = input-same _ _ xs x y z (a .line) (b .line) (a .right) (b .right) in
     let (bytes, count) = lined-same (a .line) (b .line) out p q n m (a .lined) (b .lined) (s .line-same) in
     (s .lent-same, bytes, count)
 
-pub refusals-left : Refusals-left
-unfolding Refusals-left judge-refusal capture-refusal or-else
+pub refusals-left :
+    (gs cs : List ℕ) (notes work : ℕ) → grammar-refusal gs .number ≡ 0 →
+    judge-refusal (built gs) cs notes work
+    ≡ or-else (refuse-if (ltb max-capture (length cs)) (refusal 7 (length cs)))
+    (or-else (refuse-if (ltb notes (how-many (machine (built gs) cs))) (refusal 8 (how-many (machine (built gs) cs))))
+    (refuse-if (ltb work (how-many (machine (built gs) cs))) (refusal 9 (how-many (machine (built gs) cs)))))
+unfolding judge-refusal capture-refusal or-else
 refusals-left gs cs a b h = simp (eq-eqb _ _ (built-good gs h))
 
 -- TWO LINES: looping 2 1 1 1, and refused 14 8

@@ -2,8 +2,7 @@
 use mathlib.Core.Path.{_≡_, refl, sym, subst, _∙_, ap}
 use mathlib.Core.List.{List, _++_}
 use mathlib.Core.Option.{Option, some}
-use Prim.Native.Nat.{ℕ, zero, suc, _+_, _≤_}
-use native.Mathlib.Omega.{arith}
+use Prim.Native.Nat.{ℕ, _<_, _≤_}
 use lib.ListN.{length, take, drop}
 use lib.Seq.{take-at}
 use borrow.Author.Tests.{le-ltb, eq-eqb}
@@ -12,13 +11,13 @@ use Rattle.machine.specs.declared.Refusal.{Refusal}
 use Rattle.machine.specs.declared.Verdict.{Verdict}
 use Rattle.machine.specs.declared.Verdict.the-variants.{Accepted, Ended, Stuck, Looping, Spent, Deep}
 use Rattle.machine.specs.Format
-use Rattle.machine.specs.Image.{machine}
+use Rattle.machine.specs.Image.{byte, machine}
 use Rattle.machine.specs.Verdicts.{Says}
 use Rattle.machine.specs.Refusals.{or-else, refuse-if, image-refusal}
-use Rattle.machine.specs.Promises.{One-verdict}
 use Rattle.machine.proofs.OneVerdict.{one-verdict}
 use Rattle.simulator.specs.declared.Judged.{Judged}
-use Rattle.simulator.specs.Calls.{judge-refusal, Right, Judge-as, Judge-says}
+use Rattle.simulator.specs.Calls.{Right, Judge-says}
+use Rattle.simulator.proofs.Answered.{judged-right}
 use Rattle.simulator.proofs.JudgeRefusals.{not-refused}
 use Rattle.machine.proofs.Refused.{then-fine}
 use Rattle.grammar.specs.declared.Built.{Built}
@@ -26,25 +25,26 @@ use Rattle.grammar.specs.declared.Built.the-variants.{Image}
 use Rattle.grammar.specs.Grammar.{expression, grammar-refusal}
 use Rattle.grammar.specs.Parsing.{Parses}
 use Rattle.grammar.specs.Image.{built, built-length}
-use Rattle.grammar.specs.Calls.{build-refusal, Build-as, Build-says}
-use Rattle.grammar.specs.Promises.{Built-right, Built-parses, Few-readings}
+use Rattle.grammar.specs.Calls.{build-refusal, Build-says}
 use Rattle.grammar.proofs.BuiltImage.{built-length-is}
+use Rattle.grammar.proofs.Answered.{build-answered}
+use Rattle.grammar.proofs.BuiltGood.{built-good}
+use Rattle.grammar.proofs.Parsed.{Parses-right}
 use Rattle.grammar.proofs.Promised.{built-parses, few-readings}
-use Rattle.answer.specs.TwoCalls.{As-parsed, Gets, Enough, Build-then-judge}
+use Rattle.answer.specs.TwoCalls.{As-parsed, Gets, Enough}
 
 -- the verdict of a grammar's machine is as parsing says
-parsed-as : {gs cs : List ℕ} → Built-right gs cs → (v : Verdict) (d : Config) → Says (machine (built gs) cs) v d → As-parsed gs cs v
-parsed-as b Accepted d s = b .accepted-parses d s
-parsed-as b Ended d s = b .never-ended d s
-parsed-as b Stuck d s = b .stuck-parses d s
-parsed-as b Looping d s = λ o p. b .parses-halts o p (s .0)
-parsed-as b Spent d s = s
-parsed-as b Deep d s = s
+parsed-as : (gs cs : List ℕ) → Parses-right (machine (built gs) cs) (expression gs) cs → (v : Verdict) (d : Config) → Says (machine (built gs) cs) v d → As-parsed gs cs v
+parsed-as gs cs b Accepted d s = b .accepted-parses d s
+parsed-as gs cs b Ended d s = b .never-ended d s
+parsed-as gs cs b Stuck d s = b .stuck-parses d s
+parsed-as gs cs b Looping d s = λ o p. b .parses-halts o p (s .0)
+parsed-as gs cs b Spent d s = s
+parsed-as gs cs b Deep d s = s
 
 -- and no other verdict is
-module _ {gs cs : List ℕ} (b : Built-right gs cs) (v : Verdict) (d : Config) (s : Says (machine (built gs) cs) v d) where
+module _ (gs cs : List ℕ) (b : Parses-right (machine (built gs) cs) (expression gs) cs) (v : Verdict) (d : Config) (s : Says (machine (built gs) cs) v d) where
   same-as : (w : Verdict) → (e : Config) × Says (machine (built gs) cs) w e → w ≡ v
-  unfolding One-verdict
   same-as w (e, t) = one-verdict (machine (built gs) cs) w v e d t s .0
 
   looping-only : ((o : Option ℕ) → Parses (expression gs) cs 0 0 o → ⊥) → (w : Verdict) → As-parsed gs cs w → w ≡ v → Looping ≡ v
@@ -62,22 +62,23 @@ module _ {gs cs : List ℕ} (b : Built-right gs cs) (v : Verdict) (d : Config) (
   only-as Accepted p = same-as Accepted (b .parses-accepted p)
   only-as Ended p = absurd p
   only-as Stuck p = same-as Stuck (b .parses-stuck (p .0) (p .1) (p .2))
-  only-as Looping p = looping-only p v (parsed-as b v d s) refl
+  only-as Looping p = looping-only p v (parsed-as gs cs b v d s) refl
   only-as Spent p = absurd p
   only-as Deep p = absurd p
 
-gets : (gs cs image notes notes-now work work-now : List ℕ) (r : Judged) → Enough gs cs image notes work → Right (built gs) cs r notes notes-now work work-now → Gets gs cs r
-unfolding Built-parses Few-readings
-gets gs cs image notes notes-now work work-now r e j =
-    let b = built-parses gs cs (e .good) (e .bytes) in
+pub gets :
+    (gs cs notes notes-now work work-now : List ℕ) (r : Judged) → grammar-refusal gs .number ≡ 0 → ((i : ℕ) → byte cs i < 256) →
+    Right (built gs) cs r notes notes-now work work-now → Gets gs cs r
+gets gs cs notes notes-now work work-now r good bytes j =
+    let b = built-parses gs cs good bytes in
     record {
       verdict = j .verdict;
       readings = j .readings;
       end = j .end;
       answers = j .answers;
-      parsed = parsed-as b (j .verdict) (j .end) (j .says);
-      only = only-as b (j .verdict) (j .end) (j .says);
-      few = rw (j .counted) (few-readings gs cs (j .notes) (e .good) (e .bytes) (j .noted));
+      parsed = parsed-as gs cs b (j .verdict) (j .end) (j .says);
+      only = only-as gs cs b (j .verdict) (j .end) (j .says);
+      few = rw (j .counted) (few-readings gs cs (j .notes) good bytes (j .noted));
     }
 
 -- with enough room neither call refuses
@@ -85,45 +86,28 @@ build-fine : (gs : List ℕ) (n : ℕ) → grammar-refusal gs .number ≡ 0 → 
 unfolding build-refusal or-else refuse-if
 build-fine gs n good room = rw (eq-eqb (grammar-refusal gs .number) 0 good, le-ltb n (built-length gs) room)
 
-built-as : (k : ℕ) (f : Refusal) (gs : List ℕ) (b : Built) (a a-now : List ℕ) → k ≡ 0 → Build-as k f gs b a a-now → (b ≡ Image (built-length gs)) × (a-now ≡ built gs ++ drop (built-length gs) a)
-unfolding Build-as
-built-as zero f gs b a a-now e s = s
-built-as (suc k) f gs b a a-now e s = absurd (omega arith)
-
-judged-as :
-    (k : ℕ) (f : Refusal) (bs cs : List ℕ) (r : Judged) (a a-now b b-now : List ℕ) → k ≡ 0 → Judge-as k f bs cs r a a-now b b-now →
-    Right bs cs r a a-now b b-now
-unfolding Judge-as
-judged-as zero f bs cs r a a-now b b-now e s = s
-judged-as (suc k) f bs cs r a a-now b b-now e s = absurd (omega arith)
-
-image-good : (gs cs : List ℕ) {image notes work : List ℕ} → Enough gs cs image notes work → image-refusal (built gs) .number ≡ 0
-unfolding Built-parses
-image-good gs cs e = built-parses gs cs (e .good) (e .bytes) .good
-
-pub build-then-judge : Build-then-judge
-unfolding Build-then-judge Build-says Judge-says
+pub build-then-judge :
+    (gs cs image image-now notes notes-now work work-now : List ℕ) (b : Built) (r : Judged) → Enough gs cs image notes work →
+    Build-says gs b image image-now → Judge-says (take (built-length gs) image-now) cs r notes notes-now work work-now →
+    (b ≡ Image (built-length gs)) × Gets gs cs r
 build-then-judge gs cs image image-now notes notes-now work work-now b r e built-says judge-says =
-    (image-built .0, gets gs cs image notes notes-now work work-now r e right)
+    (image-built .0, gets gs cs notes notes-now work work-now r (e .good) (e .bytes) right)
   where
     image-built : (b ≡ Image (built-length gs)) × (image-now ≡ built gs ++ drop (built-length gs) image)
-    image-built =
-        built-as (build-refusal gs (length image) .number) (build-refusal gs (length image)) gs b image image-now
-        (build-fine gs (length image) (e .good) (e .image-room))
-        built-says
+    image-built = build-answered gs b image image-now (build-fine gs (length image) (e .good) (e .image-room)) built-says
 
     same : take (built-length gs) image-now ≡ built gs
     same =
         ap (take (built-length gs)) (image-built .1) ∙ take-at (built gs) (drop (built-length gs) image) (built-length gs) (built-length-is gs)
 
     good : image-refusal (built gs) .number ≡ 0
-    good = image-good gs cs e
+    good = built-good gs (e .good)
 
     says : Judge-says (built gs) cs r notes notes-now work work-now
     says = subst (λ (bs : List ℕ). Judge-says bs cs r notes notes-now work work-now) same judge-says
 
     right : Right (built gs) cs r notes notes-now work work-now
     right =
-        judged-as (judge-refusal (built gs) cs (length notes) (length work) .number) (judge-refusal (built gs) cs (length notes) (length work)) (built gs) cs r notes notes-now work work-now
+        judged-right (built gs) cs r notes notes-now work work-now
         (ap (λ (f : Refusal). f .number) (not-refused (built gs) cs (length notes) (length work) (ap (λ (f : Refusal). f .number) (sym (then-fine (built gs) (length cs) (image-refusal (built gs)) refl good (e .short)))) (e .notes-room) (e .work-room)))
         says

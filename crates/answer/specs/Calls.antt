@@ -2,9 +2,11 @@
 use mathlib.Core.Path.{_≡_}
 use mathlib.Core.List.{List, _++_}
 use Prim.Native.Nat.{ℕ, zero, suc}
-use lib.ListN.{length, drop}
+use lib.ListN.{length, take, drop}
 use Rattle.machine.specs.declared.Refusal.{Refusal}
 use Rattle.simulator.specs.declared.Judged.{Judged}
+use Rattle.machine.specs.Run.{how-many}
+use Rattle.machine.specs.Image.{machine}
 use Rattle.machine.specs.Refusals.{or-else}
 use Rattle.simulator.specs.Calls.{judge-refusal, Judge-says}
 use Rattle.grammar.specs.Image.{built, built-length}
@@ -47,6 +49,10 @@ lent-refusal gs cs x = parts-refusal gs cs (length (x .image)) (length (x .notes
 unfoldable pub Parts-say : (grammar capture : List ℕ) → (before after : Lent) → (line : List ℕ) → Type 0
 Parts-say gs cs x y l = Parts-as (lent-refusal gs cs x .number) (lent-refusal gs cs x) gs cs x y l
 
+-- the first refusal of an input: 14, then those of its grammar and capture
+unfoldable pub answer-refusal : (input : List ℕ) → Lent → Refusal
+answer-refusal xs x = or-else (input-refusal xs) (lent-refusal (input-grammar xs) (input-capture xs) x)
+
 -- of an input
 unfoldable pub Input-as : (number : ℕ) → Refusal → (input : List ℕ) → (before after : Lent) → (line : List ℕ) → Type 0
 Input-as zero f xs x y l = Parts-say (input-grammar xs) (input-capture xs) x y l
@@ -64,3 +70,14 @@ pub record Told (Right : List ℕ → Type 0) (out out-now : List ℕ) (count : 
 -- THE CALL
 unfoldable pub Answer-says : (input : List ℕ) → (before after : Lent) → (out out-now : List ℕ) → (count : ℕ) → Type 0
 Answer-says xs x y o p n = Told (Input-says xs x y) o p n
+
+-- two lendings of the same lengths, and what two calls have in common that left the same in all cells that a call writes
+pub record Same-room (x z : Lent) : Type 0 where
+  pub image : length (x .image) ≡ length (z .image)
+  pub notes : length (x .notes) ≡ length (z .notes)
+  pub work : length (x .work) ≡ length (z .work)
+
+pub record Same-cells (gs cs : List ℕ) (y w : Lent) : Type 0 where
+  pub image : take (built-length gs) (y .image) ≡ take (built-length gs) (w .image)
+  pub notes : take (how-many (machine (built gs) cs)) (y .notes) ≡ take (how-many (machine (built gs) cs)) (w .notes)
+  pub work : take (how-many (machine (built gs) cs)) (y .work) ≡ take (how-many (machine (built gs) cs)) (w .work)

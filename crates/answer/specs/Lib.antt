@@ -2,5 +2,4 @@
 pub mod Text
 pub mod Input
 pub mod Calls
-pub mod Promises
 pub mod TwoCalls

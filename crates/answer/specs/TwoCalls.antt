@@ -1,9 +1,9 @@
--- What a user gets who builds an image of a grammar and judges a capture by it: one statement about the two calls. Assumes nothing: these are definitions.
+-- What a user gets who builds an image of a grammar and judges a capture by it, by the two calls or by the program. Assumes nothing: these are definitions.
 use mathlib.Core.Path.{_≡_}
 use mathlib.Core.List.{List}
 use mathlib.Core.Option.{Option, some}
 use Prim.Native.Nat.{ℕ, _+_, _*_, _<_, _≤_}
-use lib.ListN.{length, take}
+use lib.ListN.{length}
 use Rattle.machine.specs.declared.Config.{Config}
 use Rattle.machine.specs.declared.Verdict.{Verdict}
 use Rattle.machine.specs.declared.Verdict.the-variants.{Accepted, Ended, Stuck, Looping, Spent, Deep}
@@ -12,13 +12,10 @@ use Rattle.machine.specs.Run.{how-many}
 use Rattle.machine.specs.Image.{byte, machine}
 use Rattle.simulator.specs.declared.Judged.{Judged}
 use Rattle.simulator.specs.declared.Judged.the-variants.{Answer}
-use Rattle.simulator.specs.Calls.{Judge-says}
-use Rattle.grammar.specs.declared.Built.{Built}
-use Rattle.grammar.specs.declared.Built.the-variants.{Image}
 use Rattle.grammar.specs.Grammar.{rules, expression, grammar-refusal}
 use Rattle.grammar.specs.Parsing.{Parses}
 use Rattle.grammar.specs.Image.{built, built-length}
-use Rattle.grammar.specs.Calls.{Build-says}
+use Rattle.answer.specs.Text.{answer-line}
 
 -- accepted: parsing from rule 0 consumes all; stuck: it has another result; looping: it has none; nothing else is said
 abbrev pub As-parsed : (grammar capture : List ℕ) → Verdict → Type 0
@@ -39,6 +36,16 @@ pub record Gets (gs cs : List ℕ) (r : Judged) : Type 0 where
   pub only : (v : Verdict) → As-parsed gs cs v → v ≡ verdict
   pub few : readings ≤ 6 * rules gs * (length cs + 1) + 2
 
+-- the same told by the program: the line is that of a verdict as parsing says, with few readings
+pub record Line-parsed (gs cs line : List ℕ) : Type 0 where
+  pub verdict : Verdict
+  pub readings : ℕ
+  pub end : Config
+  pub says : line ≡ answer-line verdict readings end
+  pub parsed : As-parsed gs cs verdict
+  pub only : (v : Verdict) → As-parsed gs cs v → v ≡ verdict
+  pub few : readings ≤ 6 * rules gs * (length cs + 1) + 2
+
 -- a grammar that is not refused, a capture of bytes that is not too long, and enough room
 pub record Enough (gs cs image notes work : List ℕ) : Type 0 where
   pub good : grammar-refusal gs .number ≡ 0
@@ -47,10 +54,3 @@ pub record Enough (gs cs image notes work : List ℕ) : Type 0 where
   pub image-room : built-length gs ≤ length image
   pub notes-room : how-many (machine (built gs) cs) ≤ length notes
   pub work-room : how-many (machine (built gs) cs) ≤ length work
-
--- building, then judging by the image that was built
-unfoldable pub Build-then-judge : Type 0
-Build-then-judge =
-    (gs cs image image-now notes notes-now work work-now : List ℕ) (b : Built) (r : Judged) → Enough gs cs image notes work →
-    Build-says gs b image image-now → Judge-says (take (built-length gs) image-now) cs r notes notes-now work work-now →
-    (b ≡ Image (built-length gs)) × Gets gs cs r

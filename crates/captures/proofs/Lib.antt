@@ -2,3 +2,4 @@
 pub mod ChainEnd
 pub mod RowLaws
 pub mod CapturesHold
+pub mod ProgramPrints

@@ -16,7 +16,7 @@ use Rattle.machine.specs.Run.{Machine, start}
 use Rattle.machine.specs.Image.{machine, byte}
 use Rattle.machine.specs.Refusals.{Unrefused, image-refusal}
 use Rattle.machine.specs.Verdicts.{Says, All-entered}
-use Rattle.interpreter.specs.PlainRun.{Run-end, run-end, run-on, True-end, Plain-run-true}
+use Rattle.interpreter.specs.PlainRun.{Run-end, run-end, run-on, True-end}
 use Rattle.interpreter.proofs.Promised.{plain-run-true}
 use Rattle.chain.specs.Turn.{Standing}
 use Rattle.chain.specs.Chain.{verdict-of}
@@ -99,7 +99,7 @@ said r =
 
 -- THE LAW, by parts
 run-ends : (M : Machine) (v : Verdict) (n : ℕ) (d : Config) → run-on enough M 0 enough start ≡ run-end v n d → Takes M v n d
-unfolding Plain-run-true enough
+unfolding enough
 run-ends M v n d e =
     record {
       budget = enough;

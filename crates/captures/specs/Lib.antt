@@ -1,2 +1,3 @@
 -- The ten worked captures.
 pub mod Captures
+pub mod ProgramLine

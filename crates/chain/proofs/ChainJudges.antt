@@ -15,7 +15,7 @@ use Rattle.machine.proofs.Inside.{inside}
 use Rattle.machine.proofs.Reach.{entered-there}
 use Rattle.chain.specs.declared.Record.{Record}
 use Rattle.chain.specs.Turn.{Standing, standing, turn, accepts}
-use Rattle.chain.specs.Chain.{turned, begun, reached, begin-record, chain, Chain-judges}
+use Rattle.chain.specs.Chain.{turned, begun, reached, begin-record, chain, Judges}
 use Rattle.chain.proofs.Invariant.{Holds}
 use Rattle.machine.proofs.Listing.{all-entered}
 use Rattle.chain.specs.Ready.{Ready}
@@ -113,8 +113,8 @@ one-reading bs cs u n l =
     let ready = ready-at bs cs u n l in
     rw (standing-goes bs cs n) (turn-adds ready (standing-at bs cs n .now-at .mode) (ready .open-one) .one-more)
 
-pub chain-judges : Chain-judges chain
-unfolding Chain-judges chain standing-at
+pub chain-judges : (bs cs : List ℕ) → Unrefused bs cs → Judges Record chain bs cs
+unfolding chain standing-at
 chain-judges bs cs u =
     let f = finished bs cs u in
     let last = f .holds (f .steps) (omega arith) in

@@ -7,12 +7,11 @@ use native.Mathlib.Decide.{decLt}
 use native.Mathlib.Omega.{arith}
 use Rattle.machine.specs.Refusals.{Unrefused}
 use Rattle.chain.specs.declared.Record.{Record}
-use Rattle.chain.specs.Chain.{Judges, Chain-judges, chain, reached}
+use Rattle.chain.specs.Chain.{Judges, chain, reached}
 use Rattle.chain.specs.Ready.{Ready}
 use Rattle.chain.proofs.ChainJudges as Theory
 
 pub chain-judges : (bs cs : List ℕ) → Unrefused bs cs → Judges Record chain bs cs
-unfolding Chain-judges
 chain-judges bs cs u = Theory.chain-judges bs cs u
 
 -- the verdict stands at the theory's step and at none before the chain's

@@ -1,6 +1,5 @@
 -- The judge's own steps as one chain from a start record, and what is owed of it. Each statement is a type whose proof is owed. Assumes nothing.
 use mathlib.Core.Path.{_≡_}
-use mathlib.Core.Bool.{true}
 use mathlib.Core.List.{List}
 use mathlib.Core.Option.{Option, none, some}
 use Prim.Native.Nat.{ℕ, zero, suc, _+_, _*_, _≤_, _<_}
@@ -8,14 +7,14 @@ use lib.ListN.{length, take, drop, replicate}
 use Rattle.machine.specs.declared.Config.{Config}
 use Rattle.machine.specs.declared.Verdict.{Verdict}
 use Rattle.machine.specs.Format
-use Rattle.machine.specs.Run.{config, how-many}
+use Rattle.machine.specs.Run.{how-many}
 use Rattle.machine.specs.Image.{byte, four, machine}
 use Rattle.machine.specs.Verdicts.{Says, Noted, nonzero, All-entered}
-use Rattle.machine.specs.Refusals.{Unrefused}
 use Rattle.chain.specs.declared.Mode.{Mode}
 use Rattle.chain.specs.declared.Mode.the-variants.{Look, Unwind, Clear, Done}
 use Rattle.chain.specs.declared.Record.{Record}
 use Rattle.chain.specs.Turn.{standing, turn}
+use Rattle.chain.specs.Ready.{start-record}
 
 -- OF ANY PROGRAM: records of its own, started from the image's counts and finals and the capture's length alone
 pub record Chain (S : Type 0) : Type 0 where
@@ -71,21 +70,9 @@ pub record Judges (S : Type 0) (c : Chain S) (bs cs : List ℕ) : Type 0 where
       c .readings (reached c bs cs n .now-at) ≡ nonzero (how-many (machine bs cs)) (reached c bs cs n .notes)
   pub entered : All-entered (machine bs cs) (c .readings (reached c bs cs steps .now-at))
 
-unfoldable pub Chain-judges : {S : Type 0} → Chain S → Type 0
-Chain-judges {S} c = (bs cs : List ℕ) → Unrefused bs cs → Judges S c bs cs
-
 -- THE PROGRAM'S CHAIN
 unfoldable pub begin-record : (counts : List ℕ) → (capture-length : ℕ) → Record
-begin-record ks n =
-    record {
-      sizes = record { classes = byte ks 1; symbols = byte ks 2; places = n + 2 };
-      finals = four ks 4;
-      mode = Look;
-      at = config 0 0 0;
-      pushed = true;
-      top = 0;
-      readings = 0;
-    }
+begin-record ks n = start-record (record { classes = byte ks 1; symbols = byte ks 2; places = n + 2 }) (four ks 4)
 
 unfoldable pub verdict-of : Mode → Option Verdict
 verdict-of Look = none

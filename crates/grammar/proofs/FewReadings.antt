@@ -15,7 +15,7 @@ use Rattle.grammar.specs.Parsing.{Rules}
 use Rattle.grammar.proofs.Table.{Table}
 use Rattle.grammar.proofs.Leads.{In-box, At-bottom}
 use Rattle.grammar.proofs.Entered.{Shape, the-start, in-box, the-last, entered-shape, last-same}
-use Rattle.grammar.proofs.Pigeonhole.{pigeonhole}
+use Rattle.machine.proofs.Pigeonhole.{pigeonhole}
 
 -- a number by three digits has no others
 digits-same :

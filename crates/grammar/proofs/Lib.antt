@@ -13,11 +13,11 @@ pub mod TableRows
 pub mod ParseRuns
 pub mod RunParses
 pub mod Parsed
-pub mod Pigeonhole
 pub mod Leads
 pub mod Entered
 pub mod FewReadings
 pub mod Promised
+pub mod Answered
 pub mod CodeGrammar
 pub mod CodeClasses
 pub mod CodeWriting

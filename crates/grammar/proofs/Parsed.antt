@@ -13,7 +13,6 @@ use Rattle.machine.specs.declared.Config.{Config}
 use Rattle.machine.specs.declared.Verdict.the-variants.{Accepted, Ended, Stuck}
 use Rattle.machine.specs.Run.{Machine, Entry, entry, Instant, stuck, over, step, start, after, config, config-of}
 use Rattle.machine.specs.Verdicts.{Over, Says, Goes-on}
-use Rattle.machine.specs.Promises.{One-verdict}
 use Rattle.machine.proofs.Runs.{
   after-zero,
   after-front,
@@ -33,7 +32,7 @@ use Rattle.grammar.proofs.Table.{Table}
 use Rattle.grammar.proofs.ParseRuns.{working, popped, Ends-inside, Came, came}
 use Rattle.grammar.proofs.RunParses.{Known, parses-or-goes}
 
--- what Built-right promises of an image of a grammar, but for its refusal, of a machine
+-- THE SECOND DEMAND for grammars, of any machine: accepted where parsing from rule 0 consumes all, stuck where it has another result, without end where it has none; never ended
 pub record Parses-right (M : Machine) (E : Rules) (cs : List ℕ) : Type 0 where
   pub accepted-parses : (d : Config) → Says M Accepted d → Parses E cs 0 0 (some (length cs))
   pub parses-accepted : Parses E cs 0 0 (some (length cs)) → (d : Config) × Says M Accepted d
@@ -151,7 +150,6 @@ module _ {M : Machine} {E : Rules} {m : ℕ} {cs : List ℕ} (t : Table M E m cs
 
   -- the two verdicts that a result leads to; a run has one only
   when-accepted : {d : Config} {o : Option ℕ} → Says M Accepted d → Parses E cs 0 0 o → o ≡ some (length cs)
-  unfolding One-verdict
   when-accepted {d} {o} s p = go (which o (length cs))
     where
       go : Dec (o ≡ some (length cs)) → o ≡ some (length cs)
@@ -163,7 +161,6 @@ module _ {M : Machine} {E : Rules} {m : ℕ} {cs : List ℕ} (t : Table M E m cs
           absurd (omega arith)
 
   when-stuck : {d : Config} {o : Option ℕ} → Says M Stuck d → Parses E cs 0 0 o → o ≡ some (length cs) → ⊥
-  unfolding One-verdict
   when-stuck {d} {o} s p whole =
       let (e, v) = accepts (rw whole at p) in
       let same : Stuck ≡ Accepted = one-verdict M Stuck Accepted d e s v .0 in
@@ -171,7 +168,6 @@ module _ {M : Machine} {E : Rules} {m : ℕ} {cs : List ℕ} (t : Table M E m cs
       omega arith
 
   when-ended : {d : Config} {o : Option ℕ} → Says M Ended d → Parses E cs 0 0 o → ⊥
-  unfolding One-verdict
   when-ended {d} {o} s p = go (which o (length cs))
     where
       go : Dec (o ≡ some (length cs)) → ⊥

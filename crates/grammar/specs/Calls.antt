@@ -22,7 +22,3 @@ Build-as (suc n) f gs r a b = (r ≡ Refused f) × (b ≡ a)
 
 unfoldable pub Build-says : (grammar : List ℕ) → Built → (a a-now : List ℕ) → Type 0
 Build-says gs r a b = Build-as (build-refusal gs (length a) .number) (build-refusal gs (length a)) gs r a b
-
--- answer and bytes are determined by the input
-unfoldable pub Build-determined : Type 0
-Build-determined = (gs a : List ℕ) (r s : Built) (x y : List ℕ) → Build-says gs r a x → Build-says gs s a y → (r ≡ s) × (x ≡ y)

@@ -1,8 +1,7 @@
--- What a reader must believe of grammars: their bytes and refusals, parsing, byte classes, the image built of a grammar, and what is promised of it.
+-- What a reader must believe of grammars: their bytes and refusals, parsing, byte classes, and the image built of a grammar.
 pub mod Grammar
 pub mod Parsing
 pub mod Classes
 pub mod Image
-pub mod Promises
 pub mod Writing
 pub mod Calls

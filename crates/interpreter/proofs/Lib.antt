@@ -1,6 +1,7 @@
 -- Laws that the proofs of this crate cite, by topic.
 pub mod Heights
 pub mod Promised
+pub mod Answered
 pub mod CellLaws
 pub mod RunSteps
 pub mod ReadyLaws

@@ -12,8 +12,8 @@ use Rattle.machine.specs.declared.Refusal.{Refusal}
 use Rattle.machine.specs.declared.Verdict.the-variants.{Accepted, Ended, Deep}
 use Rattle.machine.specs.Run.{Machine, Instant, Outcome, stuck, over, next, step, start, after, config-of}
 use Rattle.interpreter.specs.declared.Ran.{Ran}
-use Rattle.interpreter.specs.PlainRun.{Run-end, run-end, ended-as, spent-or, run-went, run-on, Halts-as, last-pop, True-end, Plain-run-true}
-use Rattle.interpreter.specs.Calls.{Run-as, Run-says, Run-determined}
+use Rattle.interpreter.specs.PlainRun.{Run-end, run-end, ended-as, spent-or, run-went, run-on, Halts-as, last-pop, True-end}
+use Rattle.interpreter.specs.Calls.{Run-as, Run-says}
 use Rattle.machine.proofs.Runs.{after-next}
 use Rattle.interpreter.proofs.Heights.{pushes}
 
@@ -87,16 +87,6 @@ module _ (M : Machine) (b k : ℕ) where
   run-true (suc f) n x h e =
       went n x (λ y. run-on f M (suc n) k y) h (omega arith) (λ y g. run-true f (suc n) y g (omega arith)) (step M x) refl
 
-pub plain-run-true : Plain-run-true
-unfolding Plain-run-true after start
+pub plain-run-true : (M : Machine) (budget cells : ℕ) → 0 < cells → True-end M budget cells (run-on budget M 0 cells start)
+unfolding after start
 plain-run-true M b k h = run-true M b k b 0 start (record { comes = refl; low = omega arith; within = omega arith }) (omega arith)
-
-determined-as :
-    (n : ℕ) (f : Refusal) (e : Run-end) (r s : Ran) (a x y : List ℕ) → Run-as n f e r a x → Run-as n f e s a y → (r ≡ s) × (x ≡ y)
-unfolding Run-as
-determined-as zero f e r s a x y h g = (h .0 ∙ sym (g .0), h .1 ∙ sym (g .1))
-determined-as (suc n) f e r s a x y h g = (h .0 ∙ sym (g .0), h .1 ∙ sym (g .1))
-
-pub run-determined : Run-determined
-unfolding Run-determined Run-says
-run-determined bs cs a n r s x y h g = determined-as _ _ _ r s a x y h g

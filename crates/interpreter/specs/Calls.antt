@@ -28,8 +28,3 @@ unfoldable pub Run-says : (image capture : List ℕ) → (budget : ℕ) → Ran 
 Run-says bs cs n r a b =
     Run-as (run-refusal bs cs (length a) .number) (run-refusal bs cs (length a))
     (run-on n (machine bs cs) 0 (length a) start) r a b
-
--- answer and cells are determined by the input
-unfoldable pub Run-determined : Type 0
-Run-determined =
-    (bs cs a : List ℕ) (n : ℕ) (r s : Ran) (x y : List ℕ) → Run-says bs cs n r a x → Run-says bs cs n s a y → (r ≡ s) × (x ≡ y)

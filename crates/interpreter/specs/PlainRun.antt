@@ -67,6 +67,3 @@ pub record True-end (M : Machine) (budget cells : ℕ) (r : Run-end) : Type 0 wh
   pub comes : after before M start ≡ some place
   pub is : config-of place ≡ r .reached
   pub halts : Halts-as (r .verdict) M budget cells (r .steps) place
-
-unfoldable pub Plain-run-true : Type 0
-Plain-run-true = (M : Machine) (budget cells : ℕ) → 0 < cells → True-end M budget cells (run-on budget M 0 cells start)

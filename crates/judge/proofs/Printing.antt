@@ -8,14 +8,13 @@ use lib.ListN.{length, take}
 use lib.Seq.{take-at}
 use Rattle.answer.specs.Text.{max-line}
 use Rattle.answer.specs.Calls.{Lent, Input-says, Answer-says}
-use Rattle.answer.specs.Promises.{Line-whole}
 use Rattle.answer.proofs.Promised.{line-whole}
 use Rattle.judge.specs.Program.{Prints}
 
 pub prints :
     (xs : List ℕ) (x y : Lent) (out out-now : List ℕ) (count : ℕ) → length out ≡ max-line → length out-now ≡ length out → Answer-says xs x y out out-now count →
     Prints xs x y out-now count
-unfolding Answer-says Line-whole
+unfolding Answer-says
 prints xs x y out out-now count room same t =
     let (counted, bytes) = line-whole (t .line) out out-now count (t .lined) (le-of-eq (sym room)) in
     let whole : take count out-now ≡ t .line = ap (λ (l : List ℕ). take count l) bytes ∙ take-at (t .line) _ count (sym counted) in

@@ -16,4 +16,5 @@ pub mod OneVerdict
 pub mod Notes
 pub mod NotesOfRun
 pub mod Reach
+pub mod Pigeonhole
 pub mod Listing

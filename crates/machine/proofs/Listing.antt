@@ -1,8 +1,8 @@
 -- The list of the configurations entered, each once, made of the notes: in the order of their numbers, those whose note is not 0. Assumes nothing.
 use mathlib.Core.Path.{_≡_, refl, sym, subst, _∙_, ap}
-use mathlib.Core.List.{List, [], _∷_, List·Memᴰ, List·Memᴰ·head, List·Memᴰ·tail, List·Memᴰ·cases-cons, List·Memᴰ·not-nil, Memᴰ·cast}
+use mathlib.Core.List.{List, [], _∷_, map, List·Memᴰ, List·Memᴰ·head, List·Memᴰ·tail, List·Memᴰ·cases-cons, List·Memᴰ·not-nil, Memᴰ·cast}
 use mathlib.Core.Logic.{_⊎_, inl, inr}
-use Prim.Native.Nat.{ℕ, zero, suc, _+_, _<_}
+use Prim.Native.Nat.{ℕ, zero, suc, _+_, _<_, _≤_}
 use native.Mathlib.Nat.{zero-add, add-zero}
 use native.Mathlib.Omega.{arith}
 use lib.Dec.{eqb·suc-zero}
@@ -10,8 +10,9 @@ use lib.ListN.{length, getD}
 use Rattle.machine.specs.declared.Config.{Config}
 use Rattle.machine.specs.Run.{Machine, There, number, how-many}
 use Rattle.machine.specs.Verdicts.{Entered, Noted, nonzero, Distinct, nil, cons, All-entered}
-use Rattle.machine.proofs.Numbers.{config-at, config-at-there, number-config-at, config-at-number, number-below}
+use Rattle.machine.proofs.Numbers.{config-at, config-at-there, number-config-at, config-at-number, number-below, number-injective}
 use Rattle.machine.proofs.Notes.{note-entered, entered-note}
+use Rattle.machine.proofs.Pigeonhole.{length-at-most}
 
 -- of the first so many notes, the first of them that of number k, the configurations whose note is not 0
 unfoldable pub listed : Machine → (k count : ℕ) → (notes : List ℕ) → List Config
@@ -109,3 +110,25 @@ all-entered M notes noted there =
     all c e t =
         Memᴰ·cast (sym (ap (config-at M) (zero-add (number M c)) ∙ config-at-number t))
         (found-listed M 0 (how-many M) notes (number M c) (number-below t) (entered-note (noted c t) e))
+
+-- ONE COUNT: two lists without repeats of exactly the configurations entered are equally long
+mapped : {A : Type 0} (f : A → ℕ) {a : A} {rest : List A} → List·Memᴰ a rest → List·Memᴰ (f a) (map f rest)
+mapped f (List·Memᴰ·head e) = List·Memᴰ·head (ap f e)
+mapped f (List·Memᴰ·tail b) = List·Memᴰ·tail (mapped f b)
+
+mapped-length : {A : Type 0} (f : A → ℕ) (rest : List A) → length (map f rest) ≡ length rest
+mapped-length f [] = refl
+mapped-length f (a ∷ rest) = ap suc (mapped-length f rest)
+
+module _ (M : Machine) (there : (c : Config) → Entered M c → There M c) where
+  no-more : {n m : ℕ} → All-entered M n → All-entered M m → n ≤ m
+  no-more x y =
+      let most =
+      length-at-most (number M) (x .configs) (x .distinct) (map (number M) (y .configs))
+      (λ c a. mapped (number M) (y .all c (x .only c a)))
+      (λ c d a b e. number-injective (there c (x .only c a)) (there d (x .only d b)) e)
+      in
+      omega (arith, mapped-length (number M) (y .configs), x .counted, y .counted)
+
+  pub one-count : {n m : ℕ} → All-entered M n → All-entered M m → n ≡ m
+  one-count x y = let l = no-more x y in let g = no-more y x in omega arith

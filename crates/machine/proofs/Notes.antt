@@ -8,7 +8,6 @@ use lib.Seq.{ext-getD}
 use Rattle.machine.specs.declared.Config.{Config}
 use Rattle.machine.specs.Run.{Machine, There, number, how-many}
 use Rattle.machine.specs.Verdicts.{Entered, Ends-at, No-end, Note, never, unended, ended, Noted}
-use Rattle.machine.specs.Promises.{One-end}
 use Rattle.machine.proofs.Numbers.{config-at, config-at-there, number-config-at}
 use Rattle.machine.proofs.Terminators.{one-end}
 
@@ -23,11 +22,10 @@ entered-note (unended a endless) e z = omega arith
 entered-note (ended a there ends) e z = omega arith
 
 same-terminator : (M : Machine) (c d e : Config) → Ends-at M c d → Ends-at M c e → d ≡ e
-unfolding One-end
 same-terminator M c d e x y = one-end M c d e 0 0 x .1 y
 
 -- what a note says of the configuration, by its own number
-never-only : {M : Machine} {c : Config} {v : ℕ} → Note M c v → (Entered M c → ⊥) → v ≡ 0
+pub never-only : {M : Machine} {c : Config} {v : ℕ} → Note M c v → (Entered M c → ⊥) → v ≡ 0
 never-only (never out) no-entry = refl
 never-only (unended e endless) no-entry = absurd (no-entry e)
 never-only (ended e there ends) no-entry = absurd (no-entry e)

@@ -3,27 +3,29 @@ use mathlib.Core.Path.{_≡_}
 use mathlib.Core.List.{List}
 use mathlib.Core.Option.{some}
 use Prim.Native.Nat.{ℕ}
+use lib.ListN.{getD}
 use Rattle.machine.specs.declared.Config.{Config}
-use Rattle.machine.specs.Run.{Machine, Entry, start, after}
-use Rattle.machine.specs.Verdicts.{over-base, Note, never, unended, ended}
-use Rattle.machine.specs.Promises.{Terminators-of-run, Same-each-time, Tells, kept, removed, Notes-of-run}
+use Rattle.machine.specs.Run.{Machine, There, Entry, start, after, number}
+use Rattle.machine.specs.Verdicts.{over-base, Note, never, unended, ended, Noted}
+use Rattle.machine.specs.Removal.{Removed, Tells, kept, removed}
 use Rattle.machine.proofs.Runs.{config-over}
 use Rattle.machine.proofs.Terminators.{terminators-of-run}
 
-pub same-each-time : Same-each-time
-unfolding Same-each-time Terminators-of-run
+pub same-each-time :
+    (M : Machine) (n m i j : ℕ) (c d : Config) (base ground : List Entry) → after n M start ≡ some (over-base c i base) →
+    after m M start ≡ some (over-base c j ground) → Removed M n i base d → Removed M m j ground d
 same-each-time M n m i j c d base ground at-n at-m r =
     terminators-of-run M m j c d ground at-m .0 (terminators-of-run M n i c d base at-n .1 r)
 
-tells :
+pub note-tells :
     (M : Machine) (n i : ℕ) (c : Config) (base : List Entry) → after n M start ≡ some (over-base c i base) → {v : ℕ} → Note M c v →
     Tells M n i base v
-unfolding Terminators-of-run
-tells M n i c base at-n (never no-entry) =
+note-tells M n i c base at-n (never no-entry) =
     absurd (no-entry (record { steps = n; place = over-base c i base; reached = at-n; is = config-over c i base }))
-tells M n i c base at-n (unended e no-end) = kept (λ d r. no-end d (terminators-of-run M n i c d base at-n .1 r))
-tells M n i c base at-n (ended {d} e t x) = removed t (terminators-of-run M n i c d base at-n .0 x)
+note-tells M n i c base at-n (unended e no-end) = kept (λ d r. no-end d (terminators-of-run M n i c d base at-n .1 r))
+note-tells M n i c base at-n (ended {d} e t x) = removed t (terminators-of-run M n i c d base at-n .0 x)
 
-pub notes-of-run : Notes-of-run
-unfolding Notes-of-run
-notes-of-run M notes noted n i c base t at-n = tells M n i c base at-n (noted c t)
+pub notes-of-run :
+    (M : Machine) (notes : List ℕ) → Noted M notes → (n i : ℕ) (c : Config) (base : List Entry) → There M c →
+    after n M start ≡ some (over-base c i base) → Tells M n i base (getD notes (number M c) 0)
+notes-of-run M notes noted n i c base t at-n = note-tells M n i c base at-n (noted c t)

@@ -11,7 +11,6 @@ use Rattle.machine.specs.declared.Verdict.{Verdict}
 use Rattle.machine.specs.declared.Verdict.the-variants.{Accepted, Ended, Stuck, Looping, Spent, Deep}
 use Rattle.machine.specs.Run.{Machine, Instant, Outcome, stuck, over, next, step, start, after, config-of}
 use Rattle.machine.specs.Verdicts.{Over, Stuck-at, Goes-on, First-again, Says}
-use Rattle.machine.specs.Promises.{One-verdict}
 use Rattle.machine.proofs.Runs.{Halted, halted-stuck, halted-over, halted-no-more, halts-once, not-none, some-same}
 
 -- WHERE A RUN HALTS, with its last outcome: what the three verdicts of a run that halts share
@@ -83,6 +82,5 @@ one-way M (halts h p) (loops on first) = absurd (no-halt on h)
 one-way M (loops on first) (halts k q) = absurd (no-halt on k)
 one-way M (loops on first) (loops also second) = (refl, one-first first second)
 
-pub one-verdict : One-verdict
-unfolding One-verdict
+pub one-verdict : (M : Machine) (v w : Verdict) (d e : Config) → Says M v d → Says M w e → (v ≡ w) × (d ≡ e)
 one-verdict M v w d e s t = one-way M (way M v d s) (way M w e t)

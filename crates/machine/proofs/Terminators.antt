@@ -28,8 +28,8 @@ use Rattle.machine.specs.Run.{
   config,
   config-of,
 }
-use Rattle.machine.specs.Verdicts.{over-base, Ends-with}
-use Rattle.machine.specs.Promises.{One-end, Removed, Terminators-of-run}
+use Rattle.machine.specs.Verdicts.{over-base, Ends-with, Ends-at}
+use Rattle.machine.specs.Removal.{Removed}
 use Rattle.machine.proofs.Runs.{
   after-then,
   after-last,
@@ -98,8 +98,8 @@ big-step M c d i w = go (ends-or-kept M (w .steps) c)
 pub ends-unique : {M : Machine} {P Q : Config → Type 0} {c d e : Config} → Ends M P c d → Ends M Q c e → d ≡ e
 ends-unique {M} {c} {d} {e} x y = same-end M c d e 0 (ends-at x 0) (ends-at y 0)
 
-pub one-end : One-end
-unfolding One-end
+pub one-end :
+    (M : Machine) (c d e : Config) (i j : ℕ) → Ends-with M c i d → Ends-with M c j d × (Ends-with M c j e → d ≡ e)
 one-end M c d e i j v =
     let x = big-step M c d i v in
     (ends-at x j, λ w. same-end M c d e j (ends-at x j) w)
@@ -177,7 +177,8 @@ module _ (M : Machine) (n i : ℕ) (c d : Config) (base : List Entry) (entered :
           let l : suc (length base) < suc (length base) = stays (ap (M .action) (config-over d i base) ∙ pop) in
           absurd (omega arith)
 
-pub terminators-of-run : Terminators-of-run
-unfolding Terminators-of-run
+pub terminators-of-run :
+    (M : Machine) (n i : ℕ) (c d : Config) (base : List Entry) → after n M start ≡ some (over-base c i base) →
+    (Ends-at M c d → Removed M n i base d) × (Removed M n i base d → Ends-at M c d)
 terminators-of-run M n i c d base e =
     (λ w. ends-removed M n i c d base e (big-step M c d 0 w), λ v. ends-at (removed-ends M n i c d base e v) 0)

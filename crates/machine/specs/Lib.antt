@@ -7,4 +7,4 @@ pub mod Counting
 pub mod Refusals
 pub mod Lookup
 pub mod Calls
-pub mod Promises
+pub mod Removal

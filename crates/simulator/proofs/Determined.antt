@@ -1,36 +1,45 @@
--- The call's answer and the cells that it leaves are determined by its input. Assumes nothing.
-use mathlib.Core.Path.{_≡_, sym, _∙_, ap}
+-- The call's answer and the cells that it leaves are determined by its input; earlier contents of the first N cells don't matter. Assumes nothing.
+use mathlib.Core.Path.{_≡_, refl, sym, _∙_, ap, subst}
 use mathlib.Core.List.{List, _++_}
 use Prim.Native.Nat.{ℕ, zero, suc}
-use lib.ListN.{length, drop}
+use native.Mathlib.Omega.{arith}
+use lib.ListN.{length, take, drop, replicate, length-replicate}
+use lib.Seq.{take-at}
 use Rattle.machine.specs.declared.Config.{Config}
 use Rattle.machine.specs.declared.Refusal.{Refusal}
 use Rattle.machine.specs.declared.Verdict.{Verdict}
 use Rattle.machine.specs.Run.{Machine, how-many}
 use Rattle.machine.specs.Image.{machine}
 use Rattle.machine.specs.Verdicts.{Says, nonzero}
-use Rattle.machine.specs.Promises.{One-verdict}
 use Rattle.machine.proofs.Notes.{one-notes}
 use Rattle.machine.proofs.OneVerdict.{one-verdict}
 use Rattle.simulator.specs.declared.Judged.{Judged}
 use Rattle.simulator.specs.declared.Judged.the-variants.{Answer}
-use Rattle.simulator.specs.Calls.{Right, Judge-as, Judge-says, Judge-determined, judge-refusal}
+use Rattle.simulator.specs.Calls.{Right, Judge-as, Judge-says, judge-refusal}
 
-same-verdict : (M : Machine) (v w : Verdict) (d e : Config) → Says M v d → Says M w e → (v ≡ w) × (d ≡ e)
-unfolding One-verdict
-same-verdict = one-verdict
+-- two right answers for one image and capture, whatever the cells held before
+record Same-answer (r s : Judged) (f-notes g-notes : List ℕ) : Type 0 where
+  answers : r ≡ s
+  notes : f-notes ≡ g-notes
+
+same-answer :
+    (bs cs a b a′ b′ : List ℕ) (r s : Judged) (x y x′ y′ : List ℕ) (f : Right bs cs r a x b y) (g : Right bs cs s a′ x′ b′ y′) →
+    Same-answer r s (f .notes) (g .notes)
+same-answer bs cs a b a′ b′ r s x y x′ y′ f g =
+    let M = machine bs cs in
+    let (verdicts, ends) = one-verdict M (f .verdict) (g .verdict) (f .end) (g .end) (f .says) (g .says) in
+    let notes : f .notes ≡ g .notes = one-notes M (f .notes) (g .notes) (f .noted) (g .noted) (f .noted-cells) (g .noted-cells) in
+    let readings : f .readings ≡ g .readings = f .counted ∙ ap (nonzero (how-many M)) notes ∙ sym (g .counted) in
+    let answers : Answer (f .verdict) (f .readings) (f .end) ≡ Answer (g .verdict) (g .readings) (g .end) = cc in
+    record { answers = f .answers ∙ answers ∙ sym (g .answers); notes = notes }
 
 right-determined :
     (bs cs a b : List ℕ) (r s : Judged) (x y x′ y′ : List ℕ) → Right bs cs r a x b y → Right bs cs s a x′ b y′ →
     (r ≡ s) × (x ≡ x′) × (y ≡ y′)
 right-determined bs cs a b r s x y x′ y′ f g =
-    let M = machine bs cs in
-    let (verdicts, ends) = same-verdict M (f .verdict) (g .verdict) (f .end) (g .end) (f .says) (g .says) in
-    let notes : f .notes ≡ g .notes = one-notes M (f .notes) (g .notes) (f .noted) (g .noted) (f .noted-cells) (g .noted-cells) in
-    let readings : f .readings ≡ g .readings = f .counted ∙ ap (nonzero (how-many M)) notes ∙ sym (g .counted) in
-    let answers : Answer (f .verdict) (f .readings) (f .end) ≡ Answer (g .verdict) (g .readings) (g .end) = cc in
-    let cells : f .notes ++ drop (how-many M) a ≡ g .notes ++ drop (how-many M) a = cc in
-    (f .answers ∙ answers ∙ sym (g .answers), f .notes-now ∙ cells ∙ sym (g .notes-now), f .work-now ∙ sym (g .work-now))
+    let same = same-answer bs cs a b a b r s x y x′ y′ f g in
+    let cells = ap (λ (l : List ℕ). l ++ drop (how-many (machine bs cs)) a) (same .notes) in
+    (same .answers, f .notes-now ∙ cells ∙ sym (g .notes-now), f .work-now ∙ sym (g .work-now))
 
 by-number :
     (n : ℕ) (z : Refusal) (bs cs a b : List ℕ) (r s : Judged) (x y x′ y′ : List ℕ) → Judge-as n z bs cs r a x b y →
@@ -39,7 +48,44 @@ unfolding Judge-as
 by-number zero z bs cs a b r s x y x′ y′ f g = right-determined bs cs a b r s x y x′ y′ f g
 by-number (suc n) z bs cs a b r s x y x′ y′ f g = (f .0 ∙ sym (g .0), f .1 ∙ sym (g .1), f .2 ∙ sym (g .2))
 
-pub judge-determined : Judge-determined
-unfolding Judge-determined Judge-says
+pub judge-determined :
+    (bs cs a b : List ℕ) (r s : Judged) (x y x′ y′ : List ℕ) → Judge-says bs cs r a x b y → Judge-says bs cs s a x′ b y′ →
+    (r ≡ s) × (x ≡ x′) × (y ≡ y′)
+unfolding Judge-says
 judge-determined bs cs a b r s x y x′ y′ f g =
     by-number (judge-refusal bs cs (length a) (length b) .number) (judge-refusal bs cs (length a) (length b)) bs cs a b r s x y x′ y′ f g
+
+-- EARLIER CONTENTS DON'T MATTER: slices of the same lengths get the same answer and the same first N cells
+Forgets : (bs cs : List ℕ) → (k : ℕ) → (r s : Judged) → (x y x′ y′ : List ℕ) → Type 0
+Forgets bs cs k r s x y x′ y′ =
+    (r ≡ s)
+    × (k ≡ 0 →
+    (take (how-many (machine bs cs)) x ≡ take (how-many (machine bs cs)) x′)
+    × (take (how-many (machine bs cs)) y ≡ take (how-many (machine bs cs)) y′))
+
+forgets-by :
+    (k : ℕ) (z : Refusal) (bs cs a b a′ b′ : List ℕ) (r s : Judged) (x y x′ y′ : List ℕ) → Judge-as k z bs cs r a x b y →
+    Judge-as k z bs cs s a′ x′ b′ y′ → Forgets bs cs k r s x y x′ y′
+unfolding Judge-as Forgets
+forgets-by zero z bs cs a b a′ b′ r s x y x′ y′ f g =
+    let n = how-many (machine bs cs) in
+    let same = same-answer bs cs a b a′ b′ r s x y x′ y′ f g in
+    let first = ap (take n) (f .notes-now) ∙ take-at (f .notes) (drop n a) n (f .noted-cells) in
+    let second = ap (take n) (g .notes-now) ∙ take-at (g .notes) (drop n a′) n (g .noted-cells) in
+    let zeros = ap (take n) (f .work-now) ∙ take-at (replicate n 0) (drop n b) n (length-replicate n 0) in
+    let zeros′ = ap (take n) (g .work-now) ∙ take-at (replicate n 0) (drop n b′) n (length-replicate n 0) in
+    (same .answers, λ e. (first ∙ same .notes ∙ sym second, zeros ∙ sym zeros′))
+forgets-by (suc k) z bs cs a b a′ b′ r s x y x′ y′ f g = (f .0 ∙ sym (g .0), λ e. absurd (omega arith))
+
+pub judge-forgets :
+    (bs cs a b a′ b′ : List ℕ) (r s : Judged) (x y x′ y′ : List ℕ) → length a ≡ length a′ → length b ≡ length b′ →
+    Judge-says bs cs r a x b y → Judge-says bs cs s a′ x′ b′ y′ →
+    (r ≡ s)
+    × (judge-refusal bs cs (length a) (length b) .number ≡ 0 →
+    (take (how-many (machine bs cs)) x ≡ take (how-many (machine bs cs)) x′)
+    × (take (how-many (machine bs cs)) y ≡ take (how-many (machine bs cs)) y′))
+unfolding Judge-says Forgets
+judge-forgets bs cs a b a′ b′ r s x y x′ y′ p q f g =
+    let same : judge-refusal bs cs (length a′) (length b′) ≡ judge-refusal bs cs (length a) (length b) = rw (p, q) in
+    forgets-by (judge-refusal bs cs (length a) (length b) .number) (judge-refusal bs cs (length a) (length b)) bs cs a b a′ b′ r s x y x′ y′ f
+    (subst (λ (z : Refusal). Judge-as (z .number) z bs cs s a′ x′ b′ y′) same g)

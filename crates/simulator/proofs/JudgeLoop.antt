@@ -144,6 +144,14 @@ module _ {bs cs : List ℕ} {r : Record} {ns ws : List ℕ} {n : ℕ} (a : After
   unfolding verdict-of
   same-verdict {v} e = let s : verdict-of (r .mode) ≡ some v = rw e in cc (ends-now e .answers)
 
+  -- the steps taken are the theory's, so its bound is theirs
+  steps-few : {v : Verdict} → r .mode ≡ Done v → n ≤ 4 * r .readings + 1
+  unfolding chain
+  steps-few e =
+      let same : reached chain bs cs (judges .steps) ≡ at-reached r ns ws = ap (reached chain bs cs) (at-end e) ∙ a .is in
+      let reads : reached chain bs cs (judges .steps) .now-at .readings ≡ r .readings = ap (λ (x : Reached Record). x .now-at .readings) same in
+      omega (arith, at-end e, judges .few, reads)
+
   pub right : {v : Verdict} → r .mode ≡ Done v → Right bs cs (Answer v (r .readings) (r .at)) [] ns [] ws
   unfolding chain verdict-of
   right {v} e =
@@ -167,5 +175,7 @@ module _ {bs cs : List ℕ} {r : Record} {ns ws : List ℕ} {n : ℕ} (a : After
               readings-are = rw (a .is);
               end-is = rw (a .is);
               notes-are = rw (a .is);
+              few = steps-few e;
+              not-before = λ m h. judges .not-before m (omega (arith, at-end e));
             };
       }

@@ -5,4 +5,5 @@ pub mod JudgeLoop
 pub mod JudgeCells
 pub mod JudgeRefusals
 pub mod Determined
+pub mod Answered
 pub mod Promised

@@ -1,60 +1,92 @@
--- The promises of judging: every unrefused image and capture has a verdict, and reported readings count the configurations entered. Assumes nothing.
-use mathlib.Core.Path.{_≡_, refl, sym, subst, _∙_}
+-- What judging promises beyond its contract: every unrefused image and capture has a verdict, reported readings count the configurations entered, and the notes left speak of each of them. Assumes nothing.
+use mathlib.Core.Path.{_≡_, refl, sym, ap, subst, _∙_}
 use mathlib.Core.List.{List}
-use Prim.Native.Nat.{ℕ, zero, suc, _<_}
+use mathlib.Core.Option.{some}
+use Prim.Native.Nat.{ℕ, _<_}
 use native.Mathlib.Omega.{arith}
-use lib.ListN.{length}
+use lib.ListN.{length, getD, drop, List·getD-append}
 use Rattle.machine.specs.declared.Config.{Config}
-use Rattle.machine.specs.declared.Refusal.{Refusal}
 use Rattle.machine.specs.declared.Verdict.{Verdict}
-use Rattle.machine.specs.Format
+use Rattle.machine.specs.Run.{There, Entry, start, after, number, how-many}
 use Rattle.machine.specs.Image.{byte, machine}
-use Rattle.machine.specs.Verdicts.{All-entered}
-use Rattle.machine.specs.Refusals.{Unrefused, capture-refusal}
-use Rattle.machine.specs.Promises.{Verdict-there}
-use Rattle.machine.proofs.Refused.{neither, unrefused-by}
+use Rattle.machine.specs.Verdicts.{Entered, over-base, Says, Note, All-entered}
+use Rattle.machine.specs.Removal.{Tells}
+use Rattle.machine.specs.Refusals.{Unrefused}
+use Rattle.machine.proofs.Numbers.{number-below}
+use Rattle.machine.proofs.Runs.{config-over}
 use Rattle.machine.proofs.Inside.{inside}
 use Rattle.machine.proofs.Reach.{entered-there}
-use Rattle.machine.proofs.Listing.{all-entered}
-use Rattle.simulator.specs.declared.Judged.the-variants.{Refused, Answer}
-use Rattle.chain.specs.Chain.{Chain-judges, chain, reached}
-use Rattle.simulator.specs.Calls.{judge-refusal, Right, Judge-as, Judge-says}
-use Rattle.simulator.specs.Promises.{Readings-entered}
+use Rattle.machine.proofs.Notes.{never-only}
+use Rattle.machine.proofs.NotesOfRun.{note-tells}
+use Rattle.machine.proofs.OneVerdict.{one-verdict}
+use Rattle.machine.proofs.Listing.{all-entered, one-count}
+use Rattle.simulator.specs.declared.Judged.{Judged}
+use Rattle.simulator.specs.declared.Judged.the-variants.{Answer}
+use Rattle.chain.specs.Chain.{chain, reached}
+use Rattle.simulator.specs.Calls.{Right, Judge-says}
+use Rattle.simulator.proofs.Answered.{answered}
 use Rattle.chain.proofs.ChainJudges.{chain-judges}
 
-pub verdict-there : Verdict-there
-unfolding Verdict-there Chain-judges
+pub verdict-there : (bs cs : List ℕ) → Unrefused bs cs → (v : Verdict) × (d : Config) × Says (machine bs cs) v d
 verdict-there bs cs u =
     let j = chain-judges bs cs u in
     (j .verdict, chain .end (reached chain bs cs (j .steps) .now-at), j .says)
 
--- an answer is given only of what is not refused
-answered-by : (bs cs : List ℕ) (a b : ℕ) → ((i : ℕ) → byte cs i < 256) → judge-refusal bs cs a b .number ≡ 0 → Unrefused bs cs
-unfolding judge-refusal
-answered-by bs cs a b bytes e = unrefused-by bs cs bytes (neither (capture-refusal bs (length cs)) _ (record { none-such = e }) .0 .none-such)
-
-entered-by :
-    (bs cs a a-now b b-now : List ℕ) (v : Verdict) (n : ℕ) (d : Config) → Unrefused bs cs → Right bs cs (Answer v n d) a a-now b b-now →
-    All-entered (machine bs cs) n
-entered-by bs cs a a-now b b-now v n d u r =
-    let same : n ≡ r .readings = readings-same (r .answers) in
-    subst (All-entered (machine bs cs)) (sym (same ∙ r .counted)) (all-entered (machine bs cs) (r .notes) (r .noted) (entered-there (inside bs cs u)))
+pub readings-entered :
+    (bs cs a a-now b b-now : List ℕ) (v : Verdict) (n : ℕ) (d : Config) → ((i : ℕ) → byte cs i < 256) →
+    Judge-says bs cs (Answer v n d) a a-now b b-now → All-entered (machine bs cs) n
+readings-entered bs cs a a-now b b-now v n d bytes says =
+    let x = answered bs cs a a-now b b-now v n d bytes says in
+    let same : n ≡ x .right .readings = readings-same (x .right .answers) in
+    subst (All-entered (machine bs cs)) (sym (same ∙ x .right .counted))
+    (all-entered (machine bs cs) (x .right .notes) (x .right .noted) (entered-there (inside bs cs (x .unrefused))))
   where
     readings-same : {w : Verdict} {m : ℕ} {e : Config} → Answer v n d ≡ Answer w m e → n ≡ m
     readings-same q = cc
 
-entered-as :
-    (k : ℕ) (f : Refusal) (bs cs a a-now b b-now : List ℕ) (v : Verdict) (n : ℕ) (d : Config) → (k ≡ 0 → Unrefused bs cs) →
-    Judge-as k f bs cs (Answer v n d) a a-now b b-now → All-entered (machine bs cs) n
-unfolding Judge-as
-entered-as zero f bs cs a a-now b b-now v n d u s = entered-by bs cs a a-now b b-now v n d (u refl) s
-entered-as (suc k) f bs cs a a-now b b-now v n d u s =
-    let clash : Answer v n d ≡ Refused f = s .0 in
-    absurd (let z : _≡_ {A = ℕ} 0 1 = cc in omega arith)
+-- whatever an unrefused machine enters is one of its N
+pub entered-numbered :
+    (bs cs : List ℕ) → Unrefused bs cs → (c : Config) → Entered (machine bs cs) c →
+    There (machine bs cs) c × (number (machine bs cs) c < how-many (machine bs cs))
+entered-numbered bs cs u c e = let t = entered-there (inside bs cs u) c e in (t, number-below t)
 
-pub readings-entered : Readings-entered
-unfolding Readings-entered Judge-says
-readings-entered bs cs a a-now b b-now v n d bytes says =
-    entered-as (judge-refusal bs cs (length a) (length b) .number) (judge-refusal bs cs (length a) (length b)) bs cs a a-now b b-now v n d
-    (answered-by bs cs (length a) (length b) bytes)
-    says
+-- THE NOTES THAT A CALL LEAVES
+module _
+    (bs cs a a-now b b-now : List ℕ) (v : Verdict) (n : ℕ) (d : Config) (bytes : (i : ℕ) → byte cs i < 256)
+    (says : Judge-says bs cs (Answer v n d) a a-now b b-now)
+  where
+    cell : (c : Config) → There (machine bs cs) c → Note (machine bs cs) c (getD a-now (number (machine bs cs) c) 0)
+    cell c t =
+        let x = answered bs cs a a-now b b-now v n d bytes says in
+        let here : number (machine bs cs) c < length (x .right .notes) = omega (arith, number-below t, x .right .noted-cells) in
+        let same : getD a-now (number (machine bs cs) c) 0 ≡ getD (x .right .notes) (number (machine bs cs) c) 0 =
+        ap (λ (l : List ℕ). getD l (number (machine bs cs) c) 0) (x .right .notes-now)
+        ∙ List·getD-append (x .right .notes) (drop (how-many (machine bs cs)) a) 0 (number (machine bs cs) c) here
+        in
+        subst (Note (machine bs cs) c) (sym same) (x .right .noted c t)
+
+    pub notes-left : (c : Config) → Entered (machine bs cs) c → Note (machine bs cs) c (getD a-now (number (machine bs cs) c) 0)
+    notes-left c e = cell c (entered-numbered bs cs (answered bs cs a a-now b b-now v n d bytes says .unrefused) c e .0)
+
+    pub unentered-zero :
+        (c : Config) → There (machine bs cs) c → (Entered (machine bs cs) c → ⊥) → getD a-now (number (machine bs cs) c) 0 ≡ 0
+    unentered-zero c t never = never-only (cell c t) never
+
+    pub notes-tell :
+        (m i : ℕ) (c : Config) (base : List Entry) → after m (machine bs cs) start ≡ some (over-base c i base) →
+        Tells (machine bs cs) m i base (getD a-now (number (machine bs cs) c) 0)
+    notes-tell m i c base at-m =
+        note-tells (machine bs cs) m i c base at-m
+        (notes-left c (record { steps = m; place = over-base c i base; reached = at-m; is = config-over c i base }))
+
+-- what is known of the run is what a right answer says
+pub answer-known :
+    (bs cs : List ℕ) → Unrefused bs cs → (v : Verdict) (n : ℕ) (d : Config) → Says (machine bs cs) v d → All-entered (machine bs cs) n →
+    (r : Judged) (a a-now b b-now : List ℕ) → Right bs cs r a a-now b b-now → r ≡ Answer v n d
+answer-known bs cs u v n d says entered r a a-now b b-now right =
+    let M = machine bs cs in
+    let there = entered-there (inside bs cs u) in
+    let (verdicts, ends) = one-verdict M (right .verdict) v (right .end) d (right .says) says in
+    let counts : right .readings ≡ n = right .counted ∙ one-count M there (all-entered M (right .notes) (right .noted) there) entered in
+    let same : Answer (right .verdict) (right .readings) (right .end) ≡ Answer v n d = cc in
+    right .answers ∙ same

@@ -2,9 +2,9 @@
 use mathlib.Core.Path.{_≡_}
 use mathlib.Core.List.{List, _++_}
 use mathlib.Core.Bool.{cond}
-use Prim.Native.Nat.{ℕ, zero, suc, _+_, _*_}
+use Prim.Native.Nat.{ℕ, zero, suc, _+_, _*_, _<_, _≤_}
 use lib.Dec.{ltb, eqb}
-use mathlib.Core.Option.{some}
+use mathlib.Core.Option.{none, some}
 use lib.ListN.{length, drop, replicate}
 use Rattle.machine.specs.declared.Config.{Config}
 use Rattle.machine.specs.declared.Refusal.{Refusal}
@@ -34,13 +34,15 @@ judge-refusal bs cs a b =
     (or-else (refuse-if (ltb a (how-many (machine bs cs))) (refusal 8 (how-many (machine bs cs))))
     (refuse-if (ltb b (how-many (machine bs cs))) (refusal 9 (how-many (machine bs cs)))))
 
--- the chain has come to this answer and these notes
+-- the chain comes to this answer and these notes, within 4 r + 1 steps, and to no verdict before
 pub record Chain-ends (bs cs : List ℕ) (v : Verdict) (readings : ℕ) (end : Config) (notes : List ℕ) : Type 0 where
   pub steps : ℕ
   pub verdict-is : chain .verdict (reached chain bs cs steps .now-at) ≡ some v
   pub readings-are : chain .readings (reached chain bs cs steps .now-at) ≡ readings
   pub end-is : chain .end (reached chain bs cs steps .now-at) ≡ end
   pub notes-are : reached chain bs cs steps .notes ≡ notes
+  pub few : steps ≤ 4 * readings + 1
+  pub not-before : (n : ℕ) → n < steps → chain .verdict (reached chain bs cs n .now-at) ≡ none
 
 -- an answer: the run's verdict and end, its notes and their count, all as the chain ends; later cells as they were, the work cells 0
 pub record Right (bs cs : List ℕ) (r : Judged) (a a-now b b-now : List ℕ) : Type 0 where
@@ -65,9 +67,3 @@ Judge-as (suc n) f bs cs r a x b y = (r ≡ Refused f) × (x ≡ a) × (y ≡ b)
 unfoldable pub Judge-says : (image capture : List ℕ) → Judged → (a a-now b b-now : List ℕ) → Type 0
 Judge-says bs cs r a x b y =
     Judge-as (judge-refusal bs cs (length a) (length b) .number) (judge-refusal bs cs (length a) (length b)) bs cs r a x b y
-
--- answer and cells are determined by the input
-unfoldable pub Judge-determined : Type 0
-Judge-determined =
-    (bs cs a b : List ℕ) (r s : Judged) (x y x′ y′ : List ℕ) → Judge-says bs cs r a x b y →
-    Judge-says bs cs s a x′ b y′ → (r ≡ s) × (x ≡ x′) × (y ≡ y′)

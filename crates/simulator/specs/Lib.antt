@@ -1,3 +1,2 @@
--- What a reader must believe of judging: what the calls answer and leave, and what is promised of the readings.
+-- What a reader must believe of judging: what the calls answer and leave.
 pub mod Calls
-pub mod Promises

@@ -34,7 +34,7 @@ without-keeps {j} {k} (List·Memᴰ·tail {x = i} {xs = ks} a) other b = go (λ 
 
 module _ {A : Type 0} (number : A → ℕ) where
   -- different numbers for different elements, all in the list ks
-  length-at-most :
+  pub length-at-most :
       (ds : List A) → Distinct ds → (ks : List ℕ) → ((d : A) → List·Memᴰ d ds → List·Memᴰ (number d) ks) →
       ((d e : A) → List·Memᴰ d ds → List·Memᴰ e ds → number d ≡ number e → d ≡ e) → length ds ≤ length ks
   length-at-most ds nil ks among injective = zero-le

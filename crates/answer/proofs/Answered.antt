@@ -1,0 +1,194 @@
+-- What the call's contract comes to where it refuses and where it answers; and that earlier contents don't matter. Assumes nothing.
+use mathlib.Core.Path.{_≡_, refl, sym, ap, subst, _∙_}
+use mathlib.Core.Bool.{Bool, true, false, cond}
+use mathlib.Core.List.{List, [], _∷_}
+use Prim.Native.Nat.{ℕ, zero, suc, _+_, _<_, _≤_, min}
+use native.Mathlib.Nat.{min-le-left, min-le-right, le-of-suc-le-suc}
+use native.Mathlib.Omega.{arith}
+use lib.Dec.{eqb}
+use lib.ListN.{length, getD, take, drop}
+use lib.Seq.{getD-drop, take-at}
+use borrow.Author.Tests.{eq-eqb, ne-eqb, eqb-true, eqb-false}
+use Rattle.machine.specs.declared.Refusal.{Refusal}
+use Rattle.machine.specs.Run.{how-many}
+use Rattle.machine.specs.Image.{byte, machine}
+use Rattle.machine.specs.Refusals.{or-else}
+use Rattle.machine.proofs.Refused.{neither}
+use Rattle.simulator.specs.declared.Judged.{Judged}
+use Rattle.simulator.specs.declared.Judged.the-variants.{Answer}
+use Rattle.simulator.specs.Calls.{judge-refusal, Judge-says}
+use Rattle.simulator.proofs.Answered.{judged-right}
+use Rattle.simulator.proofs.Determined.{judge-forgets}
+use Rattle.grammar.specs.Grammar.{grammar-refusal}
+use Rattle.grammar.specs.Image.{built, built-length}
+use Rattle.grammar.specs.Calls.{build-refusal}
+use Rattle.grammar.proofs.Answered.{build-fine}
+use Rattle.grammar.proofs.BuiltImage.{built-length-is}
+use Rattle.answer.specs.Text.{refusal-line, answer-line, judged-line, written, Lined}
+use Rattle.answer.specs.Input.{input-refusal, input-grammar, input-capture, capture-offset}
+use Rattle.answer.specs.Calls.{Lent, Refuses, Judges, parts-refusal, lent-refusal, Parts-as, Parts-say, answer-refusal, Input-as, Input-says, Answer-says, Same-room, Same-cells}
+use Rattle.answer.specs.TwoCalls.{Gets, Line-parsed}
+use Rattle.answer.proofs.TwoCallsHold.{gets}
+
+-- BY CASES of the first refusal: refused, or judged
+input-refuses :
+    (n : ℕ) (f : Refusal) (xs : List ℕ) (x y : Lent) (l : List ℕ) → (n ≡ 0 → ⊥) → Input-as n f xs x y l → Refuses f x y l
+unfolding Input-as
+input-refuses zero f xs x y l h s = absurd (h refl)
+input-refuses (suc n) f xs x y l h s = s
+
+input-parts :
+    (n : ℕ) (f : Refusal) (xs : List ℕ) (x y : Lent) (l : List ℕ) → n ≡ 0 → Input-as n f xs x y l →
+    Parts-say (input-grammar xs) (input-capture xs) x y l
+unfolding Input-as
+input-parts zero f xs x y l h s = s
+input-parts (suc n) f xs x y l h s = absurd (omega arith)
+
+parts-refuse :
+    (n : ℕ) (f : Refusal) (gs cs : List ℕ) (x y : Lent) (l : List ℕ) → (n ≡ 0 → ⊥) → Parts-as n f gs cs x y l → Refuses f x y l
+unfolding Parts-as
+parts-refuse zero f gs cs x y l h s = absurd (h refl)
+parts-refuse (suc n) f gs cs x y l h s = s
+
+parts-judge : (n : ℕ) (f : Refusal) (gs cs : List ℕ) (x y : Lent) (l : List ℕ) → n ≡ 0 → Parts-as n f gs cs x y l → Judges gs cs x y l
+unfolding Parts-as
+parts-judge zero f gs cs x y l h s = s
+parts-judge (suc n) f gs cs x y l h s = absurd (omega arith)
+
+pub input-refused :
+    (xs : List ℕ) (x y : Lent) (l : List ℕ) → (answer-refusal xs x .number ≡ 0 → ⊥) → Input-says xs x y l → Refuses (answer-refusal xs x) x y l
+unfolding Input-says Parts-say answer-refusal or-else
+input-refused xs x y l h s = go (eqb (input-refusal xs .number) 0) refl h
+  where
+    rest : Refusal
+    rest = lent-refusal (input-grammar xs) (input-capture xs) x
+
+    go :
+        (t : Bool) → eqb (input-refusal xs .number) 0 ≡ t → (cond t rest (input-refusal xs) .number ≡ 0 → ⊥) →
+        Refuses (cond t rest (input-refusal xs)) x y l
+    go true q some =
+        parts-refuse _ _ (input-grammar xs) (input-capture xs) x y l some
+        (input-parts (input-refusal xs .number) (input-refusal xs) xs x y l (eqb-true _ _ q) s)
+    go false q some = input-refuses (input-refusal xs .number) (input-refusal xs) xs x y l some s
+
+pub input-judged :
+    (xs : List ℕ) (x y : Lent) (l : List ℕ) → answer-refusal xs x .number ≡ 0 → Input-says xs x y l →
+    Judges (input-grammar xs) (input-capture xs) x y l
+unfolding Input-says Parts-say answer-refusal
+input-judged xs x y l h s =
+    let (input, parts) = neither (input-refusal xs) _ (record { none-such = h }) in
+    parts-judge _ _ (input-grammar xs) (input-capture xs) x y l (parts .none-such)
+    (input-parts (input-refusal xs .number) (input-refusal xs) xs x y l (input .none-such) s)
+
+-- no refusal of the parts: a grammar that is right, and judging that is not refused
+parts-fine :
+    (gs cs : List ℕ) (m a b : ℕ) → parts-refusal gs cs m a b .number ≡ 0 →
+    (grammar-refusal gs .number ≡ 0) × (judge-refusal (built gs) cs a b .number ≡ 0)
+unfolding parts-refusal
+parts-fine gs cs m a b e =
+    let (build, judge) = neither (build-refusal gs m) _ (record { none-such = e }) in
+    (build-fine gs m (build .none-such) .0, judge .none-such)
+
+pub input-fine :
+    (xs : List ℕ) (x : Lent) → answer-refusal xs x .number ≡ 0 →
+    (grammar-refusal (input-grammar xs) .number ≡ 0)
+    × (judge-refusal (built (input-grammar xs)) (input-capture xs) (length (x .notes)) (length (x .work)) .number ≡ 0)
+unfolding answer-refusal
+input-fine xs x e =
+    parts-fine (input-grammar xs) (input-capture xs) _ _ _ (neither (input-refusal xs) _ (record { none-such = e }) .1 .none-such)
+
+-- THE LINE IN THE USER'S WORDS
+capture-bytes : (xs : List ℕ) → ((i : ℕ) → byte xs i < 256) → (i : ℕ) → byte (input-capture xs) i < 256
+unfolding input-capture
+capture-bytes xs bytes i = rw (getD-drop (capture-offset xs) xs i 0) (bytes (capture-offset xs + i))
+
+judged-says : (j : Judged) {gs cs : List ℕ} (g : Gets gs cs j) → judged-line j ≡ answer-line (g .verdict) (g .readings) (g .end)
+unfolding judged-line
+judged-says j g = rw (g .answers)
+
+pub line-parsed :
+    (xs : List ℕ) (x y : Lent) (l : List ℕ) → ((i : ℕ) → byte xs i < 256) → answer-refusal xs x .number ≡ 0 → Input-says xs x y l →
+    Line-parsed (input-grammar xs) (input-capture xs) l
+line-parsed xs x y l bytes fine s =
+    let j = input-judged xs x y l fine s in
+    let (good, judging) = input-fine xs x fine in
+    let r = judged-right (built (input-grammar xs)) (input-capture xs) (j .judged) (x .notes) (y .notes) (x .work) (y .work) judging (j .judges) in
+    let g = gets (input-grammar xs) (input-capture xs) (x .notes) (y .notes) (x .work) (y .work) (j .judged) good (capture-bytes xs bytes) r in
+    record {
+      verdict = g .verdict;
+      readings = g .readings;
+      end = g .end;
+      says = j .says ∙ judged-says (j .judged) g;
+      parsed = g .parsed;
+      only = g .only;
+      few = g .few;
+    }
+
+-- EARLIER CONTENTS DON'T MATTER
+module _ (xs : List ℕ) (x y z w : Lent) (room : Same-room x z) (l k : List ℕ) (a : Input-says xs x y l) (b : Input-says xs z w k) where
+  refusals-same : answer-refusal xs z ≡ answer-refusal xs x
+  unfolding answer-refusal
+  refusals-same = rw (room .image, room .notes, room .work)
+
+  pub judged-forgets : answer-refusal xs x .number ≡ 0 → (l ≡ k) × Same-cells (input-grammar xs) (input-capture xs) y w
+  judged-forgets fine =
+      let bs = built (input-grammar xs) in
+      let j = input-judged xs x y l fine a in
+      let i = input-judged xs z w k (ap (λ (f : Refusal). f .number) refusals-same ∙ fine) b in
+      let (same, cells) =
+      judge-forgets bs (input-capture xs) (x .notes) (x .work) (z .notes) (z .work) (j .judged) (i .judged) (y .notes) (y .work) (w .notes) (w .work)
+      (room .notes) (room .work) (j .judges) (i .judges)
+      in
+      let (notes, work) = cells (input-fine xs x fine .1) in
+      let long = built-length (input-grammar xs) in
+      let first = ap (take long) (j .image-now) ∙ take-at bs (drop long (x .image)) long (built-length-is (input-grammar xs)) in
+      let second = ap (take long) (i .image-now) ∙ take-at bs (drop long (z .image)) long (built-length-is (input-grammar xs)) in (
+        j .says ∙ ap judged-line same ∙ sym (i .says),
+        record { image = first ∙ sym second; notes = notes; work = work },
+      )
+
+  refused-forgets : (answer-refusal xs x .number ≡ 0 → ⊥) → l ≡ k
+  refused-forgets some =
+      let r = input-refused xs x y l some a in
+      let q = input-refused xs z w k (λ e. some (sym (ap (λ (f : Refusal). f .number) refusals-same) ∙ e)) b in
+      r .says ∙ ap refusal-line (sym refusals-same) ∙ sym (q .says)
+
+  pub line-forgets : l ≡ k
+  line-forgets = go (eqb (answer-refusal xs x .number) 0) refl
+    where
+      go : (t : Bool) → eqb (answer-refusal xs x .number) 0 ≡ t → l ≡ k
+      go true e = judged-forgets (eqb-true _ _ e) .0
+      go false e = refused-forgets (eqb-false _ _ e)
+
+-- what a buffer holds of a text is the text's first bytes
+held-first : (n : ℕ) (text buffer : List ℕ) → n ≤ length text → n ≤ length buffer → take n (written text buffer) ≡ take n text
+unfolding written
+held-first zero text buffer h l = refl
+held-first (suc n) [] buffer h l = absurd (omega arith)
+held-first (suc n) (c ∷ text) [] h l = absurd (omega arith)
+held-first (suc n) (c ∷ text) (b ∷ buffer) h l =
+    ap (λ (r : List ℕ). c ∷ r) (held-first n text buffer (le-of-suc-le-suc h) (le-of-suc-le-suc l))
+
+lined-first : {line out out-now : List ℕ} {n : ℕ} → Lined line out out-now n → take n out-now ≡ take n line
+lined-first {line} {out} {n = n} h =
+    let text : n ≤ length line = rw (h .holds .counted) (min-le-left (length line) (length out)) in
+    let room : n ≤ length out = rw (h .holds .counted) (min-le-right (length line) (length out)) in
+    ap (take n) (h .holds .bytes) ∙ held-first n line out text room
+
+pub answer-forgets :
+    (xs : List ℕ) (x y z w : Lent) (out p out′ q : List ℕ) (n m : ℕ) → Same-room x z → length out ≡ length out′ → Answer-says xs x y out p n →
+    Answer-says xs z w out′ q m →
+    (n ≡ m) × (take n p ≡ take n q) × (answer-refusal xs x .number ≡ 0 → Same-cells (input-grammar xs) (input-capture xs) y w)
+unfolding Answer-says
+answer-forgets xs x y z w out p out′ q n m room long a b =
+    let same = line-forgets xs x y z w room (a .line) (b .line) (a .right) (b .right) in
+    let counts : n ≡ m =
+    a .lined .holds .counted
+    ∙ ap (λ (l : List ℕ). min (length l) (length out)) same
+    ∙ ap (min (length (b .line))) long
+    ∙ sym (b .lined .holds .counted)
+    in
+    let lines : take n p ≡ take n q =
+    lined-first (a .lined) ∙ ap (take n) same ∙ ap (λ (k : ℕ). take k (b .line)) counts ∙ sym (lined-first (b .lined))
+    ∙ ap (λ (k : ℕ). take k q) (sym counts) in
+    (counts, lines, λ fine. judged-forgets xs x y z w room (a .line) (b .line) (a .right) (b .right) fine .1)

@@ -1,0 +1,24 @@
+-- When and from where the run removes an entry, and what a note tells of that, each time that its configuration is entered. Assumes nothing: these are definitions.
+use mathlib.Core.Path.{_≡_}
+use mathlib.Core.Bool.{Bool}
+use mathlib.Core.List.{List}
+use mathlib.Core.Option.{some}
+use Prim.Native.Nat.{ℕ, suc, _+_, _≤_}
+use lib.ListN.{length}
+use Rattle.machine.specs.declared.Config.{Config}
+use Rattle.machine.specs.declared.Action.the-variants.{Pop}
+use Rattle.machine.specs.Run.{Machine, There, Entry, Instant, start, after, number}
+use Rattle.machine.specs.Verdicts.{over-base}
+
+-- the entry with pointer i that lies on base after n steps is removed later, by the step from d, and the stack is never lower in between
+pub record Removed (M : Machine) (n i : ℕ) (base : List Entry) (d : Config) : Type 0 where
+  pub wait : ℕ
+  pub reached : after (n + wait) M start ≡ some (over-base d i base)
+  pub pops : (p : ℕ) × (r : Bool) × (M .action d ≡ Pop p r)
+  pub never-lower :
+      (m : ℕ) (x : Instant) → n ≤ m → m ≤ n + wait → after m M start ≡ some x → suc (length base) ≤ length (x .stack)
+
+-- what a note tells of the run, each time that it enters the note's configuration: 1, the entry then on top is never removed; else, from where it is
+pub data Tells (M : Machine) (n i : ℕ) (base : List Entry) : (cell : ℕ) → Type 0 where
+  kept : ((d : Config) → Removed M n i base d → ⊥) → Tells M n i base 1
+  removed : {d : Config} → There M d → Removed M n i base d → Tells M n i base (2 + number M d)
