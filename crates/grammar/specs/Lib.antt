@@ -5,3 +5,4 @@ pub mod Classes
 pub mod Image
 pub mod Writing
 pub mod Calls
+pub mod Replies

@@ -8,3 +8,4 @@ pub mod Refusals
 pub mod Lookup
 pub mod Calls
 pub mod Removal
+pub mod Replies

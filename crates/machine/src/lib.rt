@@ -42,6 +42,16 @@ pub enum Checked {
     Refused(Refusal),
 }
 
+// Any call's answer by numbers: the refusal's number, or 0, with its place; the verdict's number, or 0 for none; a count and a configuration.
+// Which number and values each case of an enum has is defined beside that enum, in specs/Replies.antt of its crate.
+pub struct Reply {
+    pub refusal: u32,
+    pub place: usize,
+    pub verdict: u32,
+    pub count: usize,
+    pub end: Config,
+}
+
 // The counts that every lookup needs: classes K, symbols G, and tape places n + 2.
 pub struct Sizes {
     pub classes: u32,

@@ -2,9 +2,10 @@
 use mathlib.Core.Path.{_≡_}
 use mathlib.Core.List.{List}
 use Prim.Native.Nat.{ℕ}
-use Rattle.sejimakpu.specs.declared.Reply.{Reply}
+use Rattle.machine.specs.declared.Reply.{Reply}
 use Rattle.machine.specs.declared.Config.{Config}
-use Rattle.sejimakpu.specs.Replies.{answered, Tells}
+use Rattle.machine.specs.Replies.{answered}
+use Rattle.sejimakpu.specs.Cells.{Tells}
 
 pub told-as : {p q : Reply} {r : ℕ} {answer : List ℕ} → p ≡ q → Tells p r answer → Tells q r answer
 told-as e t = rw (← e) t

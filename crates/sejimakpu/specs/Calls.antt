@@ -7,7 +7,10 @@ use Rattle.grammar.specs.declared.Built.{Built}
 use Rattle.simulator.specs.Calls.{Judge-says}
 use Rattle.interpreter.specs.Calls.{Run-says}
 use Rattle.grammar.specs.Calls.{Build-says}
-use Rattle.sejimakpu.specs.Replies.{Tells, of-judged, of-ran, of-built}
+use Rattle.simulator.specs.Replies.{of-judged}
+use Rattle.interpreter.specs.Replies.{of-ran}
+use Rattle.grammar.specs.Replies.{of-built}
+use Rattle.sejimakpu.specs.Cells.{Tells}
 
 -- judging
 pub record Judge-tells (image capture notes notes-now work work-now : List ℕ) (returned : ℕ) (answer : List ℕ) : Type 0 where

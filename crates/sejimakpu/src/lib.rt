@@ -3,7 +3,6 @@ pub mod telling;
 
 use grammar::build::build_image;
 use interpreter::plain_run;
-use machine::Config;
 use simulator::judge::cells;
 use simulator::judge::judge;
 use telling::build_reply;
@@ -16,17 +15,10 @@ use validator::check::check_image;
 ghost use Rattle.machine.specs.Refusals.{image-refusal, capture-refusal};
 ghost use Rattle.machine.specs.Calls.{checked};
 ghost use Rattle.simulator.specs.Calls.{cells-needed, needs};
-ghost use Rattle.sejimakpu.specs.Replies.{Tells, of-checked, of-needs};
+ghost use Rattle.machine.specs.Replies.{of-checked};
+ghost use Rattle.simulator.specs.Replies.{of-needs};
+ghost use Rattle.sejimakpu.specs.Cells.{Tells};
 ghost use Rattle.sejimakpu.specs.Calls.{Judge-tells, Run-tells, Build-tells};
-
-// The number of a refusal, or 0, with its place; a verdict's number, a count and a configuration where the call has them.
-pub struct Reply {
-    pub refusal: u32,
-    pub place: usize,
-    pub verdict: u32,
-    pub count: usize,
-    pub end: Config,
-}
 
 // Whether an image is good.
 #[no_mangle]

@@ -1,15 +1,19 @@
 // A reply: what every call of the library answers, by numbers, and the six cells that it is written to.
-use crate::Reply;
 use grammar::Built;
 use interpreter::Ran;
 use machine::Checked;
 use machine::Config;
 use machine::Refusal;
+use machine::Reply;
 use machine::Verdict;
 use simulator::Judged;
 use simulator::Needs;
 ghost use mathlib.Core.Path.{_≡_};
-ghost use Rattle.sejimakpu.specs.Replies.{verdict-number as number-of, refused as refused-reply, answered as answered-reply, counted as counted-reply, Tells, of-checked, of-needs, of-judged, of-ran, of-built};
+ghost use Rattle.machine.specs.Replies.{verdict-number as number-of, refused as refused-reply, answered as answered-reply, counted as counted-reply, of-checked};
+ghost use Rattle.simulator.specs.Replies.{of-needs, of-judged};
+ghost use Rattle.interpreter.specs.Replies.{of-ran};
+ghost use Rattle.grammar.specs.Replies.{of-built};
+ghost use Rattle.sejimakpu.specs.Cells.{Tells};
 
 // A verdict's number.
 fn verdict_number(verdict: Verdict) -> u32

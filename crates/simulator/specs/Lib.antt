@@ -1,2 +1,3 @@
 -- What a reader must believe of judging: what the calls answer and leave.
 pub mod Calls
+pub mod Replies

@@ -1,6 +1,6 @@
 -- `sejimakpu::sejimakpu_cells` meets its contract. Assumes nothing.
 use Rattle.sejimakpu.proofs.Told.{told-as}
-use Rattle.sejimakpu.specs.Replies.{of-needs}
+use Rattle.simulator.specs.Replies.{of-needs}
 use mathlib.Core.Path.{ap, _∙_}
 use borrow.Author.Needs.{needs}
 use Rattle.sejimakpu.proofs.sejimakpu_cells.Statement.{statement}

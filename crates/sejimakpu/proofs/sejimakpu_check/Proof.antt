@@ -1,6 +1,6 @@
 -- `sejimakpu::sejimakpu_check` meets its contract. Assumes nothing.
 use Rattle.sejimakpu.proofs.Told.{told-as}
-use Rattle.sejimakpu.specs.Replies.{of-checked}
+use Rattle.machine.specs.Replies.{of-checked}
 use mathlib.Core.Path.{ap, _∙_}
 use borrow.Author.Needs.{needs}
 use Rattle.sejimakpu.proofs.sejimakpu_check.Statement.{statement}

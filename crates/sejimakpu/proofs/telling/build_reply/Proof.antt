@@ -1,5 +1,5 @@
 -- `sejimakpu::telling::build_reply` meets its contract. Assumes nothing.
-use Rattle.sejimakpu.specs.Replies.{of-built}
+use Rattle.grammar.specs.Replies.{of-built}
 use borrow.Author.Needs.{needs}
 use Rattle.sejimakpu.proofs.telling.build_reply.Statement.{statement}
 use Rattle.sejimakpu.proofs.telling.build_reply.Tie as tie

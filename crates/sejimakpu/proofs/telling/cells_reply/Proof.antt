@@ -1,5 +1,5 @@
 -- `sejimakpu::telling::cells_reply` meets its contract. Assumes nothing.
-use Rattle.sejimakpu.specs.Replies.{of-needs}
+use Rattle.simulator.specs.Replies.{of-needs}
 use borrow.Author.Needs.{needs}
 use Rattle.sejimakpu.proofs.telling.cells_reply.Statement.{statement}
 use Rattle.sejimakpu.proofs.telling.cells_reply.Tie as tie

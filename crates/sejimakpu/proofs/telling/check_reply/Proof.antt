@@ -1,5 +1,5 @@
 -- `sejimakpu::telling::check_reply` meets its contract. Assumes nothing.
-use Rattle.sejimakpu.specs.Replies.{of-checked}
+use Rattle.machine.specs.Replies.{of-checked}
 use borrow.Author.Needs.{needs}
 use Rattle.sejimakpu.proofs.telling.check_reply.Statement.{statement}
 use Rattle.sejimakpu.proofs.telling.check_reply.Tie as tie

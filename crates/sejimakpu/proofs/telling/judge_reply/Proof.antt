@@ -1,6 +1,6 @@
 -- `sejimakpu::telling::judge_reply` meets its contract. Assumes nothing.
 use Rattle.sejimakpu.proofs.Told.{numbered}
-use Rattle.sejimakpu.specs.Replies.{of-judged}
+use Rattle.simulator.specs.Replies.{of-judged}
 use borrow.Author.Needs.{needs}
 use Rattle.sejimakpu.proofs.telling.judge_reply.Statement.{statement}
 use Rattle.sejimakpu.proofs.telling.judge_reply.Tie as tie

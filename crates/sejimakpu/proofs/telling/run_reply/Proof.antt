@@ -1,6 +1,6 @@
 -- `sejimakpu::telling::run_reply` meets its contract. Assumes nothing.
 use Rattle.sejimakpu.proofs.Told.{numbered}
-use Rattle.sejimakpu.specs.Replies.{of-ran}
+use Rattle.interpreter.specs.Replies.{of-ran}
 use borrow.Author.Needs.{needs}
 use Rattle.sejimakpu.proofs.telling.run_reply.Statement.{statement}
 use Rattle.sejimakpu.proofs.telling.run_reply.Tie as tie

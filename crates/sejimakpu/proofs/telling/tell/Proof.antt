@@ -1,5 +1,5 @@
 -- `sejimakpu::telling::tell` meets its contract. Assumes nothing.
-use Rattle.sejimakpu.specs.Replies.{cells}
+use Rattle.sejimakpu.specs.Cells.{cells}
 use mathlib.Core.Path.{refl}
 use borrow.Author.Needs.{needs}
 use Rattle.sejimakpu.proofs.telling.tell.Statement.{statement}

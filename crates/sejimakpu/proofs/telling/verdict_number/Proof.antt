@@ -1,6 +1,6 @@
 -- `sejimakpu::telling::verdict_number` meets its contract. Assumes nothing.
 use mathlib.Core.Path.{refl}
-use Rattle.sejimakpu.specs.Replies.{verdict-number}
+use Rattle.machine.specs.Replies.{verdict-number}
 use borrow.Author.Needs.{needs}
 use Rattle.sejimakpu.proofs.telling.verdict_number.Statement.{statement}
 use Rattle.sejimakpu.proofs.telling.verdict_number.Tie as tie
