@@ -1,4 +1,5 @@
 // The library for C and Rust: each call on numbers and slices, its answer in six cells. include/sejimakpu.h declares these functions.
+// A slice is never null, not even an empty one: hence the names. The header's inline functions let C pass null with length 0.
 pub mod telling;
 
 use grammar::build::build_image;
@@ -22,7 +23,7 @@ ghost use Rattle.sejimakpu.specs.Calls.{Judge-tells, Run-tells, Build-te
 
 // Whether an image is good.
 #[no_mangle]
-pub extern "C" fn sejimakpu_check(image: &[u8], answer: &mut [u64; 6]) -> u32
+pub extern "C" fn sejimakpu_check_nonnull(image: &[u8], answer: &mut [u64; 6]) -> u32
     ensures { λ r. ⌜ Tells (of-checked (checked (image-refusal (now (image .entry))))) r (now (answer .exit)) ⌝ }
 {
     tell(answer, check_reply(check_image(image)))
@@ -30,7 +31,7 @@ pub extern "C" fn sejimakpu_check(image: &[u8], answer: &mut [u64; 6]) -> u32
 
 // How many cells the judging of a capture of n bytes needs.
 #[no_mangle]
-pub extern "C" fn sejimakpu_cells(image: &[u8], n: usize, answer: &mut [u64; 6]) -> u32
+pub extern "C" fn sejimakpu_cells_nonnull(image: &[u8], n: usize, answer: &mut [u64; 6]) -> u32
     ensures { λ r. ⌜ Tells (of-needs (needs (capture-refusal (now (image .entry)) n) (cells-needed (now (image .entry)) n))) r (now (answer .exit)) ⌝ }
 {
     tell(answer, cells_reply(cells(image, n)))
@@ -38,7 +39,7 @@ pub extern "C" fn sejimakpu_cells(image: &[u8], n: usize, answer: &mut [u64; 6])
 
 // Judging.
 #[no_mangle]
-pub extern "C" fn sejimakpu_judge(
+pub extern "C" fn sejimakpu_judge_nonnull(
     image: &[u8],
     capture: &[u8],
     notes: &mut [u32],
@@ -53,7 +54,7 @@ pub extern "C" fn sejimakpu_judge(
 
 // The plain run.
 #[no_mangle]
-pub extern "C" fn sejimakpu_plain_run(
+pub extern "C" fn sejimakpu_plain_run_nonnull(
     image: &[u8],
     capture: &[u8],
     budget: u32,
@@ -68,7 +69,11 @@ pub extern "C" fn sejimakpu_plain_run(
 
 // Building.
 #[no_mangle]
-pub extern "C" fn sejimakpu_build(grammar: &[u8], image: &mut [u8], answer: &mut [u64; 6]) -> u32
+pub extern "C" fn sejimakpu_build_nonnull(
+    grammar: &[u8],
+    image: &mut [u8],
+    answer: &mut [u64; 6],
+) -> u32
     ensures { λ r. ⌜ Build-tells (now (grammar .entry)) (now (image .entry)) (now (image .exit)) r (now (answer .exit)) ⌝ }
 {
     let built = build_image(grammar, image);

@@ -1,8 +1,8 @@
--- `sejimakpu::sejimakpu_judge` meets its contract. Assumes nothing.
+-- `sejimakpu::sejimakpu_judge_nonnull` meets its contract. Assumes nothing.
 use Rattle.sejimakpu.proofs.Told.{told-as}
 use borrow.Author.Needs.{needs}
-use Rattle.sejimakpu.proofs.sejimakpu_judge.Statement.{statement}
-use Rattle.sejimakpu.proofs.sejimakpu_judge.Tie as tie
+use Rattle.sejimakpu.proofs.sejimakpu_judge_nonnull.Statement.{statement}
+use Rattle.sejimakpu.proofs.sejimakpu_judge_nonnull.Tie as tie
 
 judge-requires : tie.Need-judge-requires
 judge-requires c κs = search needs
@@ -22,7 +22,7 @@ same-length-2 c = search needs
 returns : tie.Need-returns
 returns c = record { judged = _; says = c .before .before .before .before .before .before .before .judge .ensures; tells = told-as (c .before .judge-reply .ensures) (c .tell .ensures) }
 
-pub sejimakpu-judge-spec : {M : Type 1} → statement M
-sejimakpu-judge-spec =
+pub sejimakpu-judge-nonnull-spec : {M : Type 1} → statement M
+sejimakpu-judge-nonnull-spec =
     tie.close
     (tie.spec judge-requires judge-reply-requires tell-requires same-length same-length-2 returns)

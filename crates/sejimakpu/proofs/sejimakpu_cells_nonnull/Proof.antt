@@ -1,10 +1,10 @@
--- `sejimakpu::sejimakpu_cells` meets its contract. Assumes nothing.
+-- `sejimakpu::sejimakpu_cells_nonnull` meets its contract. Assumes nothing.
 use Rattle.sejimakpu.proofs.Told.{told-as}
 use Rattle.simulator.specs.Replies.{of-needs}
 use mathlib.Core.Path.{ap, _∙_}
 use borrow.Author.Needs.{needs}
-use Rattle.sejimakpu.proofs.sejimakpu_cells.Statement.{statement}
-use Rattle.sejimakpu.proofs.sejimakpu_cells.Tie as tie
+use Rattle.sejimakpu.proofs.sejimakpu_cells_nonnull.Statement.{statement}
+use Rattle.sejimakpu.proofs.sejimakpu_cells_nonnull.Tie as tie
 
 cells-requires : tie.Need-cells-requires
 cells-requires c κs = search needs
@@ -18,6 +18,6 @@ tell-requires c κs = search needs
 returns : tie.Need-returns
 returns c = told-as (c .before .cells-reply .ensures ∙ ap of-needs (c .before .before .cells .ensures)) (c .tell .ensures)
 
-pub sejimakpu-cells-spec : {M : Type 1} → statement M
-sejimakpu-cells-spec =
+pub sejimakpu-cells-nonnull-spec : {M : Type 1} → statement M
+sejimakpu-cells-nonnull-spec =
     tie.close (tie.spec cells-requires cells-reply-requires tell-requires returns)

@@ -1,10 +1,10 @@
--- `sejimakpu::sejimakpu_check` meets its contract. Assumes nothing.
+-- `sejimakpu::sejimakpu_check_nonnull` meets its contract. Assumes nothing.
 use Rattle.sejimakpu.proofs.Told.{told-as}
 use Rattle.machine.specs.Replies.{of-checked}
 use mathlib.Core.Path.{ap, _∙_}
 use borrow.Author.Needs.{needs}
-use Rattle.sejimakpu.proofs.sejimakpu_check.Statement.{statement}
-use Rattle.sejimakpu.proofs.sejimakpu_check.Tie as tie
+use Rattle.sejimakpu.proofs.sejimakpu_check_nonnull.Statement.{statement}
+use Rattle.sejimakpu.proofs.sejimakpu_check_nonnull.Tie as tie
 
 check-image-requires : tie.Need-check-image-requires
 check-image-requires c κs = search needs
@@ -18,6 +18,6 @@ tell-requires c κs = search needs
 returns : tie.Need-returns
 returns c = told-as (c .before .check-reply .ensures ∙ ap of-checked (c .before .before .check-image .ensures)) (c .tell .ensures)
 
-pub sejimakpu-check-spec : {M : Type 1} → statement M
-sejimakpu-check-spec =
+pub sejimakpu-check-nonnull-spec : {M : Type 1} → statement M
+sejimakpu-check-nonnull-spec =
     tie.close (tie.spec check-image-requires check-reply-requires tell-requires returns)

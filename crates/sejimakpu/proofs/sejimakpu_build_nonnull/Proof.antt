@@ -1,8 +1,8 @@
--- `sejimakpu::sejimakpu_build` meets its contract. Assumes nothing.
+-- `sejimakpu::sejimakpu_build_nonnull` meets its contract. Assumes nothing.
 use Rattle.sejimakpu.proofs.Told.{told-as}
 use borrow.Author.Needs.{needs}
-use Rattle.sejimakpu.proofs.sejimakpu_build.Statement.{statement}
-use Rattle.sejimakpu.proofs.sejimakpu_build.Tie as tie
+use Rattle.sejimakpu.proofs.sejimakpu_build_nonnull.Statement.{statement}
+use Rattle.sejimakpu.proofs.sejimakpu_build_nonnull.Tie as tie
 
 build-image-requires : tie.Need-build-image-requires
 build-image-requires c κs = search needs
@@ -19,7 +19,7 @@ same-length c = search needs
 returns : tie.Need-returns
 returns c = record { built = _; says = c .before .before .before .before .before .build-image .ensures; tells = told-as (c .before .build-reply .ensures) (c .tell .ensures) }
 
-pub sejimakpu-build-spec : {M : Type 1} → statement M
-sejimakpu-build-spec =
+pub sejimakpu-build-nonnull-spec : {M : Type 1} → statement M
+sejimakpu-build-nonnull-spec =
     tie.close
     (tie.spec build-image-requires build-reply-requires tell-requires same-length returns)
