@@ -14,24 +14,30 @@
 
 enum { PASSED = 0, NOT_PASSED = 1, NOT_JUDGED = 2 };
 
+static void unreadable(const char *name)
+{
+    fprintf(stderr, "accept: cannot read %s\n", name);
+    exit(NOT_JUDGED);
+}
+
 /* A file's bytes, at most limit + 1 of them: one more than allowed is enough to be refused. */
 static size_t bytes_of(const char *name, uint8_t *bytes, size_t limit)
 {
     FILE *file = fopen(name, "rb");
-    size_t length;
-    if (file == NULL) {
-        fprintf(stderr, "accept: cannot read %s\n", name);
-        exit(NOT_JUDGED);
-    }
-    length = fread(bytes, 1, limit + 1, file);
+    if (file == NULL)
+        unreadable(name);
+    size_t length = fread(bytes, 1, limit + 1, file);
+    if (ferror(file)) /* what was read before is not the file */
+        unreadable(name);
     fclose(file);
     return length;
 }
 
-/* Ends the program where a call was refused: by number and place, as the table of refusals has them. */
+/* Ends the program where a call was refused: what that means for a person, then the line with number and place. */
 static void or_stop(uint32_t refusal, const sejimakpu_answer *answer)
 {
     if (refusal != SEJIMAKPU_ANSWERED) {
+        fprintf(stderr, "accept: %s\n", sejimakpu_refusal_meaning(refusal));
         printf("refused %" PRIu32 " %" PRIu64 "\n", refusal, answer->place);
         exit(NOT_JUDGED);
     }
@@ -45,17 +51,6 @@ static uint32_t *cells_of(uint64_t count)
         exit(NOT_JUDGED);
     }
     return cells;
-}
-
-static const char *word_of(uint64_t verdict)
-{
-    switch (verdict) {
-    case SEJIMAKPU_ACCEPTED: return "accepted";
-    case SEJIMAKPU_ENDED: return "ended";
-    case SEJIMAKPU_STUCK: return "stuck";
-    case SEJIMAKPU_LOOPING: return "looping";
-    default: return "unknown";
-    }
 }
 
 int main(int count, char **words)
@@ -81,7 +76,7 @@ int main(int count, char **words)
 
     or_stop(sejimakpu_judge(image, image_length, capture, capture_length, notes, cells, work, cells, &answer), &answer);
     printf("%s %" PRIu64 " %" PRIu64 " %" PRIu64 " %" PRIu64 "\n",
-           word_of(answer.verdict), answer.count, answer.state, answer.head, answer.symbol);
+           sejimakpu_verdict_word(answer.verdict), answer.count, answer.state, answer.head, answer.symbol);
     free(notes);
     free(work);
     return answer.verdict == SEJIMAKPU_ACCEPTED ? PASSED : NOT_PASSED;

@@ -1,13 +1,15 @@
 /*
- * Sejimakpu: judges console captures by two-way pointer pushdown machines.
+ * Sejimakpu: judges console captures by two-way pointer pushdown machines. For C99 and C++11.
  *
- * Link libsejimakpu.a (made by `rt staticlib sejimakpu`). Every function below is proved against its contract in
- * crates/sejimakpu: it returns on every input, and what it answers is what the definitions in crates/NAME/specs say.
+ * Link libsejimakpu.a (made by `rt staticlib sejimakpu`). Its five functions are proved against their contracts in
+ * crates/sejimakpu: each returns on every input, and what it answers is what the definitions in crates/NAME/specs say.
+ * Call them by the inline functions below, which only replace null pointers.
  *
  * What C must keep to, because no function can test it:
- *   - a pointer with a length points to that many elements, aligned as its type asks; it is not null, even for length 0;
+ *   - a pointer with a length above 0 points to that many elements, aligned as its type asks;
  *   - memory that a call may write (image of build, notes, work, stack, answer) overlaps nothing else that the call is given.
- * Everything else that can be passed is answered or refused.
+ * A pointer with length 0 is not used, and may be null. So may the answer, where the returned number is all that is
+ * wanted. Everything else that can be passed is answered or refused.
  */
 #ifndef SEJIMAKPU_H
 #define SEJIMAKPU_H
@@ -66,15 +68,69 @@ typedef struct sejimakpu_answer {
 } sejimakpu_answer;
 
 /*
+ * The archive's own functions. They take what the inline functions below take, and no pointer may be null, even with
+ * length 0: the proved code takes slices, and a slice is never null.
+ */
+uint32_t sejimakpu_check_nonnull(const uint8_t *image, size_t image_length, sejimakpu_answer *answer);
+uint32_t sejimakpu_cells_nonnull(const uint8_t *image, size_t image_length, size_t capture_length,
+                                 sejimakpu_answer *answer);
+uint32_t sejimakpu_judge_nonnull(const uint8_t *image, size_t image_length,
+                                 const uint8_t *capture, size_t capture_length,
+                                 uint32_t *notes, size_t notes_length,
+                                 uint32_t *work, size_t work_length,
+                                 sejimakpu_answer *answer);
+uint32_t sejimakpu_plain_run_nonnull(const uint8_t *image, size_t image_length,
+                                     const uint8_t *capture, size_t capture_length,
+                                     uint32_t budget,
+                                     uint32_t *stack, size_t stack_length,
+                                     sejimakpu_answer *answer);
+uint32_t sejimakpu_build_nonnull(const uint8_t *grammar, size_t grammar_length,
+                                 uint8_t *image, size_t image_length,
+                                 sejimakpu_answer *answer);
+
+/*
+ * For the inline functions: the pointer, or one to an element that nobody reads or writes where the length is 0. A null
+ * pointer with a length above 0 stays null, so that this mistake is met at the first access.
+ */
+static inline const uint8_t *sejimakpu_input_bytes(const uint8_t *bytes, size_t length)
+{
+    static const uint8_t unused = 0;
+    return length == 0 ? &unused : bytes;
+}
+
+static inline uint8_t *sejimakpu_lent_bytes(uint8_t *bytes, size_t length)
+{
+    static uint8_t unused;
+    return length == 0 ? &unused : bytes;
+}
+
+static inline uint32_t *sejimakpu_lent_cells(uint32_t *cells, size_t length)
+{
+    static uint32_t unused;
+    return length == 0 ? &unused : cells;
+}
+
+/*
  * Checks an image: refusals 1 to 6.
  */
-uint32_t sejimakpu_check(const uint8_t *image, size_t image_length, sejimakpu_answer *answer);
+static inline uint32_t sejimakpu_check(const uint8_t *image, size_t image_length, sejimakpu_answer *answer)
+{
+    sejimakpu_answer unread;
+    return sejimakpu_check_nonnull(sejimakpu_input_bytes(image, image_length), image_length,
+                                   answer == NULL ? &unread : answer);
+}
 
 /*
  * How many notes and how many work cells judging needs, for this image and any capture of so many bytes:
  * answer->count is N = states * (capture_length + 2) * symbols. Refusals 1 to 7.
  */
-uint32_t sejimakpu_cells(const uint8_t *image, size_t image_length, size_t capture_length, sejimakpu_answer *answer);
+static inline uint32_t sejimakpu_cells(const uint8_t *image, size_t image_length, size_t capture_length,
+                                       sejimakpu_answer *answer)
+{
+    sejimakpu_answer unread;
+    return sejimakpu_cells_nonnull(sejimakpu_input_bytes(image, image_length), image_length, capture_length,
+                                   answer == NULL ? &unread : answer);
+}
 
 /*
  * Judges a capture by an image: answer->verdict (accepted, ended, stuck or looping), the readings in answer->count, and
@@ -85,30 +141,93 @@ uint32_t sejimakpu_cells(const uint8_t *image, size_t image_length, size_t captu
  * never removes the entry then on top, else 2 + the number of the configuration that removes it. The first N work cells
  * are 0. Later cells are as they were, and what stood in the first N before does not matter.
  */
-uint32_t sejimakpu_judge(const uint8_t *image, size_t image_length,
-                         const uint8_t *capture, size_t capture_length,
-                         uint32_t *notes, size_t notes_length,
-                         uint32_t *work, size_t work_length,
-                         sejimakpu_answer *answer);
+static inline uint32_t sejimakpu_judge(const uint8_t *image, size_t image_length,
+                                       const uint8_t *capture, size_t capture_length,
+                                       uint32_t *notes, size_t notes_length,
+                                       uint32_t *work, size_t work_length,
+                                       sejimakpu_answer *answer)
+{
+    sejimakpu_answer unread;
+    return sejimakpu_judge_nonnull(sejimakpu_input_bytes(image, image_length), image_length,
+                                   sejimakpu_input_bytes(capture, capture_length), capture_length,
+                                   sejimakpu_lent_cells(notes, notes_length), notes_length,
+                                   sejimakpu_lent_cells(work, work_length), work_length,
+                                   answer == NULL ? &unread : answer);
+}
 
 /*
  * Runs the machine step by step, at most budget steps, on a stack of lent cells, one an entry: answer->verdict (accepted,
  * ended, stuck, spent or deep), the steps taken in answer->count, and the configuration reached. Refusals 1 to 7 and 10;
  * a refused call changes no cell, and after an answer all cells are 0.
  */
-uint32_t sejimakpu_plain_run(const uint8_t *image, size_t image_length,
-                             const uint8_t *capture, size_t capture_length,
-                             uint32_t budget,
-                             uint32_t *stack, size_t stack_length,
-                             sejimakpu_answer *answer);
+static inline uint32_t sejimakpu_plain_run(const uint8_t *image, size_t image_length,
+                                           const uint8_t *capture, size_t capture_length,
+                                           uint32_t budget,
+                                           uint32_t *stack, size_t stack_length,
+                                           sejimakpu_answer *answer)
+{
+    sejimakpu_answer unread;
+    return sejimakpu_plain_run_nonnull(sejimakpu_input_bytes(image, image_length), image_length,
+                                       sejimakpu_input_bytes(capture, capture_length), capture_length,
+                                       budget,
+                                       sejimakpu_lent_cells(stack, stack_length), stack_length,
+                                       answer == NULL ? &unread : answer);
+}
 
 /*
  * Builds the image of a grammar at the start of a buffer: answer->count is its length, and later bytes stay. Refusals 11
  * to 13; a refused call changes no byte.
  */
-uint32_t sejimakpu_build(const uint8_t *grammar, size_t grammar_length,
-                         uint8_t *image, size_t image_length,
-                         sejimakpu_answer *answer);
+static inline uint32_t sejimakpu_build(const uint8_t *grammar, size_t grammar_length,
+                                       uint8_t *image, size_t image_length,
+                                       sejimakpu_answer *answer)
+{
+    sejimakpu_answer unread;
+    return sejimakpu_build_nonnull(sejimakpu_input_bytes(grammar, grammar_length), grammar_length,
+                                   sejimakpu_lent_bytes(image, image_length), image_length,
+                                   answer == NULL ? &unread : answer);
+}
+
+/*
+ * A verdict's word, as the program `judge` prints it; never null.
+ */
+static inline const char *sejimakpu_verdict_word(uint64_t verdict)
+{
+    switch (verdict) {
+    case SEJIMAKPU_NO_VERDICT: return "none";
+    case SEJIMAKPU_ACCEPTED: return "accepted";
+    case SEJIMAKPU_ENDED: return "ended";
+    case SEJIMAKPU_STUCK: return "stuck";
+    case SEJIMAKPU_LOOPING: return "looping";
+    case SEJIMAKPU_SPENT: return "spent";
+    case SEJIMAKPU_DEEP: return "deep";
+    default: return "unknown";
+    }
+}
+
+/*
+ * What a refusal's number means, in a few words for a person; never null.
+ */
+static inline const char *sejimakpu_refusal_meaning(uint32_t refusal)
+{
+    switch (refusal) {
+    case SEJIMAKPU_ANSWERED: return "not refused";
+    case SEJIMAKPU_IMAGE_SHORT: return "the image is shorter than 32 bytes";
+    case SEJIMAKPU_IMAGE_DIRECTORY: return "a pair of offset and length in the image's directory is wrong";
+    case SEJIMAKPU_IMAGE_COUNTS: return "a count, byte 27 or the final states of the image are wrong";
+    case SEJIMAKPU_IMAGE_LENGTH: return "the image's rules are not as long as its counts ask for";
+    case SEJIMAKPU_IMAGE_CLASS: return "the image's class map names a class that is not there";
+    case SEJIMAKPU_IMAGE_RULE: return "a rule of the image is bad";
+    case SEJIMAKPU_CAPTURE_LONG: return "the capture is longer than 65,535 bytes";
+    case SEJIMAKPU_NOTES_SHORT: return "there are fewer notes than judging needs";
+    case SEJIMAKPU_WORK_SHORT: return "there are fewer work cells than judging needs";
+    case SEJIMAKPU_STACK_EMPTY: return "there is no stack cell";
+    case SEJIMAKPU_GRAMMAR_LENGTH: return "the grammar has no rule, over 31 rules, or a part of a rule";
+    case SEJIMAKPU_GRAMMAR_RULE: return "a rule of the grammar is wrong";
+    case SEJIMAKPU_IMAGE_BUFFER_SHORT: return "the image buffer is too short for the image";
+    default: return "unknown refusal";
+    }
+}
 
 #ifdef __cplusplus
 }
