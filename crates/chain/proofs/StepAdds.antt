@@ -1,11 +1,12 @@
--- What one step adds: to the readings as much as to the nonzero notes, one at most. Assumes nothing.
-use mathlib.Core.Path.{_≡_, refl, _∙_, subst}
+-- What one step adds: to the readings as much as to the nonzero notes, one at most, and which note turns. Assumes nothing.
+use mathlib.Core.Path.{_≡_, refl, sym, _∙_, subst}
 use mathlib.Core.Bool.{Bool, true, false, cond}
-use mathlib.Core.List.{List}
-use Prim.Native.Nat.{ℕ, suc, _+_, _-_, _/_, _%_, _<_, _≤_}
+use mathlib.Core.List.{List, [], _∷_}
+use Prim.Native.Nat.{ℕ, zero, suc, _+_, _-_, _/_, _%_, _<_, _≤_}
 use native.Mathlib.Omega.{arith}
 use lib.Dec.{eqb}
 use lib.ListN.{length, getD, set}
+use lib.Seq.{getD-set-same, getD-set-other}
 use borrow.Author.Tests.{eqb-true}
 use Rattle.machine.specs.declared.Config.{Config}
 use Rattle.machine.specs.declared.Action.{Action}
@@ -19,7 +20,7 @@ use Rattle.chain.specs.declared.Mode.{Mode}
 use Rattle.chain.specs.declared.Mode.the-variants.{Look, Unwind, Clear, Done}
 use Rattle.chain.specs.declared.Record.{Record}
 use Rattle.chain.specs.Turn.{Standing, standing, with-now, resumed, closed, counted, first-look, look, unwound, unwind, cleared, turn-by, turn}
-use Rattle.chain.specs.Ready.{Open-for, Ready, Step-says}
+use Rattle.chain.specs.Ready.{Open-for, Ready, Same-zero, Turns, no-note, one-note, Step-says}
 use Rattle.chain.proofs.StepSafe.{number-low}
 
 -- the readings of each record that a step makes
@@ -37,17 +38,48 @@ resumed-reads r d (Pop p b) i t = go (eqb t 0) _ _ refl refl
 pub record Adds (n : ℕ) (r : Record) (ns : List ℕ) (x : Standing) : Type 0 where
   pub adds : x .now-at .readings + nonzero n ns ≡ r .readings + nonzero n (x .notes)
   pub one-more : x .now-at .readings ≤ suc (r .readings)
+  pub turns : Turns (r .readings) (x .now-at .readings) ns (x .notes)
 
--- nothing read: the readings and the count stay
+same-zero : {a : ℕ} → Same-zero a a
+same-zero = ((λ z. z), (λ z. z))
+
+-- a note that was not 0 and is not 0 now
+stored-zero :
+    (ns : List ℕ) (k v j : ℕ) → (getD ns k 0 ≡ 0 → ⊥) → (v ≡ 0 → ⊥) → Same-zero (getD ns j 0) (getD (set ns k v) j 0)
+stored-zero [] k v j old new = same-zero
+stored-zero (n ∷ ns) zero v zero old new = ((λ z. absurd (old z)), (λ z. absurd (new z)))
+stored-zero (n ∷ ns) zero v (suc j) old new = same-zero
+stored-zero (n ∷ ns) (suc k) v zero old new = same-zero
+stored-zero (n ∷ ns) (suc k) v (suc j) old new = stored-zero ns k v j old new
+
+-- nothing read and no note stored
 none-read :
-    {n : ℕ} {r : Record} {ns : List ℕ} (x : Record) (ns′ ws : List ℕ) → x .readings ≡ r .readings →
-    nonzero n ns′ ≡ nonzero n ns → Adds n r ns (standing x ns′ ws)
-none-read x ns′ ws e f = record { adds = rw (e, f); one-more = omega arith }
+    {n : ℕ} {r : Record} {ns : List ℕ} (x : Record) (ws : List ℕ) → x .readings ≡ r .readings → Adds n r ns (standing x ns ws)
+none-read x ws e = record { adds = rw e; one-more = omega arith; turns = no-note e (λ j. same-zero) }
 
+-- nothing read: a note that was not 0 gets another value that is not
+kept-read :
+    {n : ℕ} {r : Record} {ns : List ℕ} (x : Record) (k v : ℕ) (ws : List ℕ) → x .readings ≡ r .readings →
+    (getD ns k 0 ≡ 0 → ⊥) → (v ≡ 0 → ⊥) → Adds n r ns (standing x (set ns k v) ws)
+kept-read {n} {r} {ns} x k v ws e old new =
+    record {
+      adds = rw (e, nonzero-set-old n ns k v old new);
+      one-more = omega arith;
+      turns = no-note e (λ j. stored-zero ns k v j old new);
+    }
+
+-- a reading: the note that was 0 gets a value that is not
 one-read :
-    {n : ℕ} {r : Record} {ns : List ℕ} (x : Record) (ns′ ws : List ℕ) → x .readings ≡ r .readings + 1 →
-    nonzero n ns′ ≡ suc (nonzero n ns) → Adds n r ns (standing x ns′ ws)
-one-read x ns′ ws e f = record { adds = omega arith; one-more = omega arith }
+    {n : ℕ} {r : Record} {ns : List ℕ} (x : Record) (k v : ℕ) (ws : List ℕ) → x .readings ≡ r .readings + 1 → k < n → length ns ≡ n →
+    getD ns k 0 ≡ 0 → (v ≡ 0 → ⊥) → Adds n r ns (standing x (set ns k v) ws)
+one-read {n} {r} {ns} x k v ws e h l old new =
+    let more : nonzero n (set ns k v) ≡ suc (nonzero n ns) = nonzero-set-new n ns k v h (omega arith) old new in
+    record {
+      adds = omega arith;
+      one-more = omega arith;
+      turns = one-note k (omega arith) old (λ z. new (sym (getD-set-same ns k v 0 (omega arith)) ∙ z))
+          (λ j f. rw (getD-set-other ns k j v 0 f) same-zero);
+    }
 
 closed-reads : (r : Record) (d : Config) (a : Action) → closed r d a .readings ≡ r .readings
 unfolding closed
@@ -62,11 +94,11 @@ first-adds :
     (n : ℕ) (r : Record) (k : ℕ) (a : Action) (ns ws : List ℕ) → k < n → length ns ≡ n → getD ns k 0 ≡ 0 →
     Adds n r ns (first-look r k a ns ws)
 unfolding first-look
-first-adds n r k Stop ns ws h l e = one-read _ _ _ refl (nonzero-set-new n ns k 1 h (omega arith) e (λ z. omega arith))
-first-adds n r k (Change c) ns ws h l e = one-read _ _ _ refl (nonzero-set-new n ns k 1 h (omega arith) e (λ z. omega arith))
-first-adds n r k (Push c) ns ws h l e = one-read _ _ _ refl (nonzero-set-new n ns k 1 h (omega arith) e (λ z. omega arith))
+first-adds n r k Stop ns ws h l e = one-read _ k 1 _ refl h l e (λ z. omega arith)
+first-adds n r k (Change c) ns ws h l e = one-read _ k 1 _ refl h l e (λ z. omega arith)
+first-adds n r k (Push c) ns ws h l e = one-read _ k 1 _ refl h l e (λ z. omega arith)
 first-adds n r k (Pop p b) ns ws h l e =
-    one-read _ _ _ (closed-reads (counted r) (r .at) (Pop p b)) (nonzero-set-new n ns k (k + 2) h (omega arith) e (λ z. omega arith))
+    one-read _ k (k + 2) _ (closed-reads (counted r) (r .at) (Pop p b)) h l e (λ z. omega arith)
 
 look-adds :
     (M : Machine) (n : ℕ) (r : Record) (k v : ℕ) (ns ws : List ℕ) → k < n → length ns ≡ n → getD ns k 0 ≡ v →
@@ -84,8 +116,8 @@ look-adds M n r k v ns ws h l e = go (eqb v 0) (eqb v 1) refl
         (cond b (standing (with-now r (Clear Rattle.machine.specs.declared.Verdict.the-variants.Looping) (r .at) (r .pushed) (r .top) (r .readings)) ns ws)
         (standing (closed r (config-from (r .sizes) (v - 2)) (M .action (config-from (r .sizes) (v - 2)))) ns ws)))
     go true b q = first-adds n r k (M .action (r .at)) ns ws h l (e ∙ eqb-true v 0 q)
-    go false true q = none-read _ _ _ refl refl
-    go false false q = none-read _ _ _ (closed-reads r _ _) refl
+    go false true q = none-read _ _ refl
+    go false false q = none-read _ _ (closed-reads r _ _)
 
 unwound-reads : (M : Machine) (r : Record) (k w : ℕ) → unwound M r k w .readings ≡ r .readings
 unfolding unwound
@@ -120,9 +152,9 @@ unfolding turn-by unwind
 turn-adds {bs} {cs} {r} {ns} {ws} y Look o =
     look-adds (machine bs cs) _ r _ _ ns ws (number-low (y .unrefused) (y .sizes-are) (y .there)) (y .notes-long) refl
 turn-adds {bs} {cs} {r} {ns} y Unwind o =
-    none-read _ _ _ (unwound-reads _ r _ _) (nonzero-set-old _ ns (r .top - 1) _ (λ z. omega (arith, o .1)) (λ z. omega arith))
-turn-adds {r = r} y (Clear v) o = none-read _ _ _ (cleared-reads r v _) refl
-turn-adds y (Done v) o = none-read _ _ _ refl refl
+    kept-read _ (r .top - 1) _ _ (unwound-reads _ r _ _) (λ z. omega (arith, o .1)) (λ z. omega arith)
+turn-adds {r = r} y (Clear v) o = none-read _ _ (cleared-reads r v _)
+turn-adds y (Done v) o = none-read _ _ refl
 
 -- a step that is its mode's
 pub says-by :
@@ -133,7 +165,7 @@ says-by {bs} {cs} {r} {x} {ns} {ns′} {ws} {ws′} y {m} e f =
     let a : Adds (how-many (machine bs cs)) r ns (standing x ns′ ws′) =
     rw f (turn-adds y m (subst (λ (k : Mode). Open-for k (r .top) ns) e (y .open-one)))
     in
-    record { is = f ∙ rw e; adds = a .adds; one-more = a .one-more }
+    record { is = f ∙ rw e; adds = a .adds; one-more = a .one-more; turns = a .turns }
 
 -- what a mode's function asks, and a step that clears or does nothing
 module _ {bs cs : List ℕ} {r : Record} {ns ws : List ℕ} (y : Ready bs cs r ns ws) where

@@ -2,6 +2,7 @@
 use mathlib.Core.Path.{_≡_}
 use mathlib.Core.Bool.{true}
 use mathlib.Core.List.{List}
+use mathlib.Core.Logic.{_↔_}
 use Prim.Native.Nat.{ℕ, suc, _+_, _-_, _<_, _≤_}
 use lib.ListN.{length, getD}
 use Rattle.machine.specs.declared.Sizes.{Sizes}
@@ -41,12 +42,24 @@ pub record Openable (r : Record) (k : ℕ) (notes work : List ℕ) : Type 0 wher
   pub note-there : k < length notes
   pub work-there : k < length work
 
--- the step is the definition's; what it adds to the readings is what it adds to the nonzero notes, and that is one at most
+-- a note is 0 now exactly if it was 0
+abbrev pub Same-zero : (note note-now : ℕ) → Type 0
+Same-zero a b = a ≡ 0 ↔ b ≡ 0
+
+-- ZERO NOTES THAT TURN NONZERO: there is none and the readings stay, or it is number k's alone and they are one more; no note goes back to 0
+pub data Turns (before now : ℕ) (notes notes-now : List ℕ) : Type 0 where
+  no-note : now ≡ before → ((j : ℕ) → Same-zero (getD notes j 0) (getD notes-now j 0)) → Turns before now notes notes-now
+  one-note :
+      (k : ℕ) → now ≡ suc before → getD notes k 0 ≡ 0 → (getD notes-now k 0 ≡ 0 → ⊥) →
+      ((j : ℕ) → (j ≡ k → ⊥) → Same-zero (getD notes j 0) (getD notes-now j 0)) → Turns before now notes notes-now
+
+-- the step is the definition's; what it adds to the readings is what it adds to the nonzero notes, and that is one at most, for the note that turned
 pub record Step-says (bs cs : List ℕ) (r r-now : Record) (notes notes-now work work-now : List ℕ) : Type 0 where
   pub is : standing r-now notes-now work-now ≡ turn (machine bs cs) (standing r notes work)
   pub adds :
       r-now .readings + nonzero (how-many (machine bs cs)) notes ≡ r .readings + nonzero (how-many (machine bs cs)) notes-now
   pub one-more : r-now .readings ≤ suc (r .readings)
+  pub turns : Turns (r .readings) (r-now .readings) notes notes-now
 
 -- the start record by the counts and finals that are read from the image
 abbrev pub start-record : Sizes → (finals : ℕ) → Record
