@@ -24,3 +24,4 @@ pub mod CodeWriting
 pub mod CodeRows
 pub mod CodeRules
 pub mod CodeBuild
+pub mod LongestImage
