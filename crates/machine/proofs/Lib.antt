@@ -17,4 +17,5 @@ pub mod Notes
 pub mod NotesOfRun
 pub mod Reach
 pub mod Pigeonhole
+pub mod NotesImplied
 pub mod Listing

@@ -30,12 +30,12 @@ never-only (never out) no-entry = refl
 never-only (unended e endless) no-entry = absurd (no-entry e)
 never-only (ended e there ends) no-entry = absurd (no-entry e)
 
-unended-only : {M : Machine} {c : Config} {v : ℕ} → Note M c v → Entered M c → No-end M c → v ≡ 1
+pub unended-only : {M : Machine} {c : Config} {v : ℕ} → Note M c v → Entered M c → No-end M c → v ≡ 1
 unended-only (never out) e endless = absurd (out e)
 unended-only (unended a b) e endless = refl
 unended-only (ended {d = d} a there ends) e endless = absurd (endless d ends)
 
-ended-only : {M : Machine} {c d : Config} {v : ℕ} → Note M c v → Entered M c → Ends-at M c d → v ≡ 2 + number M d
+pub ended-only : {M : Machine} {c d : Config} {v : ℕ} → Note M c v → Entered M c → Ends-at M c d → v ≡ 2 + number M d
 ended-only (never out) e ends = absurd (out e)
 ended-only {d = d} (unended a endless) e ends = absurd (endless d ends)
 ended-only {M} {c} {d} (ended {d = f} a there ends′) e ends = ap (λ (x : Config). 2 + number M x) (same-terminator M c f d ends′ ends)

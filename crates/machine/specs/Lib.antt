@@ -9,3 +9,4 @@ pub mod Lookup
 pub mod Calls
 pub mod Removal
 pub mod Replies
+pub mod Implications
