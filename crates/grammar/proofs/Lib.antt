@@ -3,6 +3,7 @@ pub mod Bools
 pub mod GrammarGood
 pub mod Classes
 pub mod ClassesFew
+pub mod RangeClasses
 pub mod Bytes
 pub mod BuiltImage
 pub mod BuiltRules

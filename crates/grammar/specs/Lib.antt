@@ -2,6 +2,7 @@
 pub mod Grammar
 pub mod Parsing
 pub mod Classes
+pub mod Counting
 pub mod Image
 pub mod Writing
 pub mod Calls

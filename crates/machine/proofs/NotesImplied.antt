@@ -7,7 +7,7 @@ use Rattle.machine.specs.declared.Config.{Config}
 use Rattle.machine.specs.Run.{Machine, There, number}
 use Rattle.machine.specs.Image.{machine}
 use Rattle.machine.specs.Verdicts.{Entered, Ends-at, No-end, Noted}
-use Rattle.machine.specs.Implications.{Noted-by-implication, Noted-implies}
+use Rattle.machine.specs.Implications.{Noted-implies}
 use Rattle.machine.proofs.Inside.{inside}
 use Rattle.machine.proofs.Notes.{never-only, unended-only, ended-only}
 use Rattle.machine.proofs.Reach.{entered-there}
