@@ -5,12 +5,12 @@ use Prim.Native.Nat.{ℕ, suc, _+_, _-_, _<_, _≤_}
 use native.Mathlib.Nat.{zero-add}
 use native.Mathlib.Numerals.{add-one}
 use native.Mathlib.Omega.{arith}
-use lib.ListN.{length, take, set, getD, length-set}
-use lib.Seq.{take-suc-set, take-set-le, append-snoc, length-take-le, getD-take, getD-append-add}
+use lib.ListN.{length, take, drop, set, getD, length-set, length-append, take-append-drop}
+use lib.Seq.{take-suc-set, take-set-le, drop-set-lt, take-at, append-snoc, length-take-le, getD-take, getD-append-add}
 use Rattle.grammar.specs.Classes.{class-of}
 use Rattle.grammar.specs.Image.{little-endian, map-made}
 use Rattle.grammar.specs.Writing.{header-of}
-use Rattle.grammar.proofs.Bytes.{map-reads}
+use Rattle.grammar.proofs.Bytes.{map-length, map-reads}
 use Rattle.grammar.proofs.CodeClasses.{class-zero}
 
 -- one byte more
@@ -76,6 +76,7 @@ pub record Map-written (gs before now : List ℕ) (class v : ℕ) : Type 0 where
   pub class-is : class ≡ class-of gs v
   pub long : length now ≡ length before
   pub written : take (32 + v + 1) now ++ map-made (255 - v) (suc v) gs ≡ take 32 before ++ map-made 256 0 gs
+  pub later : drop 288 now ≡ drop 288 before
 
 -- the class of 0 is stored before the loop
 pub map-start : (gs a : List ℕ) → 288 ≤ length a → Map-written gs (set a 32 0) (set a 32 0) 0 0
@@ -91,6 +92,7 @@ map-start gs a h =
       written =
           write-next a 32 0 (map-made 255 1 gs) _ room (ap (λ (r : List ℕ). take 32 a ++ r) left)
           ∙ ap (λ (l : List ℕ). l ++ map-made 256 0 gs) (sym (take-set-le 32 a 32 0 (omega arith)));
+      later = refl;
     }
 
 pub map-room : (gs a b : List ℕ) (class v : ℕ) → Map-written gs (set a 32 0) b class v → length b ≡ length a
@@ -118,11 +120,12 @@ map-next gs a b class v class' w h more e =
           (ap (λ (r : List ℕ). take (32 + (v + 1)) b ++ r) left
           ∙ ap (λ (n : ℕ). take n b ++ map-made (255 - v) (suc v) gs) place
           ∙ w .written);
+      later = drop-set-lt 288 b (32 + (v + 1)) class' (omega arith) ∙ w .later;
     }
 
-pub map-end :
+map-filled :
     (gs a b : List ℕ) (class v : ℕ) → Map-written gs (set a 32 0) b class v → 255 ≤ v → take 288 b ≡ take 32 a ++ map-made 256 0 gs
-map-end gs a b class v w h =
+map-filled gs a b class v w h =
     let nothing : 255 - v ≡ 0 = omega arith in
     let whole : 32 + v + 1 ≡ 288 = omega (arith, w .within) in
     sym
@@ -131,6 +134,23 @@ map-end gs a b class v w h =
     ∙ ap (λ (n : ℕ). take n b) whole)
     ∙ w .written
     ∙ ap (λ (l : List ℕ). l ++ map-made 256 0 gs) (take-set-le 32 a 32 0 (omega arith))
+
+-- the whole buffer after the last class
+pub map-end :
+    (gs a b : List ℕ) (class v : ℕ) → Map-written gs (set a 32 0) b class v → 255 ≤ v →
+    b ≡ take 32 a ++ map-made 256 0 gs ++ drop 288 a
+map-end gs a b class v w h =
+    let kept : drop 288 b ≡ drop 288 a = w .later ∙ drop-set-lt 288 a 32 0 (omega arith) in
+    sym (take-append-drop 288 b) ∙ ap (λ (l : List ℕ). l ++ drop 288 b) (map-filled gs a b class v w h)
+    ∙ ap (λ (l : List ℕ). take 32 a ++ map-made 256 0 gs ++ l) kept
+
+-- what stands before the rules then
+pub map-front :
+    (gs a b : List ℕ) → 288 ≤ length a → b ≡ take 32 a ++ map-made 256 0 gs ++ drop 288 a → take 288 b ≡ take 32 a ++ map-made 256 0 gs
+map-front gs a b h e =
+    ap (take 288) e
+    ∙ take-at (take 32 a ++ map-made 256 0 gs) (drop 288 a) 288
+    (length-append (take 32 a) (map-made 256 0 gs) ∙ omega (arith, length-take-le 32 a (omega arith), map-length 256 0 gs))
 
 -- the class map as it was written
 pub map-read :

@@ -8,7 +8,7 @@ ghost use mathlib.Core.Bool.{_||_, cond};
 ghost use mathlib.Core.List.{_++_};
 ghost use Prim.Native.Nat.{_+_, _<_, _≤_};
 ghost use lib.Dec.{eqb};
-ghost use lib.ListN.{length, take};
+ghost use lib.ListN.{length, take, drop};
 ghost use Rattle.machine.specs.Format.{map-offset, map-length, rules-offset};
 ghost use Rattle.grammar.specs.Classes.{cuts-at, cut as cut-of, class-count as class-count-of};
 ghost use Rattle.grammar.specs.Image.{map-made};
@@ -75,10 +75,10 @@ pub fn class_count(grammar: &[u8]) -> u32
     class + 1
 }
 
-// The class map: the class of each byte value, after what stands before the map.
+// The class map: the class of each byte value, between what stands before the map and after it.
 pub fn write_map(grammar: &[u8], image: &mut [u8])
     requires { ⌜ rules-offset ≤ length (now image) ⌝ }
-    ensures { λ r. ⌜ take rules-offset (now (image .exit)) ≡ take map-offset (now (image .entry)) ++ map-made map-length 0 (now (grammar .entry)) ⌝ }
+    ensures { λ r. ⌜ now (image .exit) ≡ take map-offset (now (image .entry)) ++ map-made map-length 0 (now (grammar .entry)) ++ drop rules-offset (now (image .entry)) ⌝ }
 {
     let mut class: u32 = 0;
     let mut v: u32 = 0;

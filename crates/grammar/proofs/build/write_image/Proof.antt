@@ -1,6 +1,9 @@
 -- `grammar::build::write_image` meets its contract: the header, the class map and the rules, each after the one before. Assumes nothing.
 use mathlib.Core.Path.{_∙_}
+use Prim.Native.Nat.{_≤_}
 use native.Mathlib.Omega.{arith}
+use lib.ListN.{length}
+use Rattle.grammar.proofs.CodeWriting.{map-front}
 use Rattle.grammar.proofs.CodeRules.{length-is, ready-after, image-whole}
 use Rattle.grammar.proofs.CodeClasses.{grammar-short, classes-most, symbols-most, count-most}
 use Rattle.grammar.proofs.build.write_image.Statement.{statement}
@@ -39,9 +42,10 @@ write-rules-requires c κs =
     let start = c .before .before .before .before .before .before .before .before .before .before .before .before in
     let gs = start .args .grammar .now in
     let header = c .before .before .before .before .before .before .before .write-header in
-    let map = c .before .before .before .write-map in (
-      ready-after gs (header .last .0) (map .last .1 .0) _ (start .pre .good) (start .pre .classes-are)
-          (omega (arith, header .kept .0, start .pre .long, length-is gs)) (map .kept .1 .0) (map .ensures),
+    let map = c .before .before .before .write-map in
+    let room : 288 ≤ length (header .last .0) = omega (arith, header .kept .0, start .pre .long, length-is gs) in (
+      ready-after gs (header .last .0) (map .last .1 .0) _ (start .pre .good) (start .pre .classes-are) room (map .kept .1 .0)
+          (map-front gs (header .last .0) (map .last .1 .0) room (map .ensures)),
       record {
         good = start .pre .good;
         long = map .kept .1 .0 ∙ header .kept .0 ∙ start .pre .long;
@@ -58,13 +62,13 @@ same-length c =
 returns : tie.Need-returns
 returns c =
     let start = c .before .before .before .before .before .before .before .before .before .before .before .before .before .before .before in
-    image-whole (start .args .grammar .now)
-    (c .before .before .before .before .before .before .before .before .before .before .write-header .last .0)
-    (c .before .before .before .before .before .before .write-map .last .1 .0) (c .before .before .write-rules .last .1 .0)
-    _ _ _ (start .pre .count-is) (start .pre .classes-are)
+    let gs = start .args .grammar .now in
+    let header = c .before .before .before .before .before .before .before .before .before .before .write-header in
+    let map = c .before .before .before .before .before .before .write-map in
+    let room : 288 ≤ length (header .last .0) = omega (arith, header .kept .0, start .pre .long, length-is gs) in
+    image-whole gs (header .last .0) (map .last .1 .0) (c .before .before .write-rules .last .1 .0) _ _ _ (start .pre .count-is) (start .pre .classes-are)
     (c .before .before .before .before .before .before .before .before .before .before .before .before .symbol-count .ensures)
-    (c .before .before .before .before .before .before .before .before .before .before .write-header .ensures)
-    (c .before .before .before .before .before .before .write-map .ensures) (c .before .before .write-rules .ensures)
+    (header .ensures) (map-front gs (header .last .0) (map .last .1 .0) room (map .ensures)) (c .before .before .write-rules .ensures)
 
 pub write-image-spec : {M : Type 1} → statement M
 write-image-spec =
