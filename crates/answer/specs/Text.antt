@@ -2,9 +2,9 @@
 use mathlib.Core.Path.{_≡_}
 use mathlib.Core.Bool.{cond}
 use mathlib.Core.List.{List, [], _∷_, _++_}
-use Prim.Native.Nat.{ℕ, zero, suc, _+_, _/_, _%_, _≤_, min}
+use Prim.Native.Nat.{ℕ, zero, suc, _+_, _-_, _/_, _%_, _≤_, min}
 use lib.Dec.{ltb}
-use lib.ListN.{length}
+use lib.ListN.{length, take, drop}
 use Rattle.machine.specs.declared.Config.{Config}
 use Rattle.machine.specs.declared.Refusal.{Refusal}
 use Rattle.machine.specs.declared.Verdict.{Verdict}
@@ -79,6 +79,7 @@ pub record Lined (line buffer buffer-now : List ℕ) (count : ℕ) : Type 0 wher
   pub holds : Holds line buffer buffer-now count
   pub short : length line ≤ max-line
 
--- a call writes one text more after the one that the buffer holds
+-- a call writes a text from a place on, as far as there is room, and answers the place after it; what stands before the place and after the text stays
 pub record Adds (text before : List ℕ) (at : ℕ) (after : List ℕ) (at-now : ℕ) : Type 0 where
-  pub adds : (held buffer : List ℕ) → Holds held buffer before at → Holds (held ++ text) buffer after at-now
+  pub bytes : after ≡ take at before ++ written text (drop at before)
+  pub counted : at-now ≡ at + min (length text) (length before - at)
