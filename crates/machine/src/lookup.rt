@@ -52,7 +52,7 @@ pub fn finals_of(image: &[u8]) -> u32
 }
 
 // The class under the head: K on the left marker, K + 1 on the right one.
-pub fn class_under(image: &[u8], capture: &[u8], sizes: Sizes, head: u32) -> u32
+fn class_under(image: &[u8], capture: &[u8], sizes: Sizes, head: u32) -> u32
     requires { ⌜ Counted (now image) (now capture) sizes ⌝ }
     ensures { λ r. ⌜ r ≡ class-under (now (image .entry)) (now (capture .entry)) head ⌝ }
 {
@@ -145,7 +145,7 @@ pub fn action_of(image: &[u8], capture: &[u8], sizes: Sizes, c: Config) -> Actio
 }
 
 // Whether a run that ends with this state and head accepts.
-pub fn accepts(finals: u32, places: u32, state: u32, head: u32) -> bool
+fn accepts(finals: u32, places: u32, state: u32, head: u32) -> bool
     requires { ⌜ (state < 32) × (head < 65537) ⌝ }
     ensures { λ r. ⌜ r ≡ (eqb (finals / 2 ^ state % 2) 1 && eqb (head + 1) places) ⌝ }
 {
