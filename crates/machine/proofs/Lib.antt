@@ -1,8 +1,14 @@
 -- What is proved of images, machines and their runs, by topic: unrefused images and their rules; numbers and counts; runs, terminators and verdicts.
+pub mod Reflects
+pub mod Searching
+pub mod Bits
 pub mod Refused
 pub mod CheckGood
 pub mod CountingOn
 pub mod Digits
+pub mod RuleRight
+pub mod ImageParts
+pub mod ConditionsMet
 pub mod Numbers
 pub mod Nonzero
 pub mod Rules

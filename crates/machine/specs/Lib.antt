@@ -5,6 +5,7 @@ pub mod Image
 pub mod Verdicts
 pub mod Counting
 pub mod Refusals
+pub mod Conditions
 pub mod Lookup
 pub mod Calls
 pub mod Removal

@@ -1,0 +1,140 @@
+-- When an image is right, condition by condition as the paper's prose has them, whatever the order in which a check tests them; and the rows that the paper's table of refusals has for an image. Assumes nothing: these are definitions.
+use mathlib.Core.Path.{_≡_}
+use mathlib.Core.List.{List}
+use Prim.Native.Nat.{ℕ, _+_, _*_, _-_, _/_, _%_, _^_, _<_, _≤_}
+use lib.ListN.{length}
+use Rattle.machine.specs.Format
+use Rattle.machine.specs.Image.{byte, four, states, classes, symbols, Rule, rule-offset, rule-at}
+
+-- THE DIRECTORY: the pair of 32-bit numbers at a place
+pub record Pair-right (bs : List ℕ) (at offset long : ℕ) : Type 0 where
+  pub offset-is : four bs at ≡ offset
+  pub length-is : four bs (at + 4) ≡ long
+
+abbrev pub Counts-pair-right : List ℕ → Type 0
+Counts-pair-right bs = Pair-right bs 0 Format.counts-offset Format.counts-length
+
+abbrev pub Map-pair-right : List ℕ → Type 0
+Map-pair-right bs = Pair-right bs 8 Format.map-offset Format.map-length
+
+-- the third length is what the image has from 288 on; under 288 bytes the third pair is always wrong
+pub record Rules-pair-right (bs : List ℕ) : Type 0 where
+  pub long-enough : Format.rules-offset ≤ length bs
+  pub pair : Pair-right bs 16 Format.rules-offset (length bs - Format.rules-offset)
+
+pub record Directory-right (bs : List ℕ) : Type 0 where
+  pub counts-pair : Counts-pair-right bs
+  pub map-pair : Map-pair-right bs
+  pub rules-pair : Rules-pair-right bs
+
+-- COUNTS AND FINALS: each count is at least 1 and at most its limit
+pub record Count-right (count limit : ℕ) : Type 0 where
+  pub least : 1 ≤ count
+  pub most : count ≤ limit
+
+abbrev pub States-right : List ℕ → Type 0
+States-right bs = Count-right (states bs) Format.max-states
+
+abbrev pub Classes-right : List ℕ → Type 0
+Classes-right bs = Count-right (classes bs) Format.max-classes
+
+abbrev pub Symbols-right : List ℕ → Type 0
+Symbols-right bs = Count-right (symbols bs) Format.max-symbols
+
+-- bit s is for state s; bits from Q up are zero
+abbrev pub Finals-right : List ℕ → Type 0
+Finals-right bs = (s : ℕ) → states bs ≤ s → four bs Format.finals-offset / 2 ^ s % 2 ≡ 0
+
+pub record Counts-right (bs : List ℕ) : Type 0 where
+  pub states-right : States-right bs
+  pub classes-right : Classes-right bs
+  pub symbols-right : Symbols-right bs
+  pub zero-right : byte bs 27 ≡ 0
+  pub finals-right : Finals-right bs
+
+-- THE LENGTH: Q (K + 2) G rules of four bytes, from 288 on
+abbrev pub Length-right : List ℕ → Type 0
+Length-right bs = length bs ≡ Format.rules-offset + 4 * states bs * (classes bs + 2) * symbols bs
+
+-- THE CLASS MAP: the class of each byte value is below K
+abbrev pub Map-right : List ℕ → Type 0
+Map-right bs = (v : ℕ) → v < Format.map-length → byte bs (Format.map-offset + v) < classes bs
+
+-- A RULE that stands for a class, K being the left marker and K + 1 the right one. What a change or a push names is there; its move is 0, 1 or 2, not to the left on the left marker, and not to the right on the right one
+pub record Target-right (bs : List ℕ) (class : ℕ) (r : Rule) : Type 0 where
+  pub state-below : r .state < states bs
+  pub symbol-below : r .symbol < symbols bs
+  pub move-known : r .move ≤ 2
+  pub left-stays : class ≡ classes bs → r .move ≡ 2 → ⊥
+  pub right-stays : class ≡ classes bs + 1 → r .move ≡ 1 → ⊥
+
+-- by its kind: 0, 1, 2 or 3, and no other
+pub data Rule-right (bs : List ℕ) (class : ℕ) (r : Rule) : Type 0 where
+  none-right : r .kind ≡ 0 → r .state ≡ 0 → r .symbol ≡ 0 → r .move ≡ 0 → Rule-right bs class r
+  change-right : r .kind ≡ 1 → Target-right bs class r → Rule-right bs class r
+  push-right : r .kind ≡ 2 → Target-right bs class r → Rule-right bs class r
+  pop-right : r .kind ≡ 3 → r .state < states bs → r .symbol ≡ 0 → r .move ≤ 1 → Rule-right bs class r
+
+-- THE RULES: that of each state, class and symbol, the markers' classes among the classes
+abbrev pub Rules-right : List ℕ → Type 0
+Rules-right bs =
+    (p k a : ℕ) → p < states bs → k < classes bs + 2 → a < symbols bs → Rule-right bs k (rule-at bs p k a)
+
+-- THE IMAGE
+pub record Image-right (bs : List ℕ) : Type 0 where
+  pub header : Format.map-offset ≤ length bs
+  pub directory : Directory-right bs
+  pub counts : Counts-right bs
+  pub long : Length-right bs
+  pub map : Map-right bs
+  pub rules : Rules-right bs
+
+-- THE FIRST THAT IS WRONG, by its place: a pair of the directory,
+pub data First-wrong-pair (bs : List ℕ) : (place : ℕ) → Type 0 where
+  counts-pair-wrong : (Counts-pair-right bs → ⊥) → First-wrong-pair bs 0
+  map-pair-wrong : Counts-pair-right bs → (Map-pair-right bs → ⊥) → First-wrong-pair bs 8
+  rules-pair-wrong : Counts-pair-right bs → Map-pair-right bs → (Rules-pair-right bs → ⊥) → First-wrong-pair bs 16
+
+-- a count, byte 27 or the finals,
+pub data First-wrong-count (bs : List ℕ) : (place : ℕ) → Type 0 where
+  states-wrong : (States-right bs → ⊥) → First-wrong-count bs 24
+  classes-wrong : States-right bs → (Classes-right bs → ⊥) → First-wrong-count bs 25
+  symbols-wrong : States-right bs → Classes-right bs → (Symbols-right bs → ⊥) → First-wrong-count bs 26
+  zero-wrong : States-right bs → Classes-right bs → Symbols-right bs → (byte bs 27 ≡ 0 → ⊥) → First-wrong-count bs 27
+  finals-wrong :
+      States-right bs → Classes-right bs → Symbols-right bs → byte bs 27 ≡ 0 → (Finals-right bs → ⊥) → First-wrong-count bs 28
+
+-- a byte of the class map,
+pub record First-wrong-class (bs : List ℕ) (place : ℕ) : Type 0 where
+  pub value : ℕ
+  pub value-below : value < Format.map-length
+  pub place-is : place ≡ Format.map-offset + value
+  pub wrong : classes bs ≤ byte bs place
+  pub before : (v : ℕ) → v < value → byte bs (Format.map-offset + v) < classes bs
+
+-- a rule: of all states, classes and symbols, those whose rules have lesser offsets have right ones
+pub record First-bad-rule (bs : List ℕ) (place : ℕ) : Type 0 where
+  pub state : ℕ
+  pub class : ℕ
+  pub symbol : ℕ
+  pub state-below : state < states bs
+  pub class-below : class < classes bs + 2
+  pub symbol-below : symbol < symbols bs
+  pub place-is : place ≡ rule-offset bs state class symbol
+  pub bad : Rule-right bs class (rule-at bs state class symbol) → ⊥
+  pub before :
+      (p k a : ℕ) → p < states bs → k < classes bs + 2 → a < symbols bs → rule-offset bs p k a < place →
+      Rule-right bs k (rule-at bs p k a)
+
+-- THE TABLE'S ROWS, a constructor each: number and place; 0 at 0 says that the image is not refused. The lowest number decides, so what is checked before a row's own condition is right
+pub data Image-row (bs : List ℕ) : (number place : ℕ) → Type 0 where
+  unrefused : Image-right bs → Image-row bs 0 0
+  short-image : length bs < Format.map-offset → Image-row bs 1 (length bs)
+  wrong-pair : {place : ℕ} → Format.map-offset ≤ length bs → First-wrong-pair bs place → Image-row bs 2 place
+  wrong-count : {place : ℕ} → Directory-right bs → First-wrong-count bs place → Image-row bs 3 place
+  wrong-length : Directory-right bs → Counts-right bs → (Length-right bs → ⊥) → Image-row bs 4 20
+  wrong-class :
+      {place : ℕ} → Directory-right bs → Counts-right bs → Length-right bs → First-wrong-class bs place → Image-row bs 5 place
+  bad-rule :
+      {place : ℕ} → Directory-right bs → Counts-right bs → Length-right bs → Map-right bs → First-bad-rule bs place →
+      Image-row bs 6 place
