@@ -1,5 +1,6 @@
 -- What a reader must believe of grammars: their bytes and refusals, parsing, byte classes, and the image built of a grammar.
 pub mod Grammar
+pub mod Conditions
 pub mod Parsing
 pub mod Classes
 pub mod Counting

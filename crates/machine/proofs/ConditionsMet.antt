@@ -1,5 +1,5 @@
 -- What the image's refusals mean: each image has just one row of the paper's table, and the check's answer is that row's. So no refusal is given just if all conditions hold, and a refused place is the first that is wrong. Assumes nothing.
-use mathlib.Core.Path.{_≡_, refl, sym, _∙_, subst}
+use mathlib.Core.Path.{_≡_, refl, sym, _∙_}
 use mathlib.Core.List.{List}
 use mathlib.Core.Logic.{_↔_}
 use Prim.Native.Nat.{ℕ, _+_, _*_, _<_, _≤_}
@@ -8,12 +8,12 @@ use native.Mathlib.Omega.{arith}
 use lib.Dec.{eqb}
 use lib.ListN.{length}
 use borrow.Author.Tests.{lt-ltb, le-ltb}
-use Rattle.machine.specs.declared.Refusal.{Refusal}
 use Rattle.machine.specs.Format
 use Rattle.machine.specs.Image.{states, classes, symbols}
 use Rattle.machine.specs.Refusals.{refusal, fine, or-else, rule-count, image-refusal}
 use Rattle.machine.specs.Conditions.{Directory-right, Counts-right, Length-right, Map-right, Rules-right, Image-right, First-wrong-pair, First-wrong-count, First-wrong-class, First-bad-rule, Image-row, unrefused, short-image, wrong-pair, wrong-count, wrong-length, wrong-class, bad-rule}
 use Rattle.machine.proofs.Reflects.{Reflects, when-holds, when-fails, decided, restated, equal}
+use Rattle.machine.proofs.Rows.{Some-row, Table, row-there, row-of, row-numbered, exactly}
 use Rattle.machine.proofs.ImageParts.{Part, part-right, part-wrong, directory-part, directory-fine, directory-wrong, counts-part, counts-fine, counts-wrong, map-part, map-fine, map-wrong, rules-part, rules-fine, rules-wrong}
 
 module _ (bs : List ℕ) where
@@ -25,38 +25,35 @@ module _ (bs : List ℕ) where
       same = omega arith
 
   -- EACH IMAGE HAS A ROW
-  abbrev Some-row : Type 0
-  Some-row = (number : ℕ) × (place : ℕ) × Image-row bs number place
-
-  some-row : Some-row
+  some-row : Some-row (Image-row bs)
   some-row = by-header (decLt (length bs) Format.map-offset)
     where
       by-rules :
           Format.map-offset ≤ length bs → Directory-right bs → Counts-right bs → Length-right bs → Map-right bs →
-          Part (Rules-right bs) (First-bad-rule bs) → Some-row
+          Part (Rules-right bs) (First-bad-rule bs) → Some-row (Image-row bs)
       by-rules h d c l m (part-right r) =
           (0, 0, unrefused (record { header = h; directory = d; counts = c; long = l; map = m; rules = r }))
       by-rules h d c l m (part-wrong o f) = (6, o, bad-rule d c l m f)
 
       by-map :
           Format.map-offset ≤ length bs → Directory-right bs → Counts-right bs → Length-right bs →
-          Part (Map-right bs) (First-wrong-class bs) → Some-row
+          Part (Map-right bs) (First-wrong-class bs) → Some-row (Image-row bs)
       by-map h d c l (part-right m) = by-rules h d c l m (rules-part bs)
       by-map h d c l (part-wrong o f) = (5, o, wrong-class d c l f)
 
-      by-length : Format.map-offset ≤ length bs → Directory-right bs → Counts-right bs → Dec (Length-right bs) → Some-row
+      by-length : Format.map-offset ≤ length bs → Directory-right bs → Counts-right bs → Dec (Length-right bs) → Some-row (Image-row bs)
       by-length h d c (yes l) = by-map h d c l (map-part bs)
       by-length h d c (no n) = (4, 20, wrong-length d c n)
 
-      by-counts : Format.map-offset ≤ length bs → Directory-right bs → Part (Counts-right bs) (First-wrong-count bs) → Some-row
+      by-counts : Format.map-offset ≤ length bs → Directory-right bs → Part (Counts-right bs) (First-wrong-count bs) → Some-row (Image-row bs)
       by-counts h d (part-right c) = by-length h d c (decided length-test)
       by-counts h d (part-wrong o f) = (3, o, wrong-count d f)
 
-      by-directory : Format.map-offset ≤ length bs → Part (Directory-right bs) (First-wrong-pair bs) → Some-row
+      by-directory : Format.map-offset ≤ length bs → Part (Directory-right bs) (First-wrong-pair bs) → Some-row (Image-row bs)
       by-directory h (part-right d) = by-counts h d (counts-part bs)
       by-directory h (part-wrong o f) = (2, o, wrong-pair h f)
 
-      by-header : Dec (length bs < Format.map-offset) → Some-row
+      by-header : Dec (length bs < Format.map-offset) → Some-row (Image-row bs)
       by-header (yes h) = (1, length bs, short-image h)
       by-header (no n) = by-directory (omega arith) (directory-part bs)
 
@@ -64,9 +61,9 @@ module _ (bs : List ℕ) where
   header : Directory-right bs → Format.map-offset ≤ length bs
   header d = omega (arith, d .rules-pair .long-enough)
 
-  pub row-answers : {n o : ℕ} → Image-row bs n o → image-refusal bs ≡ refusal n o
+  row-answers : (n o : ℕ) → Image-row bs n o → image-refusal bs ≡ refusal n o
   unfolding image-refusal or-else
-  row-answers (unrefused r) =
+  row-answers n o (unrefused r) =
       simp (
         le-ltb _ _ (r .header),
         directory-fine bs (r .directory),
@@ -75,14 +72,14 @@ module _ (bs : List ℕ) where
         map-fine bs (r .map),
         rules-fine bs (r .rules),
       )
-  row-answers (short-image h) = simp (lt-ltb _ _ h)
-  row-answers (wrong-pair {place = o} h f) = simp (le-ltb _ _ h, directory-wrong bs o f)
-  row-answers (wrong-count {place = o} d f) = simp (le-ltb _ _ (header d), directory-fine bs d, counts-wrong bs o f)
-  row-answers (wrong-length d c n) =
-      simp (le-ltb _ _ (header d), directory-fine bs d, counts-fine bs c, when-fails length-test n)
-  row-answers (wrong-class {place = o} d c l f) =
+  row-answers n o (short-image h) = simp (lt-ltb _ _ h)
+  row-answers n o (wrong-pair h f) = simp (le-ltb _ _ h, directory-wrong bs o f)
+  row-answers n o (wrong-count d f) = simp (le-ltb _ _ (header d), directory-fine bs d, counts-wrong bs o f)
+  row-answers n o (wrong-length d c w) =
+      simp (le-ltb _ _ (header d), directory-fine bs d, counts-fine bs c, when-fails length-test w)
+  row-answers n o (wrong-class d c l f) =
       simp (le-ltb _ _ (header d), directory-fine bs d, counts-fine bs c, when-holds length-test l, map-wrong bs o f)
-  row-answers (bad-rule {place = o} d c l m f) =
+  row-answers n o (bad-rule d c l m f) =
       simp (
         le-ltb _ _ (header d),
         directory-fine bs d,
@@ -92,21 +89,15 @@ module _ (bs : List ℕ) where
         rules-wrong bs o f,
       )
 
-  row-there : Some-row → Image-row bs (image-refusal bs .number) (image-refusal bs .place)
-  row-there (n, o, r) = rw (row-answers r) r
+  pub image-table : Table (image-refusal bs) (Image-row bs)
+  image-table = record { row = some-row; answers = row-answers }
 
-  pub image-row : Image-row bs (image-refusal bs .number) (image-refusal bs .place)
-  image-row = row-there some-row
-
-  -- A NUMBER AND A PLACE ARE ANSWERED EXACTLY IF THE IMAGE HAS THAT ROW
-  pub answers-row : {n o : ℕ} → image-refusal bs ≡ refusal n o → Image-row bs n o
-  answers-row e = subst (λ (f : Refusal). Image-row bs (f .number) (f .place)) e image-row
-
+  -- A NUMBER AND A PLACE ARE THE CHECK'S ANSWER EXACTLY IF THE IMAGE HAS THEIR ROW
   pub image-answer : (n o : ℕ) → (image-refusal bs ≡ refusal n o) ↔ Image-row bs n o
-  image-answer n o = (answers-row, row-answers)
+  image-answer = exactly image-table
 
   pub number-most : image-refusal bs .number ≤ 6
-  number-most = go image-row
+  number-most = go (row-there image-table)
     where
       go : {n o : ℕ} → Image-row bs n o → n ≤ 6
       go (unrefused r) = omega arith
@@ -119,51 +110,51 @@ module _ (bs : List ℕ) where
 
   -- 0: no refusal is given exactly if all conditions hold
   pub image-right : image-refusal bs .number ≡ 0 → Image-right bs
-  image-right e = go (subst (λ (n : ℕ). Image-row bs n (image-refusal bs .place)) e image-row)
+  image-right e = go (row-numbered image-table e)
     where
       go : {o : ℕ} → Image-row bs 0 o → Image-right bs
       go (unrefused r) = r
 
   pub image-accepted : Image-right bs → image-refusal bs ≡ fine
-  image-accepted r = row-answers (unrefused r)
+  image-accepted r = row-answers 0 0 (unrefused r)
 
   -- 1: exactly if the image is under 32 bytes
   pub image-short : {o : ℕ} → image-refusal bs ≡ refusal 1 o → (length bs < Format.map-offset) × (o ≡ length bs)
-  image-short e = go (answers-row e)
+  image-short e = go (row-of image-table e)
     where
       go : {o : ℕ} → Image-row bs 1 o → (length bs < Format.map-offset) × (o ≡ length bs)
       go (short-image h) = (h, refl)
 
   pub short-refused : length bs < Format.map-offset → image-refusal bs ≡ refusal 1 (length bs)
-  short-refused h = row-answers (short-image h)
+  short-refused h = row-answers 1 (length bs) (short-image h)
 
   -- 2 to 6: what is wrong, and that the place is the first that is
   pub first-wrong-pair : {o : ℕ} → image-refusal bs ≡ refusal 2 o → First-wrong-pair bs o
-  first-wrong-pair e = go (answers-row e)
+  first-wrong-pair e = go (row-of image-table e)
     where
       go : {o : ℕ} → Image-row bs 2 o → First-wrong-pair bs o
       go (wrong-pair h f) = f
 
   pub first-wrong-count : {o : ℕ} → image-refusal bs ≡ refusal 3 o → First-wrong-count bs o
-  first-wrong-count e = go (answers-row e)
+  first-wrong-count e = go (row-of image-table e)
     where
       go : {o : ℕ} → Image-row bs 3 o → First-wrong-count bs o
       go (wrong-count d f) = f
 
   pub length-wrong : {o : ℕ} → image-refusal bs ≡ refusal 4 o → (o ≡ 20) × (Length-right bs → ⊥)
-  length-wrong e = go (answers-row e)
+  length-wrong e = go (row-of image-table e)
     where
       go : {o : ℕ} → Image-row bs 4 o → (o ≡ 20) × (Length-right bs → ⊥)
       go (wrong-length d c n) = (refl, n)
 
   pub first-wrong-class : {o : ℕ} → image-refusal bs ≡ refusal 5 o → First-wrong-class bs o
-  first-wrong-class e = go (answers-row e)
+  first-wrong-class e = go (row-of image-table e)
     where
       go : {o : ℕ} → Image-row bs 5 o → First-wrong-class bs o
       go (wrong-class d c l f) = f
 
   pub first-bad-rule : {o : ℕ} → image-refusal bs ≡ refusal 6 o → First-bad-rule bs o
-  first-bad-rule e = go (answers-row e)
+  first-bad-rule e = go (row-of image-table e)
     where
       go : {o : ℕ} → Image-row bs 6 o → First-bad-rule bs o
       go (bad-rule d c l m f) = f

@@ -1,6 +1,7 @@
 -- What is proved of images, machines and their runs, by topic: unrefused images and their rules; numbers and counts; runs, terminators and verdicts.
 pub mod Reflects
 pub mod Searching
+pub mod Rows
 pub mod Bits
 pub mod Refused
 pub mod CheckGood

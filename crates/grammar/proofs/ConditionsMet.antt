@@ -1,0 +1,178 @@
+-- What the grammar's refusals mean: each grammar has just one row of the paper's table, and the check's answer is that row's. So no refusal is given just if all conditions hold, and a refused place is the first that is wrong. Assumes nothing.
+use mathlib.Core.Path.{_≡_, refl, sym, ap, _∙_}
+use mathlib.Core.Bool.{Bool, true, false, _||_, not, cond}
+use mathlib.Core.List.{List}
+use mathlib.Core.Logic.{_↔_, _⊎_, inl, inr}
+use Prim.Native.Nat.{ℕ, zero, suc, _*_, _%_, _<_, _≤_}
+use native.Mathlib.Omega.{arith}
+use lib.Dec.{ltb, eqb}
+use lib.ListN.{length}
+use Rattle.machine.specs.declared.Refusal.{Refusal}
+use Rattle.machine.specs.Refusals.{refusal, fine}
+use Rattle.grammar.specs.Grammar.{max-rules, rules, kind-of, b-of, c-of, rule-right, rules-from, grammar-refusal}
+use Rattle.grammar.specs.Conditions.{Grammar-length-right, last-of, Grammar-rule-right, sequence-right, choice-right, not-right, empty-right, range-right, Grammar-rules-right, Grammar-right, First-wrong-rule, Grammar-row, unrefused-grammar, wrong-grammar-length, wrong-grammar-rule}
+use Rattle.machine.proofs.Reflects.{Reflects, restated, equal, less, at-most, both, either, by-cases, Refuses, when-passed, when-refused, passing, refuses-as, unless, if-so, over, any-of}
+use Rattle.machine.proofs.Searching.{Looked, all-have, lacking, look, Search, none-found, first-found}
+use Rattle.machine.proofs.Rows.{Some-row, Table, row-of, row-numbered, exactly}
+use Rattle.grammar.proofs.GrammarGood.{right-at}
+
+-- ONE RULE, nested as the test is
+module _ (gs : List ℕ) (k : ℕ) where
+  abbrev Two : Type 0
+  Two = (b-of gs k < rules gs) × (c-of gs k < rules gs)
+
+  abbrev One : Type 0
+  One = (b-of gs k < rules gs) × (c-of gs k ≡ 0)
+
+  abbrev None : Type 0
+  None = (b-of gs k ≡ 0) × (c-of gs k ≡ 0)
+
+  abbrev Range : Type 0
+  Range = (kind-of gs k ≡ 5) × (b-of gs k ≤ c-of gs k)
+
+  abbrev Other : Type 0
+  Other = (kind-of gs k ≡ 3 → One) × ((kind-of gs k ≡ 3 → ⊥) → (kind-of gs k ≡ 4 → None) × ((kind-of gs k ≡ 4 → ⊥) → Range))
+
+  abbrev Named : Type 0
+  Named = ((kind-of gs k ≡ 1) ⊎ (kind-of gs k ≡ 2) → Two) × (((kind-of gs k ≡ 1) ⊎ (kind-of gs k ≡ 2) → ⊥) → Other)
+
+  nested-test : Reflects ((last-of gs k ≡ 0) × Named) (right-at gs k)
+  unfolding rule-right
+  nested-test =
+      both (equal _ _)
+      (by-cases (either (equal _ _) (equal _ _)) (both (less _ _) (less _ _))
+      (by-cases (equal _ _) (both (less _ _) (equal _ _))
+      (by-cases (equal _ _) (both (equal _ _) (equal _ _)) (both (equal _ _) (at-most _ _)))))
+
+  -- a kind that is neither 1 nor 2
+  other : {d : ℕ} → kind-of gs k ≡ d → (d ≡ 1 → ⊥) → (d ≡ 2 → ⊥) → (kind-of gs k ≡ 1) ⊎ (kind-of gs k ≡ 2) → ⊥
+  other e f g (inl h) = f (sym e ∙ h)
+  other e f g (inr h) = g (sym e ∙ h)
+
+  by-kind : (last-of gs k ≡ 0) × Named → (d : ℕ) → kind-of gs k ≡ d → Grammar-rule-right gs k
+  by-kind n zero e =
+      let o = n .1 .1 (other e (λ h. omega arith) (λ h. omega arith)) in
+      absurd (omega (arith, o .1 (λ h. omega arith) .1 (λ h. omega arith) .0))
+  by-kind n (suc zero) e = let t = n .1 .0 (inl e) in sequence-right e (t .0) (t .1) (n .0)
+  by-kind n (suc (suc zero)) e = let t = n .1 .0 (inr e) in choice-right e (t .0) (t .1) (n .0)
+  by-kind n (suc (suc (suc zero))) e =
+      let o = n .1 .1 (other e (λ h. omega arith) (λ h. omega arith)) .0 e in
+      not-right e (o .0) (o .1) (n .0)
+  by-kind n (suc (suc (suc (suc zero)))) e =
+      let o = n .1 .1 (other e (λ h. omega arith) (λ h. omega arith)) .1 (λ h. omega arith) .0 e in
+      empty-right e (o .0) (o .1) (n .0)
+  by-kind n (suc (suc (suc (suc (suc d))))) e =
+      let o = n .1 .1 (other e (λ h. omega arith) (λ h. omega arith)) .1 (λ h. omega arith) .1 (λ h. omega arith) in
+      range-right (o .0) (o .1) (n .0)
+
+  nested : Grammar-rule-right gs k → (last-of gs k ≡ 0) × Named
+  nested (sequence-right e b c z) = (z, (λ h. (b, c), λ h. absurd (h (inl e))))
+  nested (choice-right e b c z) = (z, (λ h. (b, c), λ h. absurd (h (inr e))))
+  nested (not-right e b c z) =
+      (z, (λ h. absurd (other e (λ f. omega arith) (λ f. omega arith) h), λ h. (λ f. (b, c), λ f. absurd (f e))))
+  nested (empty-right e b c z) = (
+    z,
+    (
+      λ h. absurd (other e (λ f. omega arith) (λ f. omega arith) h),
+      λ h. (λ f. absurd (omega arith), λ f. (λ g. (b, c), λ g. absurd (g e))),
+    ),
+  )
+  nested (range-right e o z) = (
+    z,
+    (
+      λ h. absurd (other e (λ f. omega arith) (λ f. omega arith) h),
+      λ h. (λ f. absurd (omega arith), λ f. (λ g. absurd (omega arith), λ g. (e, o))),
+    ),
+  )
+
+  rule-test : Refuses (Grammar-rule-right gs k) (not (right-at gs k))
+  rule-test = unless (restated (λ n. by-kind n (kind-of gs k) refl) nested nested-test)
+
+module _ (gs : List ℕ) where
+  -- THE LENGTH
+  length-test :
+      Refuses (Grammar-length-right gs) (eqb (length gs) 0 || (ltb (4 * max-rules) (length gs) || not (eqb (length gs % 4) 0)))
+  unfolding rules
+  length-test =
+      refuses-as
+      (λ p. record { some = p .0; most = p .1 .0; whole = omega (arith, p .1 .1) })
+      (λ r. (r .some, (r .most, omega (arith, r .whole))))
+      (any-of (if-so (equal (length gs) 0)) (any-of (over (4 * max-rules) (length gs)) (unless (equal (length gs % 4) 0))))
+
+  -- THE RULES
+  turned : (b : Bool) (f g : Refusal) → cond b g f ≡ cond (not b) f g
+  turned true f g = refl
+  turned false f g = refl
+
+  rules-search : Search (λ (n k : ℕ). rules-from n k gs) (λ (k : ℕ). refusal 12 (4 * k)) (Grammar-rule-right gs)
+  unfolding rules-from
+  rules-search =
+      record {
+        refuses = λ k. not (right-at gs k);
+        tests = rule-test gs;
+        none-left = λ k. refl;
+        one-more = λ n k. turned (right-at gs k) (refusal 12 (4 * k)) (rules-from n (suc k) gs);
+      }
+
+  rules-fine : Grammar-rules-right gs → rules-from (rules gs) 0 gs ≡ fine
+  rules-fine h = none-found rules-search (rules gs) 0 (λ k least most. h k (omega arith))
+
+  rules-wrong : (o : ℕ) → First-wrong-rule gs o → rules-from (rules gs) 0 gs ≡ refusal 12 o
+  rules-wrong o f =
+      first-found rules-search (rules gs) 0 (f .rule) (omega arith) (omega (arith, f .rule-below)) (f .wrong)
+      (λ k least less. f .before k less)
+      ∙ ap (refusal 12) (sym (f .place-is))
+
+  -- EACH GRAMMAR HAS A ROW
+  some-row : Some-row (Grammar-row gs)
+  some-row = by-length (passing length-test)
+    where
+      by-rules : Grammar-length-right gs → Looked (Grammar-rule-right gs) (rules gs) → Some-row (Grammar-row gs)
+      by-rules l (all-have r) = (0, 0, unrefused-grammar (record { long = l; rules-right = r }))
+      by-rules l (lacking k f) =
+          (12, 4 * k, wrong-grammar-rule l (record { rule = k; rule-below = f .below; place-is = refl; wrong = f .lacks; before = f .before }))
+
+      by-length : Dec (Grammar-length-right gs) → Some-row (Grammar-row gs)
+      by-length (yes l) = by-rules l (look (Grammar-rule-right gs) (λ k. passing (rule-test gs k)) (rules gs))
+      by-length (no n) = (11, length gs, wrong-grammar-length n)
+
+  -- AND ITS ROW IS THE CHECK'S ANSWER
+  row-answers : (n o : ℕ) → Grammar-row gs n o → grammar-refusal gs ≡ refusal n o
+  unfolding grammar-refusal
+  row-answers n o (unrefused-grammar r) = simp (when-passed length-test (r .long), rules-fine (r .rules-right))
+  row-answers n o (wrong-grammar-length w) = simp (when-refused length-test w)
+  row-answers n o (wrong-grammar-rule l f) = simp (when-passed length-test l, rules-wrong o f)
+
+  pub grammar-table : Table (grammar-refusal gs) (Grammar-row gs)
+  grammar-table = record { row = some-row; answers = row-answers }
+
+  -- A NUMBER AND A PLACE ARE THE CHECK'S ANSWER EXACTLY IF THE GRAMMAR HAS THEIR ROW
+  pub grammar-answer : (n o : ℕ) → (grammar-refusal gs ≡ refusal n o) ↔ Grammar-row gs n o
+  grammar-answer = exactly grammar-table
+
+  -- 0: no refusal is given exactly if all conditions hold
+  pub grammar-right : grammar-refusal gs .number ≡ 0 → Grammar-right gs
+  grammar-right e = go (row-numbered grammar-table e)
+    where
+      go : {o : ℕ} → Grammar-row gs 0 o → Grammar-right gs
+      go (unrefused-grammar r) = r
+
+  pub grammar-accepted : Grammar-right gs → grammar-refusal gs ≡ fine
+  grammar-accepted r = row-answers 0 0 (unrefused-grammar r)
+
+  -- 11: exactly if the length is wrong
+  pub length-wrong : {o : ℕ} → grammar-refusal gs ≡ refusal 11 o → (Grammar-length-right gs → ⊥) × (o ≡ length gs)
+  length-wrong e = go (row-of grammar-table e)
+    where
+      go : {o : ℕ} → Grammar-row gs 11 o → (Grammar-length-right gs → ⊥) × (o ≡ length gs)
+      go (wrong-grammar-length n) = (n, refl)
+
+  pub length-refused : (Grammar-length-right gs → ⊥) → grammar-refusal gs ≡ refusal 11 (length gs)
+  length-refused n = row-answers 11 (length gs) (wrong-grammar-length n)
+
+  -- 12: a rule is wrong, and the place is that of the first
+  pub first-wrong-rule : {o : ℕ} → grammar-refusal gs ≡ refusal 12 o → First-wrong-rule gs o
+  first-wrong-rule e = go (row-of grammar-table e)
+    where
+      go : {o : ℕ} → Grammar-row gs 12 o → First-wrong-rule gs o
+      go (wrong-grammar-rule l f) = f
