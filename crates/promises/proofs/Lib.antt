@@ -1,0 +1,3 @@
+-- The proofs of the promises: each cites the crate that proves it.
+pub mod Told
+pub mod Proved

@@ -1,0 +1,107 @@
+-- THE FIRST DEMAND: every call on every input returns; a bad image, grammar, capture or lent slice is refused by a number and a place; a refused call changes no lent cell. Assumes nothing: each claim is a type, and proofs/ has its proof.
+-- That every call returns is part of every function's proof, and no public call has a `requires`. A claim about a call is about all that its contract (Judge-says, Run-says, Build-says, Answer-says) lets it answer and leave.
+use mathlib.Core.Path.{_≡_}
+use mathlib.Core.List.{List, _++_}
+use mathlib.Core.Logic.{_↔_}
+use Prim.Native.Nat.{ℕ, _≤_}
+use lib.ListN.{length, take, drop, replicate}
+use Rattle.machine.specs.Refusals.{refusal, image-refusal}
+use Rattle.machine.specs.Conditions.{Image-row}
+use Rattle.machine.specs.Run.{how-many}
+use Rattle.machine.specs.Image.{machine}
+use Rattle.machine.specs.Replies.{refused}
+use Rattle.simulator.specs.declared.Judged.{Judged}
+use Rattle.simulator.specs.Calls.{judge-refusal, Judge-says}
+use Rattle.simulator.specs.Replies.{of-judged}
+use Rattle.interpreter.specs.declared.Ran.{Ran}
+use Rattle.interpreter.specs.Calls.{run-refusal, Run-says}
+use Rattle.interpreter.specs.Replies.{of-ran}
+use Rattle.grammar.specs.declared.Built.{Built}
+use Rattle.grammar.specs.Grammar.{grammar-refusal}
+use Rattle.grammar.specs.Conditions.{Grammar-row}
+use Rattle.grammar.specs.Image.{built-length}
+use Rattle.grammar.specs.Calls.{build-refusal, Build-says}
+use Rattle.grammar.specs.Replies.{of-built}
+use Rattle.answer.specs.Text.{refusal-line, Lined}
+use Rattle.answer.specs.Input.{input-grammar, input-capture}
+use Rattle.answer.specs.Calls.{Lent, answer-refusal, Answer-says, Same-room, Same-cells}
+
+-- A BAD IMAGE OR GRAMMAR IS REFUSED BY A NUMBER AND A PLACE, those of the table's row whose conditions it meets; 0 at 0, no refusal, exactly if all that the scope asks holds
+abbrev pub Image-refused : Type 0
+Image-refused = (bs : List ℕ) (n p : ℕ) → (image-refusal bs ≡ refusal n p) ↔ Image-row bs n p
+
+abbrev pub Grammar-refused : Type 0
+Grammar-refused = (gs : List ℕ) (n p : ℕ) → (grammar-refusal gs ≡ refusal n p) ↔ Grammar-row gs n p
+
+-- A REFUSED CALL TELLS NUMBER AND PLACE AND NO VERDICT, AND CHANGES NO LENT CELL
+abbrev pub Judge-refuses : Type 0
+Judge-refuses =
+    (bs cs : List ℕ) (r : Judged) (a a-now b b-now : List ℕ) → Judge-says bs cs r a a-now b b-now →
+    (judge-refusal bs cs (length a) (length b) .number ≡ 0 → ⊥) →
+    (of-judged r ≡ refused (judge-refusal bs cs (length a) (length b))) × (a-now ≡ a) × (b-now ≡ b)
+
+abbrev pub Run-refuses : Type 0
+Run-refuses =
+    (bs cs : List ℕ) (budget : ℕ) (r : Ran) (a a-now : List ℕ) → Run-says bs cs budget r a a-now →
+    (run-refusal bs cs (length a) .number ≡ 0 → ⊥) → (of-ran r ≡ refused (run-refusal bs cs (length a))) × (a-now ≡ a)
+
+abbrev pub Build-refuses : Type 0
+Build-refuses =
+    (gs : List ℕ) (r : Built) (a a-now : List ℕ) → Build-says gs r a a-now → (build-refusal gs (length a) .number ≡ 0 → ⊥) →
+    (of-built r ≡ refused (build-refusal gs (length a))) × (a-now ≡ a)
+
+abbrev pub Answer-refuses : Type 0
+Answer-refuses =
+    (xs : List ℕ) (x y : Lent) (out out-now : List ℕ) (n : ℕ) → Answer-says xs x y out out-now n →
+    (answer-refusal xs x .number ≡ 0 → ⊥) → (y ≡ x) × Lined (refusal-line (answer-refusal xs x)) out out-now n
+
+-- ANSWER AND LENT CELLS FOLLOW FROM THE INPUT ALONE
+abbrev pub Judge-determined : Type 0
+Judge-determined =
+    (bs cs a b : List ℕ) (r s : Judged) (x y x′ y′ : List ℕ) → Judge-says bs cs r a x b y → Judge-says bs cs s a x′ b y′ →
+    (r ≡ s) × (x ≡ x′) × (y ≡ y′)
+
+abbrev pub Run-determined : Type 0
+Run-determined =
+    (bs cs a : List ℕ) (n : ℕ) (r s : Ran) (x y : List ℕ) → Run-says bs cs n r a x → Run-says bs cs n s a y → (r ≡ s) × (x ≡ y)
+
+abbrev pub Build-determined : Type 0
+Build-determined = (gs a : List ℕ) (r s : Built) (x y : List ℕ) → Build-says gs r a x → Build-says gs s a y → (r ≡ s) × (x ≡ y)
+
+abbrev pub Answer-determined : Type 0
+Answer-determined =
+    (xs : List ℕ) (x y z : Lent) (out p q : List ℕ) (n m : ℕ) → Answer-says xs x y out p n → Answer-says xs x z out q m →
+    (y ≡ z) × (p ≡ q) × (n ≡ m)
+
+-- EARLIER CONTENTS DON'T MATTER: whatever stood in slices of these lengths, the answer is the same, and so is every cell that the call writes
+abbrev pub Judge-forgets : Type 0
+Judge-forgets =
+    (bs cs a b a′ b′ : List ℕ) (r s : Judged) (x y x′ y′ : List ℕ) → length a ≡ length a′ → length b ≡ length b′ →
+    Judge-says bs cs r a x b y → Judge-says bs cs s a′ x′ b′ y′ →
+    (r ≡ s)
+    × (judge-refusal bs cs (length a) (length b) .number ≡ 0 →
+    (take (how-many (machine bs cs)) x ≡ take (how-many (machine bs cs)) x′)
+    × (take (how-many (machine bs cs)) y ≡ take (how-many (machine bs cs)) y′))
+
+abbrev pub Run-forgets : Type 0
+Run-forgets =
+    (bs cs : List ℕ) (n : ℕ) (r s : Ran) (a a′ x y : List ℕ) → length a ≡ length a′ → Run-says bs cs n r a x → Run-says bs cs n s a′ y →
+    (r ≡ s) × (run-refusal bs cs (length a) .number ≡ 0 → x ≡ y)
+
+abbrev pub Build-forgets : Type 0
+Build-forgets =
+    (gs : List ℕ) (r s : Built) (a a′ x y : List ℕ) → length a ≡ length a′ → Build-says gs r a x → Build-says gs s a′ y →
+    (r ≡ s) × (build-refusal gs (length a) .number ≡ 0 → take (built-length gs) x ≡ take (built-length gs) y)
+
+abbrev pub Answer-forgets : Type 0
+Answer-forgets =
+    (xs : List ℕ) (x y z w : Lent) (out p out′ q : List ℕ) (n m : ℕ) → Same-room x z → length out ≡ length out′ → Answer-says xs x y out p n →
+    Answer-says xs z w out′ q m →
+    (n ≡ m) × (take n p ≡ take n q) × (answer-refusal xs x .number ≡ 0 → Same-cells (input-grammar xs) (input-capture xs) y w)
+
+-- LATER CELLS ARE UNCHANGED, whatever the call says
+abbrev pub Judge-later : Type 0
+Judge-later =
+    (bs cs : List ℕ) (r : Judged) (a a-now b b-now : List ℕ) → Judge-says bs cs r a a-now b b-now →
+    (drop (how-many (machine bs cs)) a-now ≡ drop (how-many (machine bs cs)) a)
+    × (drop (how-many (machine bs cs)) b-now ≡ drop (how-many (machine bs cs)) b)

@@ -1,0 +1,3 @@
+-- What is promised, and nothing else: the claims of the three demands and of the program, in the scope's order. An auditor reads these first; what they speak of is defined in the specs/ of the crates that they name.
+pub mod FirstDemand
+pub mod Promises
