@@ -20,7 +20,7 @@ use Rattle.chain.specs.declared.Mode.{Mode}
 use Rattle.chain.specs.declared.Mode.the-variants.{Look, Unwind, Clear, Done}
 use Rattle.chain.specs.declared.Record.{Record}
 use Rattle.chain.specs.Turn.{Standing, standing, with-now, resumed, closed, counted, first-look, look, unwound, unwind, cleared, turn-by, turn}
-use Rattle.chain.specs.Ready.{Open-for, Ready, Same-zero, Turns, no-note, one-note, Step-says}
+use Rattle.chain.specs.Ready.{Open-for, Ready, Same-zero, Turns, none-turned, one-turned, Step-says}
 use Rattle.chain.proofs.StepSafe.{number-low}
 
 -- the readings of each record that a step makes
@@ -55,7 +55,7 @@ stored-zero (n ∷ ns) (suc k) v (suc j) old new = stored-zero ns k v j old new
 -- nothing read and no note stored
 none-read :
     {n : ℕ} {r : Record} {ns : List ℕ} (x : Record) (ws : List ℕ) → x .readings ≡ r .readings → Adds n r ns (standing x ns ws)
-none-read x ws e = record { adds = rw e; one-more = omega arith; turns = no-note e (λ j. same-zero) }
+none-read x ws e = record { adds = rw e; one-more = omega arith; turns = none-turned e (λ j. same-zero) }
 
 -- nothing read: a note that was not 0 gets another value that is not
 kept-read :
@@ -65,7 +65,7 @@ kept-read {n} {r} {ns} x k v ws e old new =
     record {
       adds = rw (e, nonzero-set-old n ns k v old new);
       one-more = omega arith;
-      turns = no-note e (λ j. stored-zero ns k v j old new);
+      turns = none-turned e (λ j. stored-zero ns k v j old new);
     }
 
 -- a reading: the note that was 0 gets a value that is not
@@ -77,7 +77,7 @@ one-read {n} {r} {ns} x k v ws e h l old new =
     record {
       adds = omega arith;
       one-more = omega arith;
-      turns = one-note k (omega arith) old (λ z. new (sym (getD-set-same ns k v 0 (omega arith)) ∙ z))
+      turns = one-turned k (omega arith) old (λ z. new (sym (getD-set-same ns k v 0 (omega arith)) ∙ z))
           (λ j f. rw (getD-set-other ns k j v 0 f) same-zero);
     }
 

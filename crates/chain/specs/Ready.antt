@@ -48,8 +48,8 @@ Same-zero a b = a ≡ 0 ↔ b ≡ 0
 
 -- ZERO NOTES THAT TURN NONZERO: there is none and the readings stay, or it is number k's alone and they are one more; no note goes back to 0
 pub data Turns (before now : ℕ) (notes notes-now : List ℕ) : Type 0 where
-  no-note : now ≡ before → ((j : ℕ) → Same-zero (getD notes j 0) (getD notes-now j 0)) → Turns before now notes notes-now
-  one-note :
+  none-turned : now ≡ before → ((j : ℕ) → Same-zero (getD notes j 0) (getD notes-now j 0)) → Turns before now notes notes-now
+  one-turned :
       (k : ℕ) → now ≡ suc before → getD notes k 0 ≡ 0 → (getD notes-now k 0 ≡ 0 → ⊥) →
       ((j : ℕ) → (j ≡ k → ⊥) → Same-zero (getD notes j 0) (getD notes-now j 0)) → Turns before now notes notes-now
 
