@@ -3,6 +3,7 @@ pub mod Writing
 pub mod Decimal
 pub mod LineLength
 pub mod InputLaws
+pub mod ConditionsMet
 pub mod Refusing
 pub mod Answering
 pub mod Promised

@@ -45,45 +45,42 @@ module _ (gs : List ℕ) (k : ℕ) where
       (by-cases (equal _ _) (both (equal _ _) (equal _ _)) (both (equal _ _) (at-most _ _)))))
 
   -- a kind that is neither 1 nor 2
-  other : {d : ℕ} → kind-of gs k ≡ d → (d ≡ 1 → ⊥) → (d ≡ 2 → ⊥) → (kind-of gs k ≡ 1) ⊎ (kind-of gs k ≡ 2) → ⊥
-  other e f g (inl h) = f (sym e ∙ h)
-  other e f g (inr h) = g (sym e ∙ h)
+  module _ {d : ℕ} (e : kind-of gs k ≡ d) (f : d ≡ 1 → ⊥) (g : d ≡ 2 → ⊥) where
+    neither : (kind-of gs k ≡ 1) ⊎ (kind-of gs k ≡ 2) → ⊥
+    neither (inl h) = f (sym e ∙ h)
+    neither (inr h) = g (sym e ∙ h)
+
+    to-other : Named → Other
+    to-other n = n .1 neither
+
+    from-other : Other → Named
+    from-other o = (λ h. absurd (neither h), λ h. o)
 
   by-kind : (last-of gs k ≡ 0) × Named → (d : ℕ) → kind-of gs k ≡ d → Grammar-rule-right gs k
-  by-kind n zero e =
-      let o = n .1 .1 (other e (λ h. omega arith) (λ h. omega arith)) in
+  by-kind (z, n) zero e =
+      let o = to-other e (λ h. omega arith) (λ h. omega arith) n in
       absurd (omega (arith, o .1 (λ h. omega arith) .1 (λ h. omega arith) .0))
-  by-kind n (suc zero) e = let t = n .1 .0 (inl e) in sequence-right e (t .0) (t .1) (n .0)
-  by-kind n (suc (suc zero)) e = let t = n .1 .0 (inr e) in choice-right e (t .0) (t .1) (n .0)
-  by-kind n (suc (suc (suc zero))) e =
-      let o = n .1 .1 (other e (λ h. omega arith) (λ h. omega arith)) .0 e in
-      not-right e (o .0) (o .1) (n .0)
-  by-kind n (suc (suc (suc (suc zero)))) e =
-      let o = n .1 .1 (other e (λ h. omega arith) (λ h. omega arith)) .1 (λ h. omega arith) .0 e in
-      empty-right e (o .0) (o .1) (n .0)
-  by-kind n (suc (suc (suc (suc (suc d))))) e =
-      let o = n .1 .1 (other e (λ h. omega arith) (λ h. omega arith)) .1 (λ h. omega arith) .1 (λ h. omega arith) in
-      range-right (o .0) (o .1) (n .0)
+  by-kind (z, n) (suc zero) e = let t = n .0 (inl e) in sequence-right e (t .0) (t .1) z
+  by-kind (z, n) (suc (suc zero)) e = let t = n .0 (inr e) in choice-right e (t .0) (t .1) z
+  by-kind (z, n) (suc (suc (suc zero))) e =
+      let o = to-other e (λ h. omega arith) (λ h. omega arith) n .0 e in
+      not-right e (o .0) (o .1) z
+  by-kind (z, n) (suc (suc (suc (suc zero)))) e =
+      let o = to-other e (λ h. omega arith) (λ h. omega arith) n .1 (λ h. omega arith) .0 e in
+      empty-right e (o .0) (o .1) z
+  by-kind (z, n) (suc (suc (suc (suc (suc d))))) e =
+      let o = to-other e (λ h. omega arith) (λ h. omega arith) n .1 (λ h. omega arith) .1 (λ h. omega arith) in
+      range-right (o .0) (o .1) z
 
   nested : Grammar-rule-right gs k → (last-of gs k ≡ 0) × Named
   nested (sequence-right e b c z) = (z, (λ h. (b, c), λ h. absurd (h (inl e))))
   nested (choice-right e b c z) = (z, (λ h. (b, c), λ h. absurd (h (inr e))))
   nested (not-right e b c z) =
-      (z, (λ h. absurd (other e (λ f. omega arith) (λ f. omega arith) h), λ h. (λ f. (b, c), λ f. absurd (f e))))
-  nested (empty-right e b c z) = (
-    z,
-    (
-      λ h. absurd (other e (λ f. omega arith) (λ f. omega arith) h),
-      λ h. (λ f. absurd (omega arith), λ f. (λ g. (b, c), λ g. absurd (g e))),
-    ),
-  )
-  nested (range-right e o z) = (
-    z,
-    (
-      λ h. absurd (other e (λ f. omega arith) (λ f. omega arith) h),
-      λ h. (λ f. absurd (omega arith), λ f. (λ g. absurd (omega arith), λ g. (e, o))),
-    ),
-  )
+      (z, from-other e (λ h. omega arith) (λ h. omega arith) (λ f. (b, c), λ f. absurd (f e)))
+  nested (empty-right e b c z) =
+      (z, from-other e (λ h. omega arith) (λ h. omega arith) (λ f. absurd (omega arith), λ f. (λ g. (b, c), λ g. absurd (g e))))
+  nested (range-right e o z) =
+      (z, from-other e (λ h. omega arith) (λ h. omega arith) (λ f. absurd (omega arith), λ f. (λ g. absurd (omega arith), λ g. (e, o))))
 
   rule-test : Refuses (Grammar-rule-right gs k) (not (right-at gs k))
   rule-test = unless (restated (λ n. by-kind n (kind-of gs k) refl) nested nested-test)

@@ -45,11 +45,11 @@ less m n = go (ltb m n) refl
     go false e = it-fails (λ h. not-le-of-lt h (ltb-false m n e))
 
 pub at-most : (m n : ℕ) → Reflects (m ≤ n) (leb m n)
-at-most m n = less-suc (leb m n) refl
+at-most m n = go (leb m n) refl
   where
-    less-suc : (b : Bool) → leb m n ≡ b → Reflects (m ≤ n) b
-    less-suc true e = it-holds (leb-true m n e)
-    less-suc false e = it-fails (λ h. not-le-of-lt (leb-false m n e) h)
+    go : (b : Bool) → leb m n ≡ b → Reflects (m ≤ n) b
+    go true e = it-holds (leb-true m n e)
+    go false e = it-fails (λ h. not-le-of-lt (leb-false m n e) h)
 
 -- CONNECTIVES
 pub both : {P Q : Type 0} {a b : Bool} → Reflects P a → Reflects Q b → Reflects (P × Q) (a && b)

@@ -1,0 +1,118 @@
+-- What the input's refusal means: each input has just one row of the paper's table, and the check's answer is that row's. So no refusal is given just if all conditions hold, and a refused place is that of the first wrong pair. Assumes nothing.
+use mathlib.Core.Path.{_≡_, refl, sym}
+use mathlib.Core.Bool.{_||_}
+use mathlib.Core.List.{List}
+use mathlib.Core.Logic.{_↔_, _⊎_, inl, inr}
+use Prim.Native.Nat.{ℕ}
+use native.Mathlib.Omega.{arith}
+use lib.Dec.{ltb}
+use lib.ListN.{length}
+use Rattle.machine.specs.Image.{four}
+use Rattle.machine.specs.Refusals.{refusal, fine}
+use Rattle.answer.specs.Input.{pairs-length, max-input, capture-offset, first-pair-right, second-pair-right, input-refusal}
+use Rattle.answer.specs.Conditions.{Input-length-right, Input-right, First-pair-right, Second-pair-right, Input-row, unrefused-input, wrong-input-length, wrong-first-pair, wrong-second-pair}
+use Rattle.machine.proofs.Reflects.{Reflects, when-holds, when-fails, decided, restated, equal, at-most, both, Refuses, when-refused, passing, refuses-as, over, any-of}
+use Rattle.machine.proofs.Rows.{Some-row, Table, row-of, row-numbered, exactly}
+use Rattle.answer.proofs.InputLaws.{first-refused, second-refused, not-refused}
+
+module _ (xs : List ℕ) where
+  length-test : Refuses (Input-length-right xs) (ltb (length xs) pairs-length || ltb max-input (length xs))
+  length-test =
+      refuses-as (λ p. record { least = p .0; most = p .1 }) (λ r. (r .least, r .most))
+      (any-of (over (length xs) pairs-length) (over max-input (length xs)))
+
+  first-test : Reflects (First-pair-right xs) (first-pair-right xs)
+  unfolding first-pair-right capture-offset
+  first-test =
+      restated (λ p. record { offset-is = p .0; within = p .1 }) (λ r. (r .offset-is, r .within))
+      (both (equal _ _) (at-most _ _))
+
+  second-test : Reflects (Second-pair-right xs) (second-pair-right xs)
+  unfolding second-pair-right capture-offset
+  second-test =
+      restated (λ p. record { offset-is = p .0; nothing-after = sym (p .1) }) (λ r. (r .offset-is, sym (r .nothing-after)))
+      (both (equal _ _) (equal _ _))
+
+  -- the two pairs with their lengths written out, both ways
+  from-pairs : Input-length-right xs → First-pair-right xs → Second-pair-right xs → Input-right xs
+  from-pairs l f s =
+      record {
+        long = l;
+        grammar-length = four xs 4;
+        capture-length = four xs 12;
+        first-pair = record { offset-is = f .offset-is; length-is = refl };
+        second-pair = record { offset-is = s .offset-is; length-is = refl };
+        nothing-after = s .nothing-after;
+      }
+
+  to-first : Input-right xs → First-pair-right xs
+  to-first r =
+      record {
+        offset-is = r .first-pair .offset-is;
+        within = omega (arith, r .first-pair .length-is, r .nothing-after);
+      }
+
+  to-second : Input-right xs → Second-pair-right xs
+  to-second r =
+      record {
+        offset-is = omega (arith, r .second-pair .offset-is, r .first-pair .length-is);
+        nothing-after = omega (arith, r .first-pair .length-is, r .second-pair .length-is, r .nothing-after);
+      }
+
+  -- EACH INPUT HAS A ROW
+  some-row : Some-row (Input-row xs)
+  some-row = go (passing length-test) (decided first-test) (decided second-test)
+    where
+      go : Dec (Input-length-right xs) → Dec (First-pair-right xs) → Dec (Second-pair-right xs) → Some-row (Input-row xs)
+      go (no n) f s = (14, 0, wrong-input-length n)
+      go (yes l) (no n) s = (14, 0, wrong-first-pair l n)
+      go (yes l) (yes f) (no n) = (14, 8, wrong-second-pair l f n)
+      go (yes l) (yes f) (yes s) = (0, 0, unrefused-input (from-pairs l f s))
+
+  -- AND ITS ROW IS THE CHECK'S ANSWER
+  row-answers : (n o : ℕ) → Input-row xs n o → input-refusal xs ≡ refusal n o
+  unfolding input-refusal
+  row-answers n o (unrefused-input r) =
+      not-refused xs (r .long .least) (r .long .most) (when-holds first-test (to-first r)) (when-holds second-test (to-second r))
+  row-answers n o (wrong-input-length w) = simp (when-refused length-test w)
+  row-answers n o (wrong-first-pair l w) = first-refused xs (l .least) (l .most) (when-fails first-test w)
+  row-answers n o (wrong-second-pair l f w) =
+      second-refused xs (l .least) (l .most) (when-holds first-test f) (when-fails second-test w)
+
+  pub input-table : Table (input-refusal xs) (Input-row xs)
+  input-table = record { row = some-row; answers = row-answers }
+
+  -- A NUMBER AND A PLACE ARE THE CHECK'S ANSWER EXACTLY IF THE INPUT HAS THEIR ROW
+  pub input-answer : (n o : ℕ) → (input-refusal xs ≡ refusal n o) ↔ Input-row xs n o
+  input-answer = exactly input-table
+
+  -- 0: no refusal is given exactly if all conditions hold
+  pub input-right : input-refusal xs .number ≡ 0 → Input-right xs
+  input-right e = go (row-numbered input-table e)
+    where
+      go : {o : ℕ} → Input-row xs 0 o → Input-right xs
+      go (unrefused-input r) = r
+
+  pub input-accepted : Input-right xs → input-refusal xs ≡ fine
+  input-accepted r = row-answers 0 0 (unrefused-input r)
+
+  -- 14 at 0: exactly if the length is wrong, or it is right and the first pair wrong
+  pub refused-at-0 :
+      (input-refusal xs ≡ refusal 14 0) ↔ (Input-length-right xs → ⊥) ⊎ (Input-length-right xs × (First-pair-right xs → ⊥))
+  refused-at-0 = (λ e. from (row-of input-table e), to)
+    where
+      from : Input-row xs 14 0 → (Input-length-right xs → ⊥) ⊎ (Input-length-right xs × (First-pair-right xs → ⊥))
+      from (wrong-input-length w) = inl w
+      from (wrong-first-pair l w) = inr (l, w)
+
+      to : (Input-length-right xs → ⊥) ⊎ (Input-length-right xs × (First-pair-right xs → ⊥)) → input-refusal xs ≡ refusal 14 0
+      to (inl w) = row-answers 14 0 (wrong-input-length w)
+      to (inr r) = row-answers 14 0 (wrong-first-pair (r .0) (r .1))
+
+  -- 14 at 8: exactly if the length and the first pair are right and the second is wrong
+  pub refused-at-8 :
+      (input-refusal xs ≡ refusal 14 8) ↔ Input-length-right xs × First-pair-right xs × (Second-pair-right xs → ⊥)
+  refused-at-8 = (λ e. from (row-of input-table e), λ r. row-answers 14 8 (wrong-second-pair (r .0) (r .1) (r .2)))
+    where
+      from : Input-row xs 14 8 → Input-length-right xs × First-pair-right xs × (Second-pair-right xs → ⊥)
+      from (wrong-second-pair l f w) = (l, f, w)
