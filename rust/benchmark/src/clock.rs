@@ -19,7 +19,7 @@ extern "C" {
 /// Nanoseconds that this thread has run so far.
 pub fn thread_time() -> f64 {
     let mut time = Timespec::default();
-    // The call writes one timespec and keeps no pointer to it.
+    // SAFETY: the call writes one timespec and keeps no pointer to it.
     let failed = unsafe { clock_gettime(CLOCK_THREAD_CPUTIME_ID, &mut time) };
     assert_eq!(failed, 0, "the thread has a clock");
     time.seconds as f64 * 1e9 + time.nanoseconds as f64

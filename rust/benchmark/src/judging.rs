@@ -2,7 +2,7 @@
 use crate::measure::{alternate, Times};
 use crate::twin;
 use crate::workloads::{Workload, SIZES};
-use sejimakpu::{Judged, Refusal};
+use sejimakpu::{Error, Judged};
 use std::{hint::black_box, time::Duration};
 
 /// How long the calls of one line take turns in one round, and the calls that show the clearing.
@@ -12,7 +12,7 @@ const LONG_CLEARING: Duration = Duration::from_millis(150);
 /// What an earlier call might have left: every cell has to be cleared.
 const OLD: u32 = 0xA5A5_A5A5;
 
-type Judge = fn(&[u8], &[u8], &mut [u32], &mut [u32]) -> Result<Judged, Refusal>;
+type Judge = fn(&[u8], &[u8], &mut [u32], &mut [u32]) -> Result<Judged, Error>;
 
 /// The cells that both are lent, allocated and touched once for all workloads.
 pub struct Cells {

@@ -3,7 +3,7 @@ use crate::measure::{alternate, Times};
 use crate::table::{grouped, Table};
 use crate::twin;
 use crate::workloads::{building, Workload, SIZES};
-use sejimakpu::{Ran, Refusal, MAX_BUILT_IMAGE};
+use sejimakpu::{Error, Ran, MAX_BUILT_IMAGE};
 use std::{hint::black_box, time::Duration};
 
 const LONG: Duration = Duration::from_millis(400);
@@ -11,9 +11,9 @@ const LONG: Duration = Duration::from_millis(400);
 /// Cells that the plain run is lent beyond one a byte: enough for both workloads at every length.
 const SPARE_CELLS: usize = 64;
 
-type PlainRun = fn(&[u8], &[u8], u32, &mut [u32]) -> Result<Ran, Refusal>;
-type Check = fn(&[u8]) -> Result<(), Refusal>;
-type Build = fn(&[u8], &mut [u8]) -> Result<usize, Refusal>;
+type PlainRun = fn(&[u8], &[u8], u32, &mut [u32]) -> Result<Ran, Error>;
+type Check = fn(&[u8]) -> Result<(), Error>;
+type Build = fn(&[u8], &mut [u8]) -> Result<usize, Error>;
 
 /// Measures the plain run of some workloads and prints a table.
 pub fn plain_runs(workloads: &[&Workload]) {

@@ -11,8 +11,10 @@ use model::{calls, image, summary, walk};
 /// Runs up to so many steps are judged by walking too.
 const WALK_LIMIT: usize = 100_000;
 
-fn refusal(of: sejimakpu::Refusal) -> Refusal {
-    Refusal { number: of.number, place: of.place }
+/// The library's refusal as the model's. Any other error says that the comparison is with the wrong archive.
+fn refusal(of: sejimakpu::Error) -> Refusal {
+    let refusal = of.refusal().unwrap_or_else(|| panic!("{of}"));
+    Refusal { number: refusal.number(), place: refusal.place() }
 }
 
 fn verdict(of: sejimakpu::Verdict) -> Verdict {
@@ -23,6 +25,7 @@ fn verdict(of: sejimakpu::Verdict) -> Verdict {
         sejimakpu::Verdict::Looping => Verdict::Looping,
         sejimakpu::Verdict::Spent => Verdict::Spent,
         sejimakpu::Verdict::Deep => Verdict::Deep,
+        other => panic!("the model has no verdict {other}"),
     }
 }
 

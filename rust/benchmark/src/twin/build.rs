@@ -1,6 +1,6 @@
 //! The twin's building: the image of a grammar, the rules by the table of states and symbols.
-use super::check::{MAP, RULES};
-use sejimakpu::{Refusal, MAX_GRAMMAR};
+use super::check::{refused, MAP, RULES};
+use sejimakpu::{Error, Reason, MAX_GRAMMAR};
 
 const STATES: u32 = 5;
 const START: u32 = 0;
@@ -73,13 +73,13 @@ fn pop(state: u8, direction: u8) -> [u8; 4] {
     [3, state, 0, direction]
 }
 
-fn check_grammar(grammar: &[u8]) -> Result<&[[u8; 4]], Refusal> {
+fn check_grammar(grammar: &[u8]) -> Result<&[[u8; 4]], Error> {
     let (rules, part) = grammar.as_chunks::<4>();
     if rules.is_empty() || grammar.len() > MAX_GRAMMAR || !part.is_empty() {
-        return Err(Refusal { number: 11, place: grammar.len() });
+        return Err(refused(Reason::GrammarLength, grammar.len()));
     }
     match rules.iter().position(|&rule| !is_right(rule, rules.len() as u8)) {
-        Some(k) => Err(Refusal { number: 12, place: 4 * k }),
+        Some(k) => Err(refused(Reason::GrammarRule, 4 * k)),
         None => Ok(rules),
     }
 }
@@ -109,14 +109,14 @@ fn class_map(rules: &[[u8; 4]]) -> [u8; 256] {
 }
 
 /// Builds the image of a grammar at the start of a buffer, as [`sejimakpu::build`] does.
-pub fn build(grammar: &[u8], image: &mut [u8]) -> Result<usize, Refusal> {
+pub fn build(grammar: &[u8], image: &mut [u8]) -> Result<usize, Error> {
     let rules = check_grammar(grammar)?;
     let map = class_map(rules);
     let classes = u32::from(map[255]) + 1;
     let symbols = 2 * rules.len() as u32 + 1;
     let size = 4 * STATES * (classes + 2) * symbols;
     let length = RULES + size as usize;
-    let image = image.get_mut(..length).ok_or(Refusal { number: 13, place: length })?;
+    let image = image.get_mut(..length).ok_or_else(|| refused(Reason::ImageBufferShort, length))?;
     write_header(&mut image[..MAP], size, classes as u8, symbols as u8);
     image[MAP..RULES].copy_from_slice(&map);
     write_rules(rules, &map, classes, symbols, &mut image[RULES..]);

@@ -1,5 +1,5 @@
 //! The twin's check of an image: refusals 1 to 6, in the order of their numbers.
-use sejimakpu::Refusal;
+use sejimakpu::{Error, Reason, Refusal};
 
 pub(super) const MAP: usize = 32;
 pub(super) const RULES: usize = 288;
@@ -38,71 +38,76 @@ impl Counts {
 }
 
 /// Whether an image is good; else the first refusal.
-pub fn check(image: &[u8]) -> Result<(), Refusal> {
+pub fn check(image: &[u8]) -> Result<(), Error> {
     if image.len() < MAP {
-        return refuse(1, image.len());
+        return refuse(Reason::ImageShort, image.len());
     }
     check_directory(image)?;
     let counts = check_counts(image)?;
     let rules = (counts.states * counts.columns() * counts.symbols) as usize;
     if image.len() != RULES + 4 * rules {
-        return refuse(4, RULES_LENGTH_AT);
+        return refuse(Reason::ImageLength, RULES_LENGTH_AT);
     }
     check_map(image, counts)?;
     check_rules(&image[RULES..], counts)
 }
 
-fn refuse<T>(number: u32, place: usize) -> Result<T, Refusal> {
-    Err(Refusal { number, place })
+/// The error by which the library refuses.
+pub(super) fn refused(reason: Reason, place: usize) -> Error {
+    Refusal::new(reason, place).into()
+}
+
+fn refuse<T>(reason: Reason, place: usize) -> Result<T, Error> {
+    Err(refused(reason, place))
 }
 
 fn number_at(image: &[u8], at: usize) -> u32 {
     u32::from_le_bytes([image[at], image[at + 1], image[at + 2], image[at + 3]])
 }
 
-fn check_directory(image: &[u8]) -> Result<(), Refusal> {
+fn check_directory(image: &[u8]) -> Result<(), Error> {
     // An image too short for the rules has no right third length at all.
     let pairs = [Some((24, 8)), Some((32, 256)), image.len().checked_sub(RULES).map(|rules| (RULES, rules))];
     for (i, pair) in pairs.into_iter().enumerate() {
         let at = 8 * i;
         if pair != Some((number_at(image, at) as usize, number_at(image, at + 4) as usize)) {
-            return refuse(2, at);
+            return refuse(Reason::ImageDirectory, at);
         }
     }
     Ok(())
 }
 
-fn check_counts(image: &[u8]) -> Result<Counts, Refusal> {
+fn check_counts(image: &[u8]) -> Result<Counts, Error> {
     for (at, limit) in [(STATES_AT, 32), (CLASSES_AT, 64), (SYMBOLS_AT, 128)] {
         if !(1..=limit).contains(&image[at]) {
-            return refuse(3, at);
+            return refuse(Reason::ImageCounts, at);
         }
     }
     if image[ZERO_AT] != 0 {
-        return refuse(3, ZERO_AT);
+        return refuse(Reason::ImageCounts, ZERO_AT);
     }
     let counts = Counts::of(image);
     if u64::from(counts.finals) >> counts.states != 0 {
-        return refuse(3, FINALS_AT);
+        return refuse(Reason::ImageCounts, FINALS_AT);
     }
     Ok(counts)
 }
 
-fn check_map(image: &[u8], counts: Counts) -> Result<(), Refusal> {
+fn check_map(image: &[u8], counts: Counts) -> Result<(), Error> {
     match image[MAP..RULES].iter().position(|&class| u32::from(class) >= counts.classes) {
-        Some(i) => refuse(5, MAP + i),
+        Some(i) => refuse(Reason::ImageClass, MAP + i),
         None => Ok(()),
     }
 }
 
-fn check_rules(rules: &[u8], counts: Counts) -> Result<(), Refusal> {
+fn check_rules(rules: &[u8], counts: Counts) -> Result<(), Error> {
     let (rules, _) = rules.as_chunks::<4>();
     let symbols = counts.symbols as usize;
     // The rules of a state and a class stand together, one for each symbol.
     let mut class = 0;
     for (line, row) in rules.chunks_exact(symbols).enumerate() {
         if let Some(i) = row.iter().position(|&rule| is_bad(rule, class, counts)) {
-            return refuse(6, RULES + 4 * (line * symbols + i));
+            return refuse(Reason::ImageRule, RULES + 4 * (line * symbols + i));
         }
         class = if class + 1 == counts.columns() { 0 } else { class + 1 };
     }

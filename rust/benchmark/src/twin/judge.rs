@@ -1,7 +1,7 @@
 //! The twin's judge: the same notes, links and modes as the library's, the record changed in place.
-use super::check::check;
+use super::check::{check, refused};
 use super::machine::{Action, Machine};
-use sejimakpu::{Config, Judged, Refusal, Verdict, MAX_CAPTURE};
+use sejimakpu::{Config, Error, Judged, Reason, Verdict, MAX_CAPTURE};
 
 const START: Config = Config { state: 0, head: 0, symbol: 0 };
 
@@ -145,15 +145,15 @@ impl Record {
 }
 
 /// Judges a capture by an image, as [`sejimakpu::judge`] does.
-pub fn judge(image: &[u8], capture: &[u8], notes: &mut [u32], work: &mut [u32]) -> Result<Judged, Refusal> {
+pub fn judge(image: &[u8], capture: &[u8], notes: &mut [u32], work: &mut [u32]) -> Result<Judged, Error> {
     check(image)?;
     if capture.len() > MAX_CAPTURE {
-        return Err(Refusal { number: 7, place: capture.len() });
+        return Err(refused(Reason::CaptureLong, capture.len()));
     }
     let machine = Machine::new(image, capture);
     let cells = machine.configurations();
-    let notes = notes.get_mut(..cells).ok_or(Refusal { number: 8, place: cells })?;
-    let work = work.get_mut(..cells).ok_or(Refusal { number: 9, place: cells })?;
+    let notes = notes.get_mut(..cells).ok_or_else(|| refused(Reason::NotesShort, cells))?;
+    let work = work.get_mut(..cells).ok_or_else(|| refused(Reason::WorkShort, cells))?;
     notes.fill(0);
     work.fill(0);
     Ok(run(&machine, notes, work))

@@ -1,7 +1,7 @@
 //! The twin's plain run: step by step, on a stack of lent cells and within a budget.
-use super::check::check;
+use super::check::{check, refused};
 use super::machine::{Action, Machine};
-use sejimakpu::{Config, Ran, Refusal, Verdict, MAX_CAPTURE};
+use sejimakpu::{Config, Error, Ran, Reason, Verdict, MAX_CAPTURE};
 
 /// A cell of the stack holds pointer * CELL_SYMBOLS + symbol.
 const CELL_SYMBOLS: u32 = 128;
@@ -54,13 +54,13 @@ impl Spot {
 }
 
 /// Runs a machine, as [`sejimakpu::plain_run`] does.
-pub fn plain_run(image: &[u8], capture: &[u8], budget: u32, stack: &mut [u32]) -> Result<Ran, Refusal> {
+pub fn plain_run(image: &[u8], capture: &[u8], budget: u32, stack: &mut [u32]) -> Result<Ran, Error> {
     check(image)?;
     if capture.len() > MAX_CAPTURE {
-        return Err(Refusal { number: 7, place: capture.len() });
+        return Err(refused(Reason::CaptureLong, capture.len()));
     }
     if stack.is_empty() {
-        return Err(Refusal { number: 10, place: 0 });
+        return Err(refused(Reason::StackEmpty, 0));
     }
     let machine = Machine::new(image, capture);
     let mut spot = Spot { at: Config { state: 0, head: 0, symbol: 0 }, pointer: 0, below: 0, steps: 0 };

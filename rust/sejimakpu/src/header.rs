@@ -1,0 +1,72 @@
+//! The C header has the numbers and words of this crate. Tests only.
+use crate::{Reason, Verdict};
+
+const HEADER: &str = include_str!("../../../include/sejimakpu.h");
+
+/// Whether a line of the header begins so, and no digit follows.
+fn has(beginning: &str) -> bool {
+    HEADER.lines().any(|line| {
+        let rest = line.trim_start().strip_prefix(beginning);
+        rest.is_some_and(|rest| !rest.starts_with(|c: char| c.is_ascii_digit()))
+    })
+}
+
+/// A constant has this number, and this word in the function that gives the words.
+fn named(name: &str, number: u32, word: &str) {
+    for line in [format!("SEJIMAKPU_{name} = {number}"), format!("case SEJIMAKPU_{name}: return \"{word}\";")] {
+        assert!(has(&line), "no {line}");
+    }
+}
+
+#[test]
+fn verdicts() {
+    named("NO_VERDICT", 0, "none");
+    assert_eq!(Verdict::of_number(0), None);
+    let names = ["ACCEPTED", "ENDED", "STUCK", "LOOPING", "SPENT", "DEEP"];
+    for (number, name) in (1..).zip(names) {
+        let verdict = Verdict::of_number(number.into()).unwrap();
+        assert_eq!(format!("{verdict:?}").to_uppercase(), name);
+        named(name, number, &verdict.to_string());
+    }
+    assert_eq!(Verdict::of_number(7), None);
+}
+
+#[test]
+fn refusals() {
+    named("ANSWERED", 0, "not refused");
+    assert_eq!(Reason::of_number(0), None);
+    let names = [
+        "IMAGE_SHORT",
+        "IMAGE_DIRECTORY",
+        "IMAGE_COUNTS",
+        "IMAGE_LENGTH",
+        "IMAGE_CLASS",
+        "IMAGE_RULE",
+        "CAPTURE_LONG",
+        "NOTES_SHORT",
+        "WORK_SHORT",
+        "STACK_EMPTY",
+        "GRAMMAR_LENGTH",
+        "GRAMMAR_RULE",
+        "IMAGE_BUFFER_SHORT",
+    ];
+    assert_eq!(Reason::ALL.len(), names.len());
+    for (number, name) in (1..).zip(names) {
+        let reason = Reason::of_number(number).unwrap();
+        assert_eq!(format!("{reason:?}").to_uppercase(), name.replace('_', ""));
+        named(name, number, &reason.to_string());
+    }
+    assert_eq!(Reason::of_number(14), None);
+}
+
+#[test]
+fn limits() {
+    for (name, number) in [
+        ("MAX_CAPTURE", crate::MAX_CAPTURE),
+        ("MAX_GRAMMAR", crate::MAX_GRAMMAR),
+        ("MAX_BUILT_IMAGE", crate::MAX_BUILT_IMAGE),
+    ] {
+        let line = format!("#define SEJIMAKPU_{name} {number}");
+        assert!(has(&line), "no {line}");
+    }
+}
