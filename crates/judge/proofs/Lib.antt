@@ -1,2 +1,3 @@
 -- Laws that the proofs of the program's functions cite.
 pub mod Printing
+pub mod Outcomes

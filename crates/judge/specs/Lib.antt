@@ -1,2 +1,3 @@
--- What a reader must believe of the program: its buffers, and the line that it prints.
+-- What a reader must believe of the program: its buffers, the line that it prints, and how it reads.
 pub mod Program
+pub mod Transfers

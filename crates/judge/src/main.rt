@@ -1,7 +1,9 @@
 // The program: reads a grammar and a capture from standard input, and prints the line of the answer.
+mod transfer;
+
 use answer::answer;
-use libc::STDIN_FILENO;
-use libc::STDOUT_FILENO;
+use transfer::read_whole;
+use transfer::write_whole;
 ghost use lib.ListN.{take};
 ghost use Rattle.answer.specs.Calls.{lent};
 ghost use Rattle.judge.specs.Program.{Buffers, Prints};
@@ -28,7 +30,7 @@ fn main() {
     let mut notes = [0u32; 16384];
     let mut work = [0u32; 16384];
     let mut line = [0u8; 64];
-    let count = io::read_full(STDIN_FILENO, &mut input);
+    let count = read_whole(&mut input);
     let long = line_of(&input, count, &mut image, &mut notes, &mut work, &mut line);
-    io::write_all(STDOUT_FILENO, &line[..long]);
+    write_whole(&line[..long]);
 }

@@ -5,11 +5,11 @@ use borrow.Author.Needs.{needs}
 use Rattle.judge.proofs.main.Statement.{statement}
 use Rattle.judge.proofs.main.Tie as tie
 
-slice-aggregate-read-full : tie.Need-slice-aggregate-read-full
-slice-aggregate-read-full c = search needs
+slice-aggregate-read-whole : tie.Need-slice-aggregate-read-whole
+slice-aggregate-read-whole c = search needs
 
-read-full-requires : tie.Need-read-full-requires
-read-full-requires c κs = search needs
+read-whole-requires : tie.Need-read-whole-requires
+read-whole-requires c κs = search needs
 
 slice-aggregate-line-of : tie.Need-slice-aggregate-line-of
 slice-aggregate-line-of c = search needs
@@ -32,11 +32,11 @@ line-of-requires c κs = search needs
 array-share-prefix-line : tie.Need-array-share-prefix-line
 array-share-prefix-line c = search needs
 
-slice-aggregate-write-all : tie.Need-slice-aggregate-write-all
-slice-aggregate-write-all c = sym (length-take-le _ _ (c .before .before .before .before .before .line-of .ensures .within))
+slice-aggregate-write-whole : tie.Need-slice-aggregate-write-whole
+slice-aggregate-write-whole c = sym (length-take-le _ _ (c .before .before .before .before .before .line-of .ensures .within))
 
-write-all-requires : tie.Need-write-all-requires
-write-all-requires c κs = search needs
+write-whole-requires : tie.Need-write-whole-requires
+write-whole-requires c κs = search needs
 
 returns : tie.Need-returns
 returns c = search needs
@@ -45,8 +45,8 @@ pub main-spec : {M : Type 1} → statement M
 main-spec =
     tie.close
     (tie.spec
-    slice-aggregate-read-full
-    read-full-requires
+    slice-aggregate-read-whole
+    read-whole-requires
     slice-aggregate-line-of
     slice-aggregate-line-of-2
     slice-aggregate-line-of-3
@@ -54,6 +54,6 @@ main-spec =
     slice-aggregate-line-of-5
     line-of-requires
     array-share-prefix-line
-    slice-aggregate-write-all
-    write-all-requires
+    slice-aggregate-write-whole
+    write-whole-requires
     returns)
