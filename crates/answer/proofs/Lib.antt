@@ -9,3 +9,4 @@ pub mod Answering
 pub mod Promised
 pub mod TwoCallsHold
 pub mod Answered
+pub mod AnsweringMet

@@ -1,8 +1,9 @@
 -- Building and then judging gives what parsing says, with few readings. Assumes nothing.
 use mathlib.Core.Path.{_≡_, refl, sym, subst, _∙_, ap}
 use mathlib.Core.List.{List, _++_}
+use mathlib.Core.Logic.{_↔_}
 use mathlib.Core.Option.{Option, some}
-use Prim.Native.Nat.{ℕ, _<_, _≤_}
+use Prim.Native.Nat.{ℕ, _≤_}
 use lib.ListN.{length, take, drop}
 use lib.Seq.{take-at}
 use borrow.Author.Tests.{le-ltb, eq-eqb}
@@ -11,13 +12,14 @@ use Rattle.machine.specs.declared.Refusal.{Refusal}
 use Rattle.machine.specs.declared.Verdict.{Verdict}
 use Rattle.machine.specs.declared.Verdict.the-variants.{Accepted, Ended, Stuck, Looping, Spent, Deep}
 use Rattle.machine.specs.Format
-use Rattle.machine.specs.Image.{byte, machine}
-use Rattle.machine.specs.Verdicts.{Says}
+use Rattle.machine.specs.Image.{Bytes, machine}
+use Rattle.machine.specs.Verdicts.{Goes-on, Says}
 use Rattle.machine.specs.Refusals.{or-else, refuse-if, image-refusal}
-use Rattle.machine.proofs.OneVerdict.{one-verdict}
+use Rattle.machine.proofs.OneVerdict.{one-verdict, goes-on-loops}
 use Rattle.simulator.specs.declared.Judged.{Judged}
 use Rattle.simulator.specs.Calls.{Right, Judge-says}
 use Rattle.simulator.proofs.Answered.{judged-right}
+use Rattle.simulator.proofs.Promised.{verdict-there}
 use Rattle.simulator.proofs.JudgeRefusals.{not-refused}
 use Rattle.machine.proofs.Refused.{then-fine}
 use Rattle.grammar.specs.declared.Built.{Built}
@@ -66,8 +68,23 @@ module _ (gs cs : List ℕ) (b : Parses-right (machine (built gs) cs) (expressio
   only-as Spent p = absurd p
   only-as Deep p = absurd p
 
+-- looping, exactly where parsing has no result
+pub loops-exact :
+    (gs cs : List ℕ) → grammar-refusal gs .number ≡ 0 → Bytes cs → length cs ≤ Format.max-capture →
+    ((d : Config) × Says (machine (built gs) cs) Looping d) ↔ ((o : Option ℕ) → Parses (expression gs) cs 0 0 o → ⊥)
+loops-exact gs cs good bytes short =
+    (λ (d, s) o p. b .parses-halts o p (s .0), λ none-parses. loops (b .no-parse-goes-on none-parses))
+  where
+    b : Parses-right (machine (built gs) cs) (expression gs) cs
+    b = built-parses gs cs good bytes
+
+    loops : Goes-on (machine (built gs) cs) → (d : Config) × Says (machine (built gs) cs) Looping d
+    loops on =
+        let (v, d, s) = verdict-there (built gs) cs (record { good = built-good gs good; short = short; bytes = bytes }) in
+        (d, subst (λ (w : Verdict). Says (machine (built gs) cs) w d) (goes-on-loops (machine (built gs) cs) v d s on) s)
+
 pub gets :
-    (gs cs notes notes-now work work-now : List ℕ) (r : Judged) → grammar-refusal gs .number ≡ 0 → ((i : ℕ) → byte cs i < 256) →
+    (gs cs notes notes-now work work-now : List ℕ) (r : Judged) → grammar-refusal gs .number ≡ 0 → Bytes cs →
     Right (built gs) cs r notes notes-now work work-now → Gets gs cs r
 gets gs cs notes notes-now work work-now r good bytes j =
     let b = built-parses gs cs good bytes in

@@ -5,7 +5,11 @@ use Prim.Native.Nat.{ℕ, _+_, _≤_}
 use lib.ListN.{length}
 use Rattle.machine.specs.Image.{four}
 use Rattle.machine.specs.Conditions.{Pair-right}
-use Rattle.answer.specs.Input.{pairs-length, max-input}
+use Rattle.simulator.specs.Conditions.{Judging-right, Judging-row}
+use Rattle.grammar.specs.Image.{built}
+use Rattle.grammar.specs.Conditions.{Building-right, Building-row}
+use Rattle.answer.specs.Input.{pairs-length, max-input, input-grammar, input-capture}
+use Rattle.answer.specs.Calls.{Lent}
 
 -- THE LENGTH: not under 16 and not over 65,536 bytes
 pub record Input-length-right (xs : List ℕ) : Type 0 where
@@ -37,3 +41,20 @@ pub data Input-row (xs : List ℕ) : (number place : ℕ) → Type 0 where
   wrong-input-length : (Input-length-right xs → ⊥) → Input-row xs 14 0
   wrong-first-pair : Input-length-right xs → (First-pair-right xs → ⊥) → Input-row xs 14 0
   wrong-second-pair : Input-length-right xs → First-pair-right xs → (Second-pair-right xs → ⊥) → Input-row xs 14 8
+
+-- THE CALL, with lent buffers: 14 of its input, then 11 to 13 of its grammar, then 7 to 9 of its capture; the image is one that is built, and so is right
+pub record Answering-right (xs : List ℕ) (x : Lent) : Type 0 where
+  pub input : Input-right xs
+  pub building : Building-right (input-grammar xs) (length (x .image))
+  pub judging : Judging-right (built (input-grammar xs)) (input-capture xs) (length (x .notes)) (length (x .work))
+
+pub data Answering-row (xs : List ℕ) (x : Lent) : (number place : ℕ) → Type 0 where
+  unrefused-answering : Answering-right xs x → Answering-row xs x 0 0
+  refused-input : {number place : ℕ} → Input-row xs number place → (number ≡ 0 → ⊥) → Answering-row xs x number place
+  refused-building :
+      {number place : ℕ} → Input-right xs → Building-row (input-grammar xs) (length (x .image)) number place → (number ≡ 0 → ⊥) →
+      Answering-row xs x number place
+  refused-judging :
+      {number place : ℕ} → Input-right xs → Building-right (input-grammar xs) (length (x .image)) →
+      Judging-row (built (input-grammar xs)) (input-capture xs) (length (x .notes)) (length (x .work)) number place → (number ≡ 0 → ⊥) →
+      Answering-row xs x number place

@@ -1,7 +1,7 @@
 -- The ten captures hold: the test of a row computes over the whole table. So do C1's facts. Assumes nothing.
 use mathlib.Core.Path.{_≡_, refl, ap}
 use mathlib.Core.List.{List, [], _∷_, map}
-use lib.ListN.{getD, drop}
+use lib.ListN.{length, getD, drop}
 use Rattle.machine.specs.Run.{start, step, step-on, step-by, config-of, top, how-many, config-number, config-from}
 use Rattle.machine.specs.Image.{machine, four, states, classes, symbols, final, rule-offset, rule-from, rule-at, class-under, moved, action-by, action, accepting}
 use Rattle.machine.specs.Refusals.{or-else, refuse-if, pair-is, directory, counts, count-wrong, map-from, move-off, rule-bad, index-class, rules-from, rule-count, image-refusal}
@@ -12,7 +12,7 @@ use Rattle.interpreter.specs.PlainRun.{run-on, run-went, spent-or, ended-as}
 use Rattle.grammar.specs.Grammar as Grammar
 use Rattle.grammar.specs.Classes.{cuts-at, cut-from, cut, class-of, class-count, class-in}
 use Rattle.grammar.specs.Image.{work-first, ok-first, fail-first, work-second, ok-second, fail-second, row-first, row-second, row-zero, class-inside, made, little-endian, rule-bytes, symbols-of, built-rules, rules-made, map-made, header, built}
-use Rattle.captures.specs.Captures.{Row, Row-holds, Each, nil, cons, table, image-of, source-refusal, row-machine, popping-image, Captures-hold, plain-table, C1-facts}
+use Rattle.captures.specs.Captures.{Row, Row-holds, Each, nil, cons, table, image-of, source-refusal, row-machine, popping-image, empty-grammar, plain-table, Plain-holds}
 use Rattle.captures.proofs.ChainEnd.{turns}
 use Rattle.captures.proofs.RowLaws.{Found, found, found-by, said, ran-found, ran-said, chain-last, enough, all-bytes, found-holds}
 
@@ -23,7 +23,8 @@ each-holds (r ∷ rs) e =
     cons (found-holds r (ap (λ (l : List Found). getD l 0 (said r)) e)) (each-holds rs (ap (λ (l : List Found). drop 1 l) e))
 
 -- THE TEST and C1's facts, computed
-computed : (map found table ≡ map said table) × C1-facts
+computed :
+    (map found table ≡ map said table) × (length (built empty-grammar) ≡ 468) × (how-many (machine (built empty-grammar) []) ≡ 30) × Each Plain-holds plain-table
 unfolding table plain-table found said found-by ran-found ran-said chain-last enough all-bytes turns image-of source-refusal row-machine popping-image
     start step step-on step-by config-of top how-many config-number config-from
     machine four states classes symbols final rule-offset rule-from rule-at class-under moved action-by action accepting
@@ -34,14 +35,17 @@ unfolding table plain-table found said found-by ran-found ran-said chain-last en
     cuts-at cut-from cut class-of class-count class-in
     work-first ok-first fail-first work-second ok-second fail-second row-first row-second row-zero class-inside made
     little-endian rule-bytes symbols-of built-rules rules-made map-made header built
-computed = (
-  refl,
-  record { image-bytes = refl; configurations = refl; plain-runs = cons refl (cons refl (cons refl nil)) },
-)
+computed = (refl, refl, refl, cons refl (cons refl (cons refl nil)))
 
-pub captures-hold : Captures-hold
-unfolding Captures-hold
+pub captures-hold : Each Row-holds table
 captures-hold = each-holds table (computed .0)
 
-pub c1-facts : C1-facts
-c1-facts = computed .1
+-- C1's image, its N, and its plain runs
+pub c1-image : length (built empty-grammar) ≡ 468
+c1-image = computed .1
+
+pub c1-cells : how-many (machine (built empty-grammar) []) ≡ 30
+c1-cells = computed .2
+
+pub c1-plain-runs : Each Plain-holds plain-table
+c1-plain-runs = computed .3

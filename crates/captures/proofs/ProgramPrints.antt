@@ -23,7 +23,7 @@ use Rattle.answer.specs.Input.{capture-offset, first-pair-right, second-pair-ri
 use Rattle.answer.specs.Calls.{Lent, parts-refusal, answer-refusal, Input-says, Answer-says}
 use Rattle.answer.proofs.Promised.{line-whole}
 use Rattle.answer.proofs.Answered.{input-judged, input-fine}
-use Rattle.captures.specs.Captures.{Row, row, from-grammar, Row-holds, Each, cons, endless-grammar, table, image-of, row-machine, Captures-hold}
+use Rattle.captures.specs.Captures.{Row, row, from-grammar, Row-holds, Each, cons, endless-grammar, table, image-of, row-machine}
 use Rattle.captures.specs.ProgramLine.{endless-input, endless-line, Program-room}
 use Rattle.captures.proofs.CapturesHold.{captures-hold}
 
@@ -56,7 +56,7 @@ fifth : {P : Row → Type 0} {a b c d e : Row} {rest : List Row} → Each P (a �
 fifth (cons p (cons q (cons r (cons s (cons found later))))) = found
 
 endless-row : Row-holds (row (from-grammar endless-grammar) [] Looping 2 (config 1 1 1) none)
-unfolding Captures-hold table
+unfolding table
 endless-row = fifth captures-hold
 
 answer-is :

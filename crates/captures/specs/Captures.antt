@@ -3,12 +3,12 @@ use mathlib.Core.Path.{_≡_}
 use mathlib.Core.List.{List, [], _∷_, _++_}
 use mathlib.Core.Option.{Option, none, some}
 use Prim.Native.Nat.{ℕ}
-use lib.ListN.{length, replicate}
+use lib.ListN.{replicate}
 use Rattle.machine.specs.declared.Config.{Config}
 use Rattle.machine.specs.declared.Verdict.{Verdict}
 use Rattle.machine.specs.declared.Verdict.the-variants.{Accepted, Ended, Stuck, Looping, Spent, Deep}
 use Rattle.machine.specs.Format
-use Rattle.machine.specs.Run.{Machine, config, start, how-many}
+use Rattle.machine.specs.Run.{Machine, config, start}
 use Rattle.machine.specs.Image.{machine}
 use Rattle.machine.specs.Refusals.{Unrefused}
 use Rattle.machine.specs.Verdicts.{Says, Goes-on, All-entered}
@@ -117,9 +117,6 @@ pub data Each {A : Type 0} (P : A → Type 0) : List A → Type 0 where
   nil : Each P []
   cons : {a : A} {rest : List A} → P a → Each P rest → Each P (a ∷ rest)
 
-unfoldable pub Captures-hold : Type 0
-Captures-hold = Each Row-holds table
-
 -- PLAIN RUNS of C1, by budget and cells
 pub record Plain-row : Type 0 where
   pub budget : ℕ
@@ -139,8 +136,3 @@ plain-table =
 
 abbrev pub Plain-holds : Plain-row → Type 0
 Plain-holds r = run-on (r .budget) (machine (built empty-grammar) []) 0 (r .cells) start ≡ r .answers
-
-pub record C1-facts : Type 0 where
-  pub image-bytes : length (built empty-grammar) ≡ 468
-  pub configurations : how-many (machine (built empty-grammar) []) ≡ 30
-  pub plain-runs : Each Plain-holds plain-table

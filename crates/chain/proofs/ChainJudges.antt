@@ -18,7 +18,7 @@ use Rattle.chain.specs.Turn.{Standing, standing, turn, accepts}
 use Rattle.chain.specs.Chain.{turned, begun, reached, begin-record, chain, Judges}
 use Rattle.chain.proofs.Invariant.{Holds}
 use Rattle.machine.proofs.Listing.{all-entered}
-use Rattle.chain.specs.Ready.{Ready}
+use Rattle.chain.specs.Ready.{Ready, Turns}
 use Rattle.chain.proofs.StepAdds.{turn-adds}
 use Rattle.chain.proofs.SizesKept.{turn-sizes}
 use Rattle.chain.proofs.Readies.{holds-ready}
@@ -113,6 +113,14 @@ one-reading bs cs u n l =
     let ready = ready-at bs cs u n l in
     rw (standing-goes bs cs n) (turn-adds ready (standing-at bs cs n .now-at .mode) (ready .open-one) .one-more)
 
+one-turned-at :
+    (bs cs : List ℕ) (u : Unrefused bs cs) (n : ℕ) → n ≤ finished bs cs u .steps →
+    Turns (standing-at bs cs n .now-at .readings) (standing-at bs cs (suc n) .now-at .readings) (standing-at bs cs n .notes) (standing-at bs cs (suc n) .notes)
+unfolding turn
+one-turned-at bs cs u n l =
+    let ready = ready-at bs cs u n l in
+    rw (standing-goes bs cs n) (turn-adds ready (standing-at bs cs n .now-at .mode) (ready .open-one) .turns)
+
 pub chain-judges : (bs cs : List ℕ) → Unrefused bs cs → Judges Record chain bs cs
 unfolding chain standing-at
 chain-judges bs cs u =
@@ -130,6 +138,7 @@ chain-judges bs cs u =
       none-read = begin-reads bs cs;
       not-before = f .not-before;
       one-more = λ n l. one-reading bs cs u n (omega arith);
+      turns = λ n l. one-turned-at bs cs u n (omega arith);
       counted = λ n l. f .holds n l .shared .counted;
       entered = subst (All-entered (machine bs cs)) (sym (last .shared .counted)) (all-entered (machine bs cs) (standing-at bs cs (f .steps) .notes) (settled .noted) (entered-there (inside bs cs u)));
     }

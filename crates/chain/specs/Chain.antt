@@ -14,7 +14,7 @@ use Rattle.chain.specs.declared.Mode.{Mode}
 use Rattle.chain.specs.declared.Mode.the-variants.{Look, Unwind, Clear, Done}
 use Rattle.chain.specs.declared.Record.{Record}
 use Rattle.chain.specs.Turn.{standing, turn}
-use Rattle.chain.specs.Ready.{start-record}
+use Rattle.chain.specs.Ready.{Turns, start-record}
 
 -- OF ANY PROGRAM: records of its own, started from the image's counts and finals and the capture's length alone
 pub record Chain (S : Type 0) : Type 0 where
@@ -65,6 +65,10 @@ pub record Judges (S : Type 0) (c : Chain S) (bs cs : List ℕ) : Type 0 where
   pub not-before : (n : ℕ) → n < steps → c .verdict (reached c bs cs n .now-at) ≡ none
   pub one-more :
       (n : ℕ) → n < steps → c .readings (reached c bs cs (suc n) .now-at) ≤ suc (c .readings (reached c bs cs n .now-at))
+  pub turns :
+      (n : ℕ) → n < steps →
+      Turns (c .readings (reached c bs cs n .now-at)) (c .readings (reached c bs cs (suc n) .now-at))
+      (reached c bs cs n .notes) (reached c bs cs (suc n) .notes)
   pub counted :
       (n : ℕ) → n ≤ steps →
       c .readings (reached c bs cs n .now-at) ≡ nonzero (how-many (machine bs cs)) (reached c bs cs n .notes)

@@ -20,6 +20,7 @@ pub mod Entered
 pub mod FewReadings
 pub mod Promised
 pub mod Answered
+pub mod BuildingMet
 pub mod CodeGrammar
 pub mod CodeClasses
 pub mod CodeWriting

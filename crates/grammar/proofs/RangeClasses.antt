@@ -2,7 +2,7 @@
 use mathlib.Core.Path.{_≡_, refl, sym, ap}
 use mathlib.Core.Bool.{Bool, true, false, _||_, cond}
 use mathlib.Core.List.{List, [], _∷_, List·Memᴰ, List·Memᴰ·head, List·Memᴰ·tail, List·Memᴰ·cases-cons, List·Memᴰ·not-nil}
-use mathlib.Core.Logic.{_⊎_, inl, inr}
+use mathlib.Core.Logic.{_↔_, _⊎_, inl, inr}
 use Prim.Native.Nat.{ℕ, zero, suc, _+_, _-_, _<_, _≤_}
 use native.Mathlib.Decide.{decLe, ℕ-discrete}
 use native.Mathlib.Omega.{arith}
@@ -13,7 +13,7 @@ use Rattle.grammar.specs.declared.Expression.{Expression}
 use Rattle.grammar.specs.declared.Expression.the-variants.{Sequence, Choice, Not, Empty, Range}
 use Rattle.grammar.specs.Grammar.{rules, expression}
 use Rattle.grammar.specs.Classes.{cuts-at, cut-from, cut, class-of, class-in}
-use Rattle.grammar.specs.Counting.{Range-cut, Class-counts, Classes-count, Byte-of-class, Range-classes}
+use Rattle.grammar.specs.ClassMeaning.{Range-cut, Class-counts, Byte-of-class}
 use Rattle.grammar.proofs.Bools.{both-true, first-holds, second-holds}
 use Rattle.grammar.proofs.Classes.{cut-of-rule, class-monotone}
 
@@ -42,8 +42,8 @@ byte-between gs b k (suc n) (suc c) e low high = go (λ h. byte-between gs b k n
     go rest (no h) =
         record { value = suc c; from-low = omega arith; to-high = omega arith; class-is = omega (arith, class-rises gs c) }
 
-pub range-classes : Range-classes
-unfolding Range-classes class-in
+pub range-classes : (gs : List ℕ) (b c k : ℕ) → b ≤ c → class-in gs b c k ≡ true ↔ Byte-of-class gs b c k
+unfolding class-in
 range-classes gs b c k h = (there, back)
   where
     there : class-in gs b c k ≡ true → Byte-of-class gs b c k
@@ -154,7 +154,6 @@ counts-next gs v w false q =
     before : (u : ℕ) → Range-cut gs u → u ≤ suc v → u ≤ v
     before u x b = omega (arith, no-cut u x)
 
-pub classes-count : Classes-count
-unfolding Classes-count
+pub classes-count : (gs : List ℕ) (v : ℕ) → Class-counts gs v
 classes-count gs zero = counts-none gs
 classes-count gs (suc v) = counts-next gs v (classes-count gs v) (cut gs (suc v)) refl

@@ -2,6 +2,7 @@
 pub mod Heights
 pub mod Promised
 pub mod Answered
+pub mod ConditionsMet
 pub mod CellLaws
 pub mod RunSteps
 pub mod ReadyLaws

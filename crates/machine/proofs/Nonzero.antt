@@ -1,7 +1,7 @@
 -- How many of the first so many notes are not 0: what one store changes, and the count's bounds. Assumes nothing.
 use mathlib.Core.Path.{_≡_, refl}
 use mathlib.Core.Bool.{Bool, true, false, cond}
-use mathlib.Core.List.{List, [], _∷_}
+use mathlib.Core.List.{List, [], _∷_, _++_}
 use Prim.Native.Nat.{ℕ, zero, suc, _<_, _≤_}
 use native.Mathlib.Omega.{arith}
 use lib.Dec.{eqb}
@@ -44,3 +44,9 @@ unfolding nonzero
 nonzero-most zero ns = omega arith
 nonzero-most (suc m) [] = omega arith
 nonzero-most (suc m) (n ∷ ns) = omega (arith, one-at-most (eqb n 0), nonzero-most m ns)
+
+-- the count looks at so many notes and at none after them
+pub nonzero-front : (ns rest : List ℕ) → nonzero (length ns) (ns ++ rest) ≡ nonzero (length ns) ns
+unfolding nonzero
+nonzero-front [] rest = refl
+nonzero-front (n ∷ ns) rest = rw (nonzero-front ns rest)

@@ -7,7 +7,8 @@ use Rattle.machine.specs.declared.Config.{Config}
 use Rattle.machine.specs.Run.{Machine, There, number}
 use Rattle.machine.specs.Image.{machine}
 use Rattle.machine.specs.Verdicts.{Entered, Ends-at, No-end, Noted}
-use Rattle.machine.specs.Implications.{Noted-implies}
+use Rattle.machine.specs.Implications.{Noted-by-implication}
+use Rattle.machine.specs.Refusals.{Unrefused}
 use Rattle.machine.proofs.Inside.{inside}
 use Rattle.machine.proofs.Notes.{never-only, unended-only, ended-only}
 use Rattle.machine.proofs.Reach.{entered-there}
@@ -25,8 +26,8 @@ module _ (M : Machine) (notes : List ℕ) (noted : Noted M notes) where
   noted-ended c d there entered ends = ended-only (noted c there) entered ends
 
 -- of an image and a capture that are not refused: what is entered is a configuration of theirs
-pub noted-implies : Noted-implies
-unfolding Noted-implies
+pub noted-implies :
+    (bs cs notes : List ℕ) → Unrefused bs cs → Noted (machine bs cs) notes → Noted-by-implication (machine bs cs) notes
 noted-implies bs cs notes unrefused noted =
     record {
       never = noted-never M notes noted;

@@ -84,3 +84,11 @@ one-way M (loops on first) (loops also second) = (refl, one-first first second)
 
 pub one-verdict : (M : Machine) (v w : Verdict) (d e : Config) → Says M v d → Says M w e → (v ≡ w) × (d ≡ e)
 one-verdict M v w d e s t = one-way M (way M v d s) (way M w e t)
+
+-- a run that goes on has no verdict but looping
+pub goes-on-loops : (M : Machine) (v : Verdict) (d : Config) → Says M v d → Goes-on M → v ≡ Looping
+goes-on-loops M v d s on = go (way M v d s)
+  where
+    go : {w : Verdict} → Way M d w → w ≡ Looping
+    go (halts h p) = absurd (no-halt on h)
+    go (loops also first) = refl

@@ -1,7 +1,7 @@
 -- What an image says: counts, finals, byte classes and rules; and the machine that it makes of a capture. Assumes nothing: these are definitions.
 use mathlib.Core.Bool.{Bool, _&&_, cond}
 use mathlib.Core.List.{List}
-use Prim.Native.Nat.{ℕ, zero, suc, _+_, _*_, _-_, _/_, _%_, _^_}
+use Prim.Native.Nat.{ℕ, zero, suc, _+_, _*_, _-_, _/_, _%_, _^_, _<_}
 use lib.Dec.{ltb, eqb}
 use lib.ListN.{length, getD}
 use Rattle.machine.specs.declared.Config.{Config}
@@ -13,6 +13,10 @@ use Rattle.machine.specs.Run.{Machine, config}
 
 abbrev pub byte : List ℕ → (i : ℕ) → ℕ
 byte bs i = getD bs i 0
+
+-- all of them bytes: a byte slice has this by its type, a list of numbers does not
+abbrev pub Bytes : List ℕ → Type 0
+Bytes bs = (i : ℕ) → byte bs i < 256
 
 -- four bytes from i on, as a little-endian number
 unfoldable pub four : List ℕ → (i : ℕ) → ℕ

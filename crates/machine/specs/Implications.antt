@@ -5,17 +5,10 @@ use Prim.Native.Nat.{ℕ, _+_}
 use lib.ListN.{getD}
 use Rattle.machine.specs.declared.Config.{Config}
 use Rattle.machine.specs.Run.{Machine, There, number}
-use Rattle.machine.specs.Image.{machine}
-use Rattle.machine.specs.Verdicts.{Entered, Ends-at, No-end, Noted}
-use Rattle.machine.specs.Refusals.{Unrefused}
+use Rattle.machine.specs.Verdicts.{Entered, Ends-at, No-end}
 
 -- 0 for what is never entered, 1 for what is entered and has no terminator, else 2 and the terminator's number
 pub record Noted-by-implication (M : Machine) (notes : List ℕ) : Type 0 where
   pub never : (c : Config) → (Entered M c → ⊥) → There M c → getD notes (number M c) 0 ≡ 0
   pub open-end : (c : Config) → Entered M c → No-end M c → getD notes (number M c) 0 ≡ 1
   pub ended : (c d : Config) → Entered M c → Ends-at M c d → getD notes (number M c) 0 ≡ 2 + number M d
-
--- the notes of an image and a capture that are not refused hold what document 03 says
-unfoldable pub Noted-implies : Type 0
-Noted-implies =
-    (bs cs notes : List ℕ) → Unrefused bs cs → Noted (machine bs cs) notes → Noted-by-implication (machine bs cs) notes

@@ -7,7 +7,7 @@ use lib.Dec.{ltb, leb, eqb}
 use lib.ListN.{length}
 use Rattle.machine.specs.declared.Refusal.{Refusal}
 use Rattle.machine.specs.Format
-use Rattle.machine.specs.Image.{byte, four, states, classes, symbols, Rule, rule-from}
+use Rattle.machine.specs.Image.{byte, Bytes, four, states, classes, symbols, Rule, rule-from}
 
 abbrev pub refusal : (number place : ℕ) → Refusal
 refusal n p = record { number = n; place = p }
@@ -91,4 +91,4 @@ capture-refusal bs n = or-else (image-refusal bs) (refuse-if (ltb Format.max-cap
 pub record Unrefused (bs cs : List ℕ) : Type 0 where
   pub good : image-refusal bs .number ≡ 0
   pub short : length cs ≤ Format.max-capture
-  pub bytes : (i : ℕ) → byte cs i < 256
+  pub bytes : Bytes cs

@@ -1,20 +1,51 @@
 -- Every promise is kept: one record, a field a claim, each by the lemma that proves it. Assumes nothing.
+use Rattle.machine.specs.Image.{machine}
 use Rattle.machine.proofs.ConditionsMet.{image-answer}
+use Rattle.machine.proofs.Inside.{inside}
+use Rattle.machine.proofs.Reach.{entered-there}
+use Rattle.machine.proofs.Listing.{one-count}
+use Rattle.machine.proofs.OneVerdict.{one-verdict}
+use Rattle.machine.proofs.Terminators.{one-end, terminators-of-run}
+use Rattle.machine.proofs.NotesOfRun.{same-each-time, notes-of-run}
+use Rattle.machine.proofs.NotesImplied.{noted-implies}
+use Rattle.chain.proofs.ChainJudges.{chain-judges}
+use Rattle.simulator.proofs.ConditionsMet.{judging-answer}
 use Rattle.simulator.proofs.Answered.{later-kept}
 use Rattle.simulator.proofs.Determined.{judge-determined, judge-forgets}
+use Rattle.simulator.proofs.Needing.{cells-are}
+use Rattle.simulator.proofs.JudgeLoop.{start-is}
+use Rattle.simulator.proofs.Promised.{verdict-there, verdict-exact, looping-exact, readings-entered, readings-noted, entered-numbered, notes-left, unentered-zero, notes-tell, by-the-chain, work-cleared}
+use Rattle.interpreter.proofs.ConditionsMet.{running-answer}
+use Rattle.interpreter.proofs.Promised.{plain-run-true}
 use Rattle.interpreter.proofs.Answered.{run-determined, run-forgets}
 use Rattle.grammar.proofs.ConditionsMet.{grammar-answer}
+use Rattle.grammar.proofs.BuildingMet.{building-answer}
+use Rattle.grammar.proofs.BuiltGood.{built-good}
+use Rattle.grammar.proofs.BuiltImage.{built-length-is}
+use Rattle.grammar.proofs.LongestImage.{longest-image, longest-there}
+use Rattle.grammar.proofs.RangeClasses.{classes-count, range-classes}
+use Rattle.grammar.proofs.Promised.{built-parses, few-readings}
 use Rattle.grammar.proofs.Answered.{build-determined, build-forgets}
-use Rattle.answer.proofs.Promised.{answer-determined}
-use Rattle.answer.proofs.Answered.{answer-forgets}
+use Rattle.answer.proofs.ConditionsMet.{input-answer}
+use Rattle.answer.proofs.AnsweringMet.{answering-answer}
+use Rattle.answer.proofs.Promised.{line-whole, answer-determined, refusals-left}
+use Rattle.answer.proofs.Answered.{line-parsed, answer-forgets}
+use Rattle.answer.proofs.TwoCallsHold.{loops-exact, build-then-judge}
+use Rattle.captures.proofs.CapturesHold.{captures-hold, c1-image, c1-cells, c1-plain-runs}
+use Rattle.captures.proofs.ProgramPrints.{endless-printed}
 use Rattle.promises.specs.Promises.{Promises}
-use Rattle.promises.proofs.Told.{judge-refuses, run-refuses, build-refuses, answer-refuses}
+use Rattle.promises.proofs.Told.{judge-refuses, run-refuses, build-refuses, answer-refuses, judge-answers, run-answers, accepted-told}
 
 pub promises : Promises
 promises =
     record {
       image-refused = image-answer;
       grammar-refused = grammar-answer;
+      judging-refused = judging-answer;
+      running-refused = running-answer;
+      building-refused = building-answer;
+      input-refused = input-answer;
+      answering-refused = answering-answer;
       judge-refuses = judge-refuses;
       run-refuses = run-refuses;
       build-refuses = build-refuses;
@@ -28,4 +59,50 @@ promises =
       build-forgets = build-forgets;
       answer-forgets = answer-forgets;
       judge-later = later-kept;
+      verdict-there = verdict-there;
+      one-verdict = one-verdict;
+      judge-answers = judge-answers;
+      judge-exact = verdict-exact;
+      looping-endless = looping-exact;
+      built-good = built-good;
+      built-accepts = λ gs cs good bytes. let b = built-parses gs cs good bytes in (λ (d, s). b .accepted-parses d s, b .parses-accepted);
+      built-loops = loops-exact;
+      built-goes-on = λ gs cs good bytes. let b = built-parses gs cs good bytes in (λ on o p. b .parses-halts o p on, b .no-parse-goes-on);
+      built-stuck = λ gs cs good bytes. let b = built-parses gs cs good bytes in (λ (d, s). b .stuck-parses d s, λ (o, p, other). b .parses-stuck o p other);
+      built-not-ended = λ gs cs good bytes. built-parses gs cs good bytes .never-ended;
+      build-then-judge = build-then-judge;
+      plain-run-true = plain-run-true;
+      run-answers = run-answers;
+      image-length = built-length-is;
+      cells-counted = cells-are;
+      longest-image = longest-image;
+      longest-there = longest-there;
+      classes-count = classes-count;
+      range-classes = range-classes;
+      readings-entered = readings-entered;
+      one-count = λ bs cs n m u. one-count (machine bs cs) (entered-there (inside bs cs u));
+      readings-noted = readings-noted;
+      few-readings = few-readings;
+      entered-numbered = entered-numbered;
+      notes-left = notes-left;
+      others-zero = unentered-zero;
+      notes-tell = notes-tell;
+      notes-of-run = notes-of-run;
+      notes-imply = noted-implies;
+      one-end = one-end;
+      terminators-of-run = terminators-of-run;
+      same-each-time = same-each-time;
+      chain-judges = chain-judges;
+      start-made = start-is;
+      judge-by-chain = by-the-chain;
+      work-cleared = work-cleared;
+      line-says = line-parsed;
+      line-whole = line-whole;
+      endless-printed = endless-printed;
+      refusals-left = refusals-left;
+      captures-hold = captures-hold;
+      c1-image = c1-image;
+      c1-cells = c1-cells;
+      c1-plain-runs = c1-plain-runs;
+      accepted-told = accepted-told;
     }

@@ -1,18 +1,33 @@
--- What the calls' answers are by their numbers. Assumes nothing.
-use mathlib.Core.Path.{_≡_, ap, subst}
+-- What the calls answer, by the numbers of their answers. Assumes nothing.
+use mathlib.Core.Path.{_≡_, refl, sym, ap, subst, _∙_}
 use mathlib.Core.List.{List}
 use Prim.Native.Nat.{ℕ}
-use lib.ListN.{length}
+use native.Mathlib.Omega.{arith}
+use lib.ListN.{length, getD}
+use Rattle.machine.specs.declared.Config.{Config}
+use Rattle.machine.specs.declared.Verdict.{Verdict}
+use Rattle.machine.specs.declared.Verdict.the-variants.{Accepted, Ended, Stuck, Looping, Spent, Deep}
+use Rattle.machine.specs.Run.{Machine, start}
+use Rattle.machine.specs.Image.{machine}
+use Rattle.machine.specs.Verdicts.{Says}
+use Rattle.machine.specs.Replies.{verdict-number}
+use Rattle.simulator.specs.declared.Judged.{Judged}
+use Rattle.simulator.specs.declared.Judged.the-variants.{Answer, Refused}
+use Rattle.simulator.specs.Calls.{Judge-says}
 use Rattle.simulator.specs.Replies.{of-judged}
-use Rattle.simulator.proofs.Answered.{judged-refused}
+use Rattle.simulator.proofs.Answered.{judged-refused, judged-right, answered-fine}
+use Rattle.interpreter.specs.PlainRun.{run-on}
 use Rattle.interpreter.specs.Replies.{of-ran}
-use Rattle.interpreter.proofs.Answered.{run-refused}
+use Rattle.interpreter.proofs.Answered.{run-refused, run-answered, run-holds}
 use Rattle.grammar.specs.Replies.{of-built}
 use Rattle.grammar.proofs.Answered.{build-refused}
 use Rattle.answer.specs.Text.{Lined}
 use Rattle.answer.specs.Calls.{Answer-says}
 use Rattle.answer.proofs.Answered.{input-refused}
+use Rattle.sejimakpu.specs.Cells.{cells}
 use Rattle.promises.specs.FirstDemand.{Judge-refuses, Run-refuses, Build-refuses, Answer-refuses}
+use Rattle.promises.specs.SecondDemand.{Judge-answers, Run-answers}
+use Rattle.promises.specs.Users.{Accepted-told}
 
 pub judge-refuses : Judge-refuses
 unfolding of-judged
@@ -33,3 +48,48 @@ unfolding Answer-says
 answer-refuses xs x y out out-now n says some =
     let r = input-refused xs x y (says .line) some (says .right) in
     (r .kept, subst (λ (l : List ℕ). Lined l out out-now n) (r .says) (says .lined))
+
+pub judge-answers : Judge-answers
+unfolding of-judged
+judge-answers bs cs r a a-now b b-now fine says =
+    let x = judged-right bs cs r a a-now b b-now fine says in
+    (x .verdict, x .readings, x .end, x .answers, ap of-judged (x .answers))
+
+pub run-answers : Run-answers
+unfolding of-ran
+run-answers bs cs n r a a-now fine says =
+    let (told, cells) = run-answered bs cs n r a a-now fine says in
+    (run-on n (machine bs cs) 0 (length a) start, ap of-ran told, run-holds bs cs n (length a) fine, cells)
+
+-- the verdict's cell of a C caller's answer
+only-accepted : (v : Verdict) → verdict-number v ≡ 1 → v ≡ Accepted
+unfolding verdict-number
+only-accepted Accepted e = refl
+only-accepted Ended e = absurd (omega arith)
+only-accepted Stuck e = absurd (omega arith)
+only-accepted Looping e = absurd (omega arith)
+only-accepted Spent e = absurd (omega arith)
+only-accepted Deep e = absurd (omega arith)
+
+accepted-by :
+    (bs cs notes notes-now work work-now : List ℕ) (r : Judged) → Judge-says bs cs r notes notes-now work work-now →
+    of-judged r .verdict ≡ 1 → (of-judged r .refusal ≡ 0) × Says (machine bs cs) Accepted (of-judged r .end)
+unfolding of-judged
+accepted-by bs cs notes notes-now work work-now (Refused f) says e = absurd (omega arith)
+accepted-by bs cs notes notes-now work work-now (Answer v n d) says e =
+    let right = judged-right bs cs (Answer v n d) notes notes-now work work-now (answered-fine bs cs notes notes-now work work-now v n d says) says in
+    (refl, accepted-said (machine bs cs) v (right .verdict) n (right .readings) d (right .end) (only-accepted v e) (right .answers) (right .says))
+  where
+    accepted-said :
+        (M : Machine) (v w : Verdict) (n m : ℕ) (d e : Config) → v ≡ Accepted → Answer v n d ≡ Answer w m e → Says M w e → Says M Accepted d
+    accepted-said M v w n m d e p q s =
+        let verdicts : w ≡ Accepted = cc in
+        let ends : d ≡ e = cc in
+        rw ends (subst (λ (u : Verdict). Says M u e) verdicts s)
+
+pub accepted-told : Accepted-told
+unfolding cells
+accepted-told image capture notes notes-now work work-now returned answer t one =
+    let verdict : of-judged (t .judged) .verdict ≡ 1 = ap (λ (l : List ℕ). getD l 1 0) (sym (t .tells .written)) ∙ one in
+    let (fine, says) = accepted-by image capture notes notes-now work work-now (t .judged) (t .says) verdict in
+    (t .tells .number ∙ fine, rw (t .tells .written) says)

@@ -1,10 +1,10 @@
 -- THE FIRST DEMAND: every call on every input returns; a bad image, grammar, capture or lent slice is refused by a number and a place; a refused call changes no lent cell. Assumes nothing: each claim is a type, and proofs/ has its proof.
 -- That every call returns is part of every function's proof, and no public call has a `requires`. A claim about a call is about all that its contract (Judge-says, Run-says, Build-says, Answer-says) lets it answer and leave.
 use mathlib.Core.Path.{_≡_}
-use mathlib.Core.List.{List, _++_}
+use mathlib.Core.List.{List}
 use mathlib.Core.Logic.{_↔_}
-use Prim.Native.Nat.{ℕ, _≤_}
-use lib.ListN.{length, take, drop, replicate}
+use Prim.Native.Nat.{ℕ}
+use lib.ListN.{length, take, drop}
 use Rattle.machine.specs.Refusals.{refusal, image-refusal}
 use Rattle.machine.specs.Conditions.{Image-row}
 use Rattle.machine.specs.Run.{how-many}
@@ -12,18 +12,21 @@ use Rattle.machine.specs.Image.{machine}
 use Rattle.machine.specs.Replies.{refused}
 use Rattle.simulator.specs.declared.Judged.{Judged}
 use Rattle.simulator.specs.Calls.{judge-refusal, Judge-says}
+use Rattle.simulator.specs.Conditions.{Judging-row}
 use Rattle.simulator.specs.Replies.{of-judged}
 use Rattle.interpreter.specs.declared.Ran.{Ran}
 use Rattle.interpreter.specs.Calls.{run-refusal, Run-says}
+use Rattle.interpreter.specs.Conditions.{Running-row}
 use Rattle.interpreter.specs.Replies.{of-ran}
 use Rattle.grammar.specs.declared.Built.{Built}
 use Rattle.grammar.specs.Grammar.{grammar-refusal}
-use Rattle.grammar.specs.Conditions.{Grammar-row}
+use Rattle.grammar.specs.Conditions.{Grammar-row, Building-row}
 use Rattle.grammar.specs.Image.{built-length}
 use Rattle.grammar.specs.Calls.{build-refusal, Build-says}
 use Rattle.grammar.specs.Replies.{of-built}
 use Rattle.answer.specs.Text.{refusal-line, Lined}
-use Rattle.answer.specs.Input.{input-grammar, input-capture}
+use Rattle.answer.specs.Input.{input-refusal, input-grammar, input-capture}
+use Rattle.answer.specs.Conditions.{Input-row, Answering-row}
 use Rattle.answer.specs.Calls.{Lent, answer-refusal, Answer-says, Same-room, Same-cells}
 
 -- A BAD IMAGE OR GRAMMAR IS REFUSED BY A NUMBER AND A PLACE, those of the table's row whose conditions it meets; 0 at 0, no refusal, exactly if all that the scope asks holds
@@ -32,6 +35,22 @@ Image-refused = (bs : List ℕ) (n p : ℕ) → (image-refusal bs ≡ refusal n 
 
 abbrev pub Grammar-refused : Type 0
 Grammar-refused = (gs : List ℕ) (n p : ℕ) → (grammar-refusal gs ≡ refusal n p) ↔ Grammar-row gs n p
+
+-- SO IS A BAD CAPTURE OR LENT SLICE, by the call that is given it: by judging, by the plain run, by building, by the program's function
+abbrev pub Judging-refused : Type 0
+Judging-refused = (bs cs : List ℕ) (notes work n p : ℕ) → (judge-refusal bs cs notes work ≡ refusal n p) ↔ Judging-row bs cs notes work n p
+
+abbrev pub Running-refused : Type 0
+Running-refused = (bs cs : List ℕ) (cells n p : ℕ) → (run-refusal bs cs cells ≡ refusal n p) ↔ Running-row bs cs cells n p
+
+abbrev pub Building-refused : Type 0
+Building-refused = (gs : List ℕ) (room n p : ℕ) → (build-refusal gs room ≡ refusal n p) ↔ Building-row gs room n p
+
+abbrev pub Input-refused : Type 0
+Input-refused = (xs : List ℕ) (n p : ℕ) → (input-refusal xs ≡ refusal n p) ↔ Input-row xs n p
+
+abbrev pub Answering-refused : Type 0
+Answering-refused = (xs : List ℕ) (x : Lent) (n p : ℕ) → (answer-refusal xs x ≡ refusal n p) ↔ Answering-row xs x n p
 
 -- A REFUSED CALL TELLS NUMBER AND PLACE AND NO VERDICT, AND CHANGES NO LENT CELL
 abbrev pub Judge-refuses : Type 0

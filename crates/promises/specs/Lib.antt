@@ -1,3 +1,6 @@
--- What is promised, and nothing else: the claims of the three demands and of the program, in the scope's order. An auditor reads these first; what they speak of is defined in the specs/ of the crates that they name.
+-- What is promised, and nothing else: the claims of the three demands and of what users get, in the scope's order. An auditor reads these first; what they speak of is defined in the specs/ of the crates that they name.
 pub mod FirstDemand
+pub mod SecondDemand
+pub mod ThirdDemand
+pub mod Users
 pub mod Promises

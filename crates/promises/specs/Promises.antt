@@ -1,9 +1,18 @@
--- All that is promised, one field a claim. The function `kept` has it as its contract, so that nothing here can go without a proof.
+-- ALL THAT IS PROMISED, one field a claim. The function `kept` has this record as its contract, so that nothing in it can go without a proof.
 use Rattle.promises.specs.FirstDemand as First
+use Rattle.promises.specs.SecondDemand as Second
+use Rattle.promises.specs.ThirdDemand as Third
+use Rattle.promises.specs.Users as Users
 
 pub record Promises : Type 0 where
+  -- the first demand: refusals, and what follows from the input alone
   pub image-refused : First.Image-refused
   pub grammar-refused : First.Grammar-refused
+  pub judging-refused : First.Judging-refused
+  pub running-refused : First.Running-refused
+  pub building-refused : First.Building-refused
+  pub input-refused : First.Input-refused
+  pub answering-refused : First.Answering-refused
   pub judge-refuses : First.Judge-refuses
   pub run-refuses : First.Run-refuses
   pub build-refuses : First.Build-refuses
@@ -17,3 +26,52 @@ pub record Promises : Type 0 where
   pub build-forgets : First.Build-forgets
   pub answer-forgets : First.Answer-forgets
   pub judge-later : First.Judge-later
+  -- the second demand: verdicts
+  pub verdict-there : Second.Verdict-there
+  pub one-verdict : Second.One-verdict
+  pub judge-answers : Second.Judge-answers
+  pub judge-exact : Second.Judge-exact
+  pub looping-endless : Second.Looping-endless
+  pub built-good : Second.Built-good
+  pub built-accepts : Second.Built-accepts
+  pub built-loops : Second.Built-loops
+  pub built-goes-on : Second.Built-goes-on
+  pub built-stuck : Second.Built-stuck
+  pub built-not-ended : Second.Built-not-ended
+  pub build-then-judge : Second.Build-then-judge
+  pub plain-run-true : Second.Plain-run-true
+  pub run-answers : Second.Run-answers
+  pub image-length : Second.Image-length
+  pub cells-counted : Second.Cells-counted
+  pub longest-image : Second.Longest-image
+  pub longest-there : Second.Longest-there
+  pub classes-count : Second.Classes-count
+  pub range-classes : Second.Range-classes
+  -- the third demand: readings, notes, the chain
+  pub readings-entered : Third.Readings-entered
+  pub one-count : Third.One-count
+  pub readings-noted : Third.Readings-noted
+  pub few-readings : Third.Few-readings
+  pub entered-numbered : Third.Entered-numbered
+  pub notes-left : Third.Notes-left
+  pub others-zero : Third.Others-zero
+  pub notes-tell : Third.Notes-tell
+  pub notes-of-run : Third.Notes-of-run
+  pub notes-imply : Third.Notes-imply
+  pub one-end : Third.One-end
+  pub terminators-of-run : Third.Terminators-of-run
+  pub same-each-time : Third.Same-each-time
+  pub chain-judges : Third.Chain-judges
+  pub start-made : Third.Start-made
+  pub judge-by-chain : Third.Judge-by-chain
+  pub work-cleared : Third.Work-cleared
+  -- what users get
+  pub line-says : Users.Line-says
+  pub line-whole : Users.Line-whole
+  pub endless-printed : Users.Endless-printed
+  pub refusals-left : Users.Refusals-left
+  pub captures-hold : Users.Captures-hold
+  pub c1-image : Users.C1-image
+  pub c1-cells : Users.C1-cells
+  pub c1-plain-runs : Users.C1-plain-runs
+  pub accepted-told : Users.Accepted-told

@@ -5,5 +5,6 @@ pub mod JudgeLoop
 pub mod JudgeCells
 pub mod JudgeRefusals
 pub mod Determined
+pub mod ConditionsMet
 pub mod Answered
 pub mod Promised

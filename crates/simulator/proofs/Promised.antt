@@ -1,29 +1,33 @@
 -- What judging promises beyond its contract: every unrefused image and capture has a verdict, reported readings count the configurations entered, and the notes left speak of each of them. Assumes nothing.
 use mathlib.Core.Path.{_≡_, refl, sym, ap, subst, _∙_}
-use mathlib.Core.List.{List}
+use mathlib.Core.List.{List, _++_}
+use mathlib.Core.Logic.{_↔_}
 use mathlib.Core.Option.{some}
 use Prim.Native.Nat.{ℕ, _<_}
 use native.Mathlib.Omega.{arith}
-use lib.ListN.{length, getD, drop, List·getD-append}
+use lib.ListN.{length, getD, take, drop, replicate, length-replicate, List·getD-append}
+use lib.Seq.{take-at}
 use Rattle.machine.specs.declared.Config.{Config}
 use Rattle.machine.specs.declared.Verdict.{Verdict}
-use Rattle.machine.specs.Run.{There, Entry, start, after, number, how-many}
+use Rattle.machine.specs.declared.Verdict.the-variants.{Looping}
+use Rattle.machine.specs.Run.{Machine, There, Entry, start, after, number, how-many}
 use Rattle.machine.specs.Image.{byte, machine}
-use Rattle.machine.specs.Verdicts.{Entered, over-base, Says, Note, All-entered}
+use Rattle.machine.specs.Verdicts.{Entered, over-base, Goes-on, Says, Note, nonzero, All-entered}
 use Rattle.machine.specs.Removal.{Tells}
 use Rattle.machine.specs.Refusals.{Unrefused}
+use Rattle.machine.proofs.Nonzero.{nonzero-front}
 use Rattle.machine.proofs.Numbers.{number-below}
 use Rattle.machine.proofs.Runs.{config-over}
 use Rattle.machine.proofs.Inside.{inside}
 use Rattle.machine.proofs.Reach.{entered-there}
 use Rattle.machine.proofs.Notes.{never-only}
 use Rattle.machine.proofs.NotesOfRun.{note-tells}
-use Rattle.machine.proofs.OneVerdict.{one-verdict}
+use Rattle.machine.proofs.OneVerdict.{one-verdict, goes-on-loops}
 use Rattle.machine.proofs.Listing.{all-entered, one-count}
 use Rattle.simulator.specs.declared.Judged.{Judged}
 use Rattle.simulator.specs.declared.Judged.the-variants.{Answer}
 use Rattle.chain.specs.Chain.{chain, reached}
-use Rattle.simulator.specs.Calls.{Right, Judge-says}
+use Rattle.simulator.specs.Calls.{Chain-ends, Right, Judge-says}
 use Rattle.simulator.proofs.Answered.{answered}
 use Rattle.chain.proofs.ChainJudges.{chain-judges}
 
@@ -32,17 +36,25 @@ verdict-there bs cs u =
     let j = chain-judges bs cs u in
     (j .verdict, chain .end (reached chain bs cs (j .steps) .now-at), j .says)
 
+answer-same : {v w : Verdict} {n m : ℕ} {d e : Config} → Answer v n d ≡ Answer w m e → (v ≡ w) × (n ≡ m) × (d ≡ e)
+answer-same q = (cc, cc, cc)
+
+said-as : (M : Machine) (v w : Verdict) (d e : Config) → v ≡ w → d ≡ e → Says M w e → Says M v d
+said-as M v w d e p q s = rw (p, q) s
+
+chain-as :
+    (bs cs : List ℕ) (v w : Verdict) (n m : ℕ) (d e : Config) (ns ms : List ℕ) → v ≡ w → n ≡ m → d ≡ e → ns ≡ ms → Chain-ends bs cs w m e ms →
+    Chain-ends bs cs v n d ns
+chain-as bs cs v w n m d e ns ms p q r s x = rw (p, q, r, s) x
+
 pub readings-entered :
     (bs cs a a-now b b-now : List ℕ) (v : Verdict) (n : ℕ) (d : Config) → ((i : ℕ) → byte cs i < 256) →
     Judge-says bs cs (Answer v n d) a a-now b b-now → All-entered (machine bs cs) n
 readings-entered bs cs a a-now b b-now v n d bytes says =
     let x = answered bs cs a a-now b b-now v n d bytes says in
-    let same : n ≡ x .right .readings = readings-same (x .right .answers) in
+    let same : n ≡ x .right .readings = answer-same (x .right .answers) .1 in
     subst (All-entered (machine bs cs)) (sym (same ∙ x .right .counted))
     (all-entered (machine bs cs) (x .right .notes) (x .right .noted) (entered-there (inside bs cs (x .unrefused))))
-  where
-    readings-same : {w : Verdict} {m : ℕ} {e : Config} → Answer v n d ≡ Answer w m e → n ≡ m
-    readings-same q = cc
 
 -- whatever an unrefused machine enters is one of its N
 pub entered-numbered :
@@ -78,6 +90,46 @@ module _
     notes-tell m i c base at-m =
         note-tells (machine bs cs) m i c base at-m
         (notes-left c (record { steps = m; place = over-base c i base; reached = at-m; is = config-over c i base }))
+
+    -- of the first N as many are not 0 as there are readings, and they are those that the chain ends with
+    pub readings-noted : n ≡ nonzero (how-many (machine bs cs)) a-now
+    readings-noted =
+        let x = answered bs cs a a-now b b-now v n d bytes says .right in
+        let front : nonzero (how-many (machine bs cs)) (x .notes ++ drop (how-many (machine bs cs)) a) ≡ nonzero (how-many (machine bs cs)) (x .notes) =
+        subst (λ (m : ℕ). nonzero m (x .notes ++ drop (how-many (machine bs cs)) a) ≡ nonzero m (x .notes)) (x .noted-cells)
+        (nonzero-front (x .notes) (drop (how-many (machine bs cs)) a))
+        in
+        answer-same (x .answers) .1 ∙ x .counted ∙ sym front ∙ ap (nonzero (how-many (machine bs cs))) (sym (x .notes-now))
+
+    pub by-the-chain : Chain-ends bs cs v n d (take (how-many (machine bs cs)) a-now)
+    by-the-chain =
+        let x = answered bs cs a a-now b b-now v n d bytes says .right in
+        let first : take (how-many (machine bs cs)) a-now ≡ x .notes =
+        ap (take (how-many (machine bs cs))) (x .notes-now)
+        ∙ take-at (x .notes) (drop (how-many (machine bs cs)) a) (how-many (machine bs cs)) (x .noted-cells)
+        in
+        let (verdicts, counts, ends) = answer-same (x .answers) in chain-as bs cs v _ n _ d _ _ _ verdicts counts ends first (x .by-chain)
+
+    pub work-cleared : take (how-many (machine bs cs)) b-now ≡ replicate (how-many (machine bs cs)) 0
+    work-cleared =
+        let x = answered bs cs a a-now b b-now v n d bytes says .right in
+        ap (take (how-many (machine bs cs))) (x .work-now)
+        ∙ take-at (replicate (how-many (machine bs cs)) 0) (drop (how-many (machine bs cs)) b) (how-many (machine bs cs))
+        (length-replicate (how-many (machine bs cs)) 0)
+
+    -- the answer is the run's, and no other
+    pub verdict-said : Says (machine bs cs) v d
+    verdict-said =
+        let x = answered bs cs a a-now b b-now v n d bytes says .right in
+        let (verdicts, counts, ends) = answer-same (x .answers) in said-as (machine bs cs) v (x .verdict) d (x .end) verdicts ends (x .says)
+
+    pub verdict-exact : (w : Verdict) (e : Config) → Says (machine bs cs) w e ↔ (w ≡ v) × (e ≡ d)
+    verdict-exact w e =
+        (λ s. one-verdict (machine bs cs) w v e d s verdict-said, λ same. rw (same .0, same .1) verdict-said)
+
+    pub looping-exact : (v ≡ Looping) ↔ Goes-on (machine bs cs)
+    looping-exact =
+        (λ e. subst (λ (w : Verdict). Says (machine bs cs) w d) e verdict-said .0, goes-on-loops (machine bs cs) v d verdict-said)
 
 -- what is known of the run is what a right answer says
 pub answer-known :

@@ -1,3 +1,4 @@
 -- What a reader must believe of judging: what the calls answer and leave.
 pub mod Calls
+pub mod Conditions
 pub mod Replies

@@ -1,14 +1,13 @@
 -- Byte classes in the paper's words: how many different cuts there are up to a byte, and a class that some byte of a range has. Assumes nothing: these are definitions.
 use mathlib.Core.Path.{_≡_}
-use mathlib.Core.Bool.{true}
 use mathlib.Core.List.{List, List·Memᴰ}
-use mathlib.Core.Logic.{_⊎_, _↔_}
+use mathlib.Core.Logic.{_⊎_}
 use Prim.Native.Nat.{ℕ, _+_, _<_, _≤_}
 use lib.ListN.{length}
 use Rattle.machine.specs.Verdicts.{Distinct}
 use Rattle.grammar.specs.declared.Expression.the-variants.{Range}
 use Rattle.grammar.specs.Grammar.{rules, expression}
-use Rattle.grammar.specs.Classes.{class-of, class-in}
+use Rattle.grammar.specs.Classes.{class-of}
 
 -- u is among the b and c + 1 of the ranges
 pub record Range-cut (gs : List ℕ) (u : ℕ) : Type 0 where
@@ -27,16 +26,9 @@ pub record Class-counts (gs : List ℕ) (v : ℕ) : Type 0 where
   pub all : (u : ℕ) → 1 ≤ u → u ≤ v → Range-cut gs u → List·Memᴰ u cuts
   pub counted : length cuts ≡ class-of gs v
 
-unfoldable pub Classes-count : Type 0
-Classes-count = (gs : List ℕ) (v : ℕ) → Class-counts gs v
-
 -- some byte of low..high has the class
 pub record Byte-of-class (gs : List ℕ) (low high class : ℕ) : Type 0 where
   pub value : ℕ
   pub from-low : low ≤ value
   pub to-high : value ≤ high
   pub class-is : class-of gs value ≡ class
-
--- a class lies between those of a range's ends exactly if some byte of the range has it
-unfoldable pub Range-classes : Type 0
-Range-classes = (gs : List ℕ) (b c k : ℕ) → b ≤ c → class-in gs b c k ≡ true ↔ Byte-of-class gs b c k

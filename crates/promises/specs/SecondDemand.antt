@@ -1,0 +1,133 @@
+-- THE SECOND DEMAND: accepted, ended, stuck exactly where the step-by-step run, unbounded in time and stack, ends so; looping only where it has no end. A machine built from a grammar accepts where parsing from the start rule consumes all, loops where parsing has no result, and is stuck in all other cases. Assumes nothing: each claim is a type, and proofs/ has its proof.
+use mathlib.Core.Path.{_≡_}
+use mathlib.Core.Bool.{true}
+use mathlib.Core.List.{List}
+use mathlib.Core.Logic.{_↔_}
+use mathlib.Core.Option.{Option, some}
+use Prim.Native.Nat.{ℕ, _<_, _≤_}
+use lib.ListN.{length, take, replicate}
+use Rattle.machine.specs.declared.Config.{Config}
+use Rattle.machine.specs.declared.Verdict.{Verdict}
+use Rattle.machine.specs.declared.Verdict.the-variants.{Accepted, Ended, Stuck, Looping}
+use Rattle.machine.specs.Format.{max-capture}
+use Rattle.machine.specs.Run.{Machine, start, how-many}
+use Rattle.machine.specs.Image.{Bytes, machine}
+use Rattle.machine.specs.Verdicts.{Says, Goes-on}
+use Rattle.machine.specs.Refusals.{Unrefused, image-refusal}
+use Rattle.machine.specs.Replies.{verdict-number, answered}
+use Rattle.simulator.specs.declared.Judged.{Judged}
+use Rattle.simulator.specs.declared.Judged.the-variants.{Answer}
+use Rattle.simulator.specs.Calls.{cells-needed, judge-refusal, Judge-says}
+use Rattle.simulator.specs.Replies.{of-judged}
+use Rattle.interpreter.specs.declared.Ran.{Ran}
+use Rattle.interpreter.specs.PlainRun.{Run-end, run-on, True-end}
+use Rattle.interpreter.specs.Calls.{run-refusal, Run-says}
+use Rattle.interpreter.specs.Replies.{of-ran}
+use Rattle.grammar.specs.declared.Built.{Built}
+use Rattle.grammar.specs.declared.Built.the-variants.{Image}
+use Rattle.grammar.specs.Grammar.{expression, grammar-refusal}
+use Rattle.grammar.specs.Parsing.{Parses}
+use Rattle.grammar.specs.Classes.{class-in}
+use Rattle.grammar.specs.ClassMeaning.{Class-counts, Byte-of-class}
+use Rattle.grammar.specs.Image.{built, built-length}
+use Rattle.grammar.specs.Calls.{Build-says}
+use Rattle.answer.specs.TwoCalls.{Enough, Gets}
+
+-- THE RUN'S VERDICT: there is one, with its end configuration, and one only
+abbrev pub Verdict-there : Type 0
+Verdict-there = (bs cs : List ℕ) → Unrefused bs cs → (v : Verdict) × (d : Config) × Says (machine bs cs) v d
+
+abbrev pub One-verdict : Type 0
+One-verdict = (M : Machine) (v w : Verdict) (d e : Config) → Says M v d → Says M w e → (v ≡ w) × (d ≡ e)
+
+-- A CALL THAT IS NOT REFUSED ANSWERS, and tells refusal 0 and the verdict's number
+abbrev pub Judge-answers : Type 0
+Judge-answers =
+    (bs cs : List ℕ) (r : Judged) (a a-now b b-now : List ℕ) → judge-refusal bs cs (length a) (length b) .number ≡ 0 →
+    Judge-says bs cs r a a-now b b-now →
+    (v : Verdict) × (n : ℕ) × (d : Config) × (r ≡ Answer v n d) × (of-judged r ≡ answered (verdict-number v) n d)
+
+-- ACCEPTED, ENDED, STUCK, LOOPING EXACTLY WHERE THE RUN ENDS SO, and at the run's end configuration
+abbrev pub Judge-exact : Type 0
+Judge-exact =
+    (bs cs a a-now b b-now : List ℕ) (v : Verdict) (n : ℕ) (d : Config) → Bytes cs → Judge-says bs cs (Answer v n d) a a-now b b-now →
+    (w : Verdict) (e : Config) → Says (machine bs cs) w e ↔ (w ≡ v) × (e ≡ d)
+
+-- LOOPING ONLY WHERE IT HAS NO END, and always there
+abbrev pub Looping-endless : Type 0
+Looping-endless =
+    (bs cs a a-now b b-now : List ℕ) (v : Verdict) (n : ℕ) (d : Config) → Bytes cs → Judge-says bs cs (Answer v n d) a a-now b b-now →
+    (v ≡ Looping) ↔ Goes-on (machine bs cs)
+
+-- A MACHINE BUILT FROM A GRAMMAR is never refused,
+abbrev pub Built-good : Type 0
+Built-good = (gs : List ℕ) → grammar-refusal gs .number ≡ 0 → image-refusal (built gs) .number ≡ 0
+
+-- accepts where parsing from the start rule consumes all,
+abbrev pub Built-accepts : Type 0
+Built-accepts =
+    (gs cs : List ℕ) → grammar-refusal gs .number ≡ 0 → Bytes cs →
+    ((d : Config) × Says (machine (built gs) cs) Accepted d) ↔ Parses (expression gs) cs 0 0 (some (length cs))
+
+-- loops where parsing has no result,
+abbrev pub Built-loops : Type 0
+Built-loops =
+    (gs cs : List ℕ) → grammar-refusal gs .number ≡ 0 → Bytes cs → length cs ≤ max-capture →
+    ((d : Config) × Says (machine (built gs) cs) Looping d) ↔ ((o : Option ℕ) → Parses (expression gs) cs 0 0 o → ⊥)
+
+-- goes on for ever there, however long the capture,
+abbrev pub Built-goes-on : Type 0
+Built-goes-on =
+    (gs cs : List ℕ) → grammar-refusal gs .number ≡ 0 → Bytes cs →
+    Goes-on (machine (built gs) cs) ↔ ((o : Option ℕ) → Parses (expression gs) cs 0 0 o → ⊥)
+
+-- is stuck in all other cases,
+abbrev pub Built-stuck : Type 0
+Built-stuck =
+    (gs cs : List ℕ) → grammar-refusal gs .number ≡ 0 → Bytes cs →
+    ((d : Config) × Says (machine (built gs) cs) Stuck d)
+    ↔ ((o : Option ℕ) × Parses (expression gs) cs 0 0 o × (o ≡ some (length cs) → ⊥))
+
+-- and never ends otherwise
+abbrev pub Built-not-ended : Type 0
+Built-not-ended =
+    (gs cs : List ℕ) → grammar-refusal gs .number ≡ 0 → Bytes cs → (d : Config) → Says (machine (built gs) cs) Ended d → ⊥
+
+-- THE TWO CALLS: building, then judging by the image that was built, gives what parsing says, and few readings
+abbrev pub Build-then-judge : Type 0
+Build-then-judge =
+    (gs cs image image-now notes notes-now work work-now : List ℕ) (b : Built) (r : Judged) → Enough gs cs image notes work →
+    Build-says gs b image image-now → Judge-says (take (built-length gs) image-now) cs r notes notes-now work work-now →
+    (b ≡ Image (built-length gs)) × Gets gs cs r
+
+-- THE PLAIN RUN'S answer is true of the run: within its budget, by the run's own steps, at the configuration reached; and all lent cells are 0
+abbrev pub Plain-run-true : Type 0
+Plain-run-true = (M : Machine) (budget cells : ℕ) → 0 < cells → True-end M budget cells (run-on budget M 0 cells start)
+
+abbrev pub Run-answers : Type 0
+Run-answers =
+    (bs cs : List ℕ) (budget : ℕ) (r : Ran) (a a-now : List ℕ) → run-refusal bs cs (length a) .number ≡ 0 →
+    Run-says bs cs budget r a a-now →
+    (e : Run-end) × (of-ran r ≡ answered (verdict-number (e .verdict)) (e .steps) (e .reached)) × True-end (machine bs cs) budget (length a) e
+    × (a-now ≡ replicate (length a) 0)
+
+-- ONE MEANING FOR TWO FORMULAS: an image's length and N, by the numbers that a call works with
+abbrev pub Image-length : Type 0
+Image-length = (gs : List ℕ) → length (built gs) ≡ built-length gs
+
+abbrev pub Cells-counted : Type 0
+Cells-counted = (bs cs : List ℕ) → cells-needed bs (length cs) ≡ how-many (machine bs cs)
+
+-- no built image is longer than 82,188 bytes, and some grammar's is as long
+abbrev pub Longest-image : Type 0
+Longest-image = (gs : List ℕ) → grammar-refusal gs .number ≡ 0 → length (built gs) ≤ 82188
+
+abbrev pub Longest-there : Type 0
+Longest-there = (gs : List ℕ) × (grammar-refusal gs .number ≡ 0) × (length (built gs) ≡ 82188)
+
+-- A BYTE'S CLASS is the number of different cuts not above it, and a class is in a range exactly if some byte of the range has it
+abbrev pub Classes-count : Type 0
+Classes-count = (gs : List ℕ) (v : ℕ) → Class-counts gs v
+
+abbrev pub Range-classes : Type 0
+Range-classes = (gs : List ℕ) (b c k : ℕ) → b ≤ c → (class-in gs b c k ≡ true) ↔ Byte-of-class gs b c k

@@ -1,0 +1,118 @@
+-- THE THIRD DEMAND: reported readings are exactly the number of different configurations that the run enters; for a grammar few; the notes name for each the one that pops its entry; the judge's own steps, one chain, reach answer and notes within 4 r + 1. Assumes nothing: each claim is a type, and proofs/ has its proof.
+use mathlib.Core.Path.{_≡_}
+use mathlib.Core.List.{List}
+use mathlib.Core.Option.{some}
+use Prim.Native.Nat.{ℕ, _+_, _*_, _<_, _≤_}
+use lib.ListN.{length, getD, take, drop, replicate}
+use Rattle.machine.specs.declared.Config.{Config}
+use Rattle.machine.specs.declared.Verdict.{Verdict}
+use Rattle.machine.specs.Format
+use Rattle.machine.specs.Run.{Machine, There, Entry, start, after, number, how-many}
+use Rattle.machine.specs.Image.{Bytes, four, sizes-of, machine}
+use Rattle.machine.specs.Verdicts.{Entered, over-base, Ends-with, Ends-at, Note, Noted, nonzero, All-entered}
+use Rattle.machine.specs.Removal.{Removed, Tells}
+use Rattle.machine.specs.Implications.{Noted-by-implication}
+use Rattle.machine.specs.Refusals.{Unrefused}
+use Rattle.chain.specs.declared.Record.{Record}
+use Rattle.chain.specs.Ready.{start-record}
+use Rattle.chain.specs.Chain.{Judges, begin-record, chain}
+use Rattle.simulator.specs.declared.Judged.the-variants.{Answer}
+use Rattle.simulator.specs.Calls.{Chain-ends, Judge-says}
+use Rattle.grammar.specs.Grammar.{rules, grammar-refusal}
+use Rattle.grammar.specs.Image.{built}
+
+-- READINGS ARE EXACTLY THE NUMBER OF DIFFERENT CONFIGURATIONS THAT THE RUN ENTERS, endless runs included: the length of a list without repeats of exactly those; every such list is as long; and as many notes are not 0
+abbrev pub Readings-entered : Type 0
+Readings-entered =
+    (bs cs a a-now b b-now : List ℕ) (v : Verdict) (n : ℕ) (d : Config) → Bytes cs → Judge-says bs cs (Answer v n d) a a-now b b-now →
+    All-entered (machine bs cs) n
+
+abbrev pub One-count : Type 0
+One-count =
+    (bs cs : List ℕ) (n m : ℕ) → Unrefused bs cs → All-entered (machine bs cs) n → All-entered (machine bs cs) m → n ≡ m
+
+abbrev pub Readings-noted : Type 0
+Readings-noted =
+    (bs cs a a-now b b-now : List ℕ) (v : Verdict) (n : ℕ) (d : Config) → Bytes cs → Judge-says bs cs (Answer v n d) a a-now b b-now →
+    n ≡ nonzero (how-many (machine bs cs)) a-now
+
+-- FOR A GRAMMAR of m rules and n bytes at most 6 m (n + 1) + 2
+abbrev pub Few-readings : Type 0
+Few-readings =
+    (gs cs notes : List ℕ) → grammar-refusal gs .number ≡ 0 → Bytes cs → Noted (machine (built gs) cs) notes →
+    nonzero (how-many (machine (built gs) cs)) notes ≤ 6 * rules gs * (length cs + 1) + 2
+
+-- THE NOTES: whatever the run enters is one of the N configurations,
+abbrev pub Entered-numbered : Type 0
+Entered-numbered =
+    (bs cs : List ℕ) → Unrefused bs cs → (c : Config) → Entered (machine bs cs) c →
+    There (machine bs cs) c × (number (machine bs cs) c < how-many (machine bs cs))
+
+-- for each one entered the note names the one that pops its entry, or that none does,
+abbrev pub Notes-left : Type 0
+Notes-left =
+    (bs cs a a-now b b-now : List ℕ) (v : Verdict) (n : ℕ) (d : Config) → Bytes cs → Judge-says bs cs (Answer v n d) a a-now b b-now →
+    (c : Config) → Entered (machine bs cs) c → Note (machine bs cs) c (getD a-now (number (machine bs cs) c) 0)
+
+-- and every other is marked as never entered
+abbrev pub Others-zero : Type 0
+Others-zero =
+    (bs cs a a-now b b-now : List ℕ) (v : Verdict) (n : ℕ) (d : Config) → Bytes cs → Judge-says bs cs (Answer v n d) a a-now b b-now →
+    (c : Config) → There (machine bs cs) c → (Entered (machine bs cs) c → ⊥) → getD a-now (number (machine bs cs) c) 0 ≡ 0
+
+-- a note speaks of the run itself: each time that the run enters its configuration, of the entry then on top
+abbrev pub Notes-tell : Type 0
+Notes-tell =
+    (bs cs a a-now b b-now : List ℕ) (v : Verdict) (n : ℕ) (d : Config) → Bytes cs → Judge-says bs cs (Answer v n d) a a-now b b-now →
+    (m i : ℕ) (c : Config) (base : List Entry) → after m (machine bs cs) start ≡ some (over-base c i base) →
+    Tells (machine bs cs) m i base (getD a-now (number (machine bs cs) c) 0)
+
+-- so does it in any machine, for each of its configurations
+abbrev pub Notes-of-run : Type 0
+Notes-of-run =
+    (M : Machine) (notes : List ℕ) → Noted M notes → (n i : ℕ) (c : Config) (base : List Entry) → There M c →
+    after n M start ≡ some (over-base c i base) → Tells M n i base (getD notes (number M c) 0)
+
+-- notes, one statement a cell, imply document 03's three implications
+abbrev pub Notes-imply : Type 0
+Notes-imply = (bs cs notes : List ℕ) → Unrefused bs cs → Noted (machine bs cs) notes → Noted-by-implication (machine bs cs) notes
+
+-- TERMINATORS: one at most, and the same whatever pointer the entry has,
+abbrev pub One-end : Type 0
+One-end =
+    (M : Machine) (c d e : Config) (i j : ℕ) → Ends-with M c i d → Ends-with M c j d × (Ends-with M c j e → d ≡ e)
+
+-- of the run itself: whenever it enters c, the entry then on top is removed from d exactly if d is c's terminator,
+abbrev pub Terminators-of-run : Type 0
+Terminators-of-run =
+    (M : Machine) (n i : ℕ) (c d : Config) (base : List Entry) → after n M start ≡ some (over-base c i base) →
+    (Ends-at M c d → Removed M n i base d) × (Removed M n i base d → Ends-at M c d)
+
+-- the same each time, or none each time
+abbrev pub Same-each-time : Type 0
+Same-each-time =
+    (M : Machine) (n m i j : ℕ) (c d : Config) (base ground : List Entry) → after n M start ≡ some (over-base c i base) →
+    after m M start ≡ some (over-base c j ground) → Removed M n i base d → Removed M m j ground d
+
+-- THE JUDGE'S OWN STEPS, one chain, reach the verdict within 4 r + 1, adding one to the readings exactly where a zero note turns nonzero,
+abbrev pub Chain-judges : Type 0
+Chain-judges = (bs cs : List ℕ) → Unrefused bs cs → Judges Record chain bs cs
+
+-- from a start made without any rule or captured byte: of the counts' eight bytes and the capture's length,
+abbrev pub Start-made : Type 0
+Start-made =
+    (bs cs : List ℕ) →
+    start-record (sizes-of bs cs) (four bs Format.finals-offset)
+    ≡ begin-record (take Format.counts-length (drop Format.counts-offset bs)) (length cs)
+
+-- and the call's answer and notes are those that the chain ends with, within 4 r + 1 steps
+abbrev pub Judge-by-chain : Type 0
+Judge-by-chain =
+    (bs cs a a-now b b-now : List ℕ) (v : Verdict) (n : ℕ) (d : Config) → Bytes cs → Judge-says bs cs (Answer v n d) a a-now b b-now →
+    Chain-ends bs cs v n d (take (how-many (machine bs cs)) a-now)
+
+-- THE FIRST N WORK CELLS ARE 0
+abbrev pub Work-cleared : Type 0
+Work-cleared =
+    (bs cs a a-now b b-now : List ℕ) (v : Verdict) (n : ℕ) (d : Config) → Bytes cs → Judge-says bs cs (Answer v n d) a a-now b b-now →
+    take (how-many (machine bs cs)) b-now ≡ replicate (how-many (machine bs cs)) 0

@@ -1,0 +1,70 @@
+-- WHAT USERS GET: the program's line, the worked captures, the library for C. Assumes nothing: each claim is a type, and proofs/ has its proof.
+use mathlib.Core.Path.{_≡_}
+use mathlib.Core.List.{List, [], _++_}
+use Prim.Native.Nat.{ℕ, _≤_}
+use lib.Dec.{ltb}
+use lib.ListN.{length, getD, take, drop}
+use Rattle.machine.specs.declared.Config.{Config}
+use Rattle.machine.specs.declared.Verdict.the-variants.{Accepted}
+use Rattle.machine.specs.Format.{max-capture}
+use Rattle.machine.specs.Run.{config, how-many}
+use Rattle.machine.specs.Image.{Bytes, machine}
+use Rattle.machine.specs.Verdicts.{Says}
+use Rattle.machine.specs.Refusals.{refusal, or-else, refuse-if}
+use Rattle.simulator.specs.Calls.{judge-refusal}
+use Rattle.grammar.specs.Grammar.{grammar-refusal}
+use Rattle.grammar.specs.Image.{built}
+use Rattle.answer.specs.Text.{max-line, Lined}
+use Rattle.answer.specs.Input.{input-grammar, input-capture}
+use Rattle.answer.specs.Calls.{Lent, answer-refusal, Input-says, Answer-says}
+use Rattle.answer.specs.TwoCalls.{Line-parsed}
+use Rattle.captures.specs.Captures.{Row-holds, Each, table, empty-grammar, Plain-holds, plain-table}
+use Rattle.captures.specs.ProgramLine.{endless-input, endless-line, Program-room}
+use Rattle.sejimakpu.specs.Calls.{Judge-tells}
+
+-- THE LINE: for every input that is not refused, that of a verdict which parsing gives, with few readings
+abbrev pub Line-says : Type 0
+Line-says =
+    (xs : List ℕ) (x y : Lent) (line : List ℕ) → Bytes xs → answer-refusal xs x .number ≡ 0 → Input-says xs x y line →
+    Line-parsed (input-grammar xs) (input-capture xs) line
+
+-- a buffer with room for the longest line has the whole line, and its later bytes are as they were
+abbrev pub Line-whole : Type 0
+Line-whole =
+    (line buffer buffer-now : List ℕ) (count : ℕ) → Lined line buffer buffer-now count → max-line ≤ length buffer →
+    (count ≡ length line) × (buffer-now ≡ line ++ drop (length line) buffer)
+
+-- C5's 20 bytes give exactly looping 2 1 1 1
+abbrev pub Endless-printed : Type 0
+Endless-printed =
+    (x y : Lent) (out out-now : List ℕ) (count : ℕ) → Program-room x out → Answer-says endless-input x y out out-now count →
+    take count out-now ≡ endless-line
+
+-- of judging's refusals the program can meet 7, 8 and 9 alone: the image of a grammar that is not refused is good
+abbrev pub Refusals-left : Type 0
+Refusals-left =
+    (gs cs : List ℕ) (notes work : ℕ) → grammar-refusal gs .number ≡ 0 →
+    judge-refusal (built gs) cs notes work
+    ≡ or-else (refuse-if (ltb max-capture (length cs)) (refusal 7 (length cs)))
+    (or-else (refuse-if (ltb notes (how-many (machine (built gs) cs))) (refusal 8 (how-many (machine (built gs) cs))))
+    (refuse-if (ltb work (how-many (machine (built gs) cs))) (refusal 9 (how-many (machine (built gs) cs)))))
+
+-- C1 TO C10, and C1's image, N and plain runs
+abbrev pub Captures-hold : Type 0
+Captures-hold = Each Row-holds table
+
+abbrev pub C1-image : Type 0
+C1-image = length (built empty-grammar) ≡ 468
+
+abbrev pub C1-cells : Type 0
+C1-cells = how-many (machine (built empty-grammar) []) ≡ 30
+
+abbrev pub C1-plain-runs : Type 0
+C1-plain-runs = Each Plain-holds plain-table
+
+-- THE LIBRARY FOR C: who tests the answer's verdict for 1, accepted, and nothing else, is never wrong
+abbrev pub Accepted-told : Type 0
+Accepted-told =
+    (image capture notes notes-now work work-now : List ℕ) (returned : ℕ) (answer : List ℕ) →
+    Judge-tells image capture notes notes-now work work-now returned answer → getD answer 1 0 ≡ 1 →
+    (returned ≡ 0) × Says (machine image capture) Accepted (config (getD answer 3 0) (getD answer 4 0) (getD answer 5 0))
