@@ -117,7 +117,7 @@ static inline uint32_t sejimakpu_check(const uint8_t *image, size_t image_length
 {
     sejimakpu_answer unread;
     return sejimakpu_check_nonnull(sejimakpu_input_bytes(image, image_length), image_length,
-                                   answer == NULL ? &unread : answer);
+                                   answer ? answer : &unread);
 }
 
 /*
@@ -129,7 +129,7 @@ static inline uint32_t sejimakpu_cells(const uint8_t *image, size_t image_length
 {
     sejimakpu_answer unread;
     return sejimakpu_cells_nonnull(sejimakpu_input_bytes(image, image_length), image_length, capture_length,
-                                   answer == NULL ? &unread : answer);
+                                   answer ? answer : &unread);
 }
 
 /*
@@ -152,7 +152,7 @@ static inline uint32_t sejimakpu_judge(const uint8_t *image, size_t image_length
                                    sejimakpu_input_bytes(capture, capture_length), capture_length,
                                    sejimakpu_lent_cells(notes, notes_length), notes_length,
                                    sejimakpu_lent_cells(work, work_length), work_length,
-                                   answer == NULL ? &unread : answer);
+                                   answer ? answer : &unread);
 }
 
 /*
@@ -171,7 +171,7 @@ static inline uint32_t sejimakpu_plain_run(const uint8_t *image, size_t image_le
                                        sejimakpu_input_bytes(capture, capture_length), capture_length,
                                        budget,
                                        sejimakpu_lent_cells(stack, stack_length), stack_length,
-                                       answer == NULL ? &unread : answer);
+                                       answer ? answer : &unread);
 }
 
 /*
@@ -185,7 +185,7 @@ static inline uint32_t sejimakpu_build(const uint8_t *grammar, size_t grammar_le
     sejimakpu_answer unread;
     return sejimakpu_build_nonnull(sejimakpu_input_bytes(grammar, grammar_length), grammar_length,
                                    sejimakpu_lent_bytes(image, image_length), image_length,
-                                   answer == NULL ? &unread : answer);
+                                   answer ? answer : &unread);
 }
 
 /*
