@@ -1,16 +1,17 @@
 -- What the input's refusal means: each input has just one row of the paper's table, and the check's answer is that row's. So no refusal is given just if all conditions hold, and a refused place is that of the first wrong pair. Assumes nothing.
-use mathlib.Core.Path.{_≡_, refl, sym}
+use mathlib.Core.Path.{_≡_, refl, sym, _∙_}
 use mathlib.Core.Bool.{_||_}
-use mathlib.Core.List.{List}
+use mathlib.Core.List.{List, _++_}
 use mathlib.Core.Logic.{_↔_, _⊎_, inl, inr}
 use Prim.Native.Nat.{ℕ}
 use native.Mathlib.Omega.{arith}
 use lib.Dec.{ltb}
-use lib.ListN.{length}
+use lib.ListN.{length, take, drop, length-take, length-drop, take-append-drop}
+use lib.Seq.{drop-drop}
 use Rattle.machine.specs.Image.{four}
 use Rattle.machine.specs.Refusals.{refusal, fine}
-use Rattle.answer.specs.Input.{pairs-length, max-input, capture-offset, first-pair-right, second-pair-right, input-refusal}
-use Rattle.answer.specs.Conditions.{Input-length-right, Input-right, First-pair-right, Second-pair-right, Input-row, unrefused-input, wrong-input-length, wrong-first-pair, wrong-second-pair}
+use Rattle.answer.specs.Input.{pairs-length, max-input, capture-offset, first-pair-right, second-pair-right, input-refusal, input-grammar, input-capture}
+use Rattle.answer.specs.Conditions.{Input-length-right, Input-right, Input-parts, First-pair-right, Second-pair-right, Input-row, unrefused-input, wrong-input-length, wrong-first-pair, wrong-second-pair}
 use Rattle.machine.proofs.Reflects.{Reflects, when-holds, when-fails, decided, restated, equal, at-most, both, Refuses, when-refused, passing, refuses-as, over, any-of}
 use Rattle.machine.proofs.Rows.{Some-row, Table, row-of, row-numbered, exactly}
 use Rattle.answer.proofs.InputLaws.{first-refused, second-refused, not-refused}
@@ -116,3 +117,28 @@ module _ (xs : List ℕ) where
     where
       from : Input-row xs 14 8 → Input-length-right xs × First-pair-right xs × (Second-pair-right xs → ⊥)
       from (wrong-second-pair l f w) = (l, f, w)
+
+  -- THE PARTS of an input that is not refused
+  capture-is : input-capture xs ≡ drop (four xs 4) (drop pairs-length xs)
+  unfolding input-capture capture-offset
+  capture-is = sym (drop-drop (four xs 4) pairs-length xs)
+
+  parts-whole : take pairs-length xs ++ (input-grammar xs ++ input-capture xs) ≡ xs
+  unfolding input-grammar
+  parts-whole = rw (capture-is, take-append-drop (four xs 4) (drop pairs-length xs)) (take-append-drop pairs-length xs)
+
+  grammar-long : First-pair-right xs → length (input-grammar xs) ≡ four xs 4
+  unfolding input-grammar
+  grammar-long f = simp (length-take, length-drop) (omega (arith, f .within))
+
+  capture-long : Second-pair-right xs → length (input-capture xs) ≡ four xs 12
+  unfolding input-capture capture-offset
+  capture-long s = simp length-drop (omega (arith, s .nothing-after))
+
+  pub input-parts : (r : Input-right xs) → Input-parts xs (r .grammar-length) (r .capture-length)
+  input-parts r =
+      record {
+        whole = parts-whole;
+        grammar-long = grammar-long (to-first r) ∙ r .first-pair .length-is;
+        capture-long = capture-long (to-second r) ∙ r .second-pair .length-is;
+      }

@@ -1,8 +1,8 @@
 -- When the program's input is right, condition by condition as the paper's prose has them, whatever the order in which a check tests them; and the rows that the paper's table of refusals has for an input. Assumes nothing: these are definitions.
 use mathlib.Core.Path.{_≡_}
-use mathlib.Core.List.{List}
+use mathlib.Core.List.{List, _++_}
 use Prim.Native.Nat.{ℕ, _+_, _≤_}
-use lib.ListN.{length}
+use lib.ListN.{length, take}
 use Rattle.machine.specs.Image.{four}
 use Rattle.machine.specs.Conditions.{Pair-right}
 use Rattle.simulator.specs.Conditions.{Judging-right, Judging-row}
@@ -25,17 +25,23 @@ pub record Input-right (xs : List ℕ) : Type 0 where
   pub second-pair : Pair-right xs 8 (pairs-length + grammar-length) capture-length
   pub nothing-after : length xs ≡ pairs-length + grammar-length + capture-length
 
--- ONE PAIR: the first is wrong also where 16 + g passes the input's length,
+-- the parts of such an input: after the pairs comes the grammar, then the capture, and nothing after
+pub record Input-parts (xs : List ℕ) (grammar-length capture-length : ℕ) : Type 0 where
+  pub whole : take pairs-length xs ++ (input-grammar xs ++ input-capture xs) ≡ xs
+  pub grammar-long : length (input-grammar xs) ≡ grammar-length
+  pub capture-long : length (input-capture xs) ≡ capture-length
+
+-- THE PAIRS by themselves: the first is wrong also where 16 + g passes the input's length,
 pub record First-pair-right (xs : List ℕ) : Type 0 where
   pub offset-is : four xs 0 ≡ pairs-length
   pub within : pairs-length + four xs 4 ≤ length xs
 
--- and the second where something is after the capture, or part of it is missing
+-- and the second also where 16 + g + n is not the input's length
 pub record Second-pair-right (xs : List ℕ) : Type 0 where
   pub offset-is : four xs 8 ≡ pairs-length + four xs 4
   pub nothing-after : length xs ≡ pairs-length + four xs 4 + four xs 12
 
--- THE TABLE'S ROWS, a constructor each: number and place; 0 at 0 says that the input is not refused
+-- THE TABLE'S ROWS, a constructor each, by number and place; number 0 at place 0 is no refusal
 pub data Input-row (xs : List ℕ) : (number place : ℕ) → Type 0 where
   unrefused-input : Input-right xs → Input-row xs 0 0
   wrong-input-length : (Input-length-right xs → ⊥) → Input-row xs 14 0

@@ -17,7 +17,7 @@ pub record Grammar-length-right (gs : List ℕ) : Type 0 where
 abbrev pub last-of : List ℕ → (k : ℕ) → ℕ
 last-of gs k = byte gs (4 * k + 3)
 
--- A RULE, by its kind: what it names is a rule below m, a range is in order, and what it does not use is 0
+-- A RULE, by its kind: 1 sequence, 2 choice, 3 not, 4 empty, 5 range. What it names is a rule below m, a range is in order, and a byte that it has no use for is 0
 pub data Grammar-rule-right (gs : List ℕ) (k : ℕ) : Type 0 where
   sequence-right : kind-of gs k ≡ 1 → b-of gs k < rules gs → c-of gs k < rules gs → last-of gs k ≡ 0 → Grammar-rule-right gs k
   choice-right : kind-of gs k ≡ 2 → b-of gs k < rules gs → c-of gs k < rules gs → last-of gs k ≡ 0 → Grammar-rule-right gs k
@@ -41,7 +41,7 @@ pub record First-wrong-rule (gs : List ℕ) (place : ℕ) : Type 0 where
   pub wrong : Grammar-rule-right gs rule → ⊥
   pub before : (k : ℕ) → k < rule → Grammar-rule-right gs k
 
--- THE TABLE'S ROWS, a constructor each: number and place; 0 at 0 says that the grammar is not refused
+-- THE TABLE'S ROWS, a constructor each, by number and place; number 0 at place 0 is no refusal. The lowest number decides: 12 is given where the length is right
 pub data Grammar-row (gs : List ℕ) : (number place : ℕ) → Type 0 where
   unrefused-grammar : Grammar-right gs → Grammar-row gs 0 0
   wrong-grammar-length : (Grammar-length-right gs → ⊥) → Grammar-row gs 11 (length gs)

@@ -51,8 +51,8 @@ module _ (bs : List ℕ) (class : ℕ) (r : Rule) where
         state-below = n .0;
         symbol-below = m .0;
         move-known = m .1 .0;
-        left-stays = λ at moves. m .1 .1 .0 (at, moves);
-        right-stays = λ at moves. m .1 .1 .1 (at, moves);
+        not-off-left = λ at moves. m .1 .1 .0 (at, moves);
+        not-off-right = λ at moves. m .1 .1 .1 (at, moves);
       }
 
   by-kind : Nested → (k : ℕ) → r .kind ≡ k → Rule-right bs class r
@@ -67,7 +67,7 @@ module _ (bs : List ℕ) (class : ℕ) (r : Rule) where
 
   moving : Target-right bs class r → Moving
   moving t =
-      (t .symbol-below, (t .move-known, (λ s. t .left-stays (s .0) (s .1), λ s. t .right-stays (s .0) (s .1))))
+      (t .symbol-below, (t .move-known, (λ s. t .not-off-left (s .0) (s .1), λ s. t .not-off-right (s .0) (s .1))))
 
   nested : Rule-right bs class r → Nested
   nested (none-right e p a m) = (omega arith, (λ z. (p, (a, m)), λ z. absurd (z e)))

@@ -60,22 +60,22 @@ Length-right bs = length bs ≡ Format.rules-offset + 4 * states bs * (classes b
 abbrev pub Map-right : List ℕ → Type 0
 Map-right bs = (v : ℕ) → v < Format.map-length → byte bs (Format.map-offset + v) < classes bs
 
--- A RULE that stands for a class, K being the left marker and K + 1 the right one. What a change or a push names is there; its move is 0, 1 or 2, not to the left on the left marker, and not to the right on the right one
+-- A RULE for a class, where K is the left marker and K + 1 the right one. Of a change or a push: state and symbol are in range, the move is known (0 stay, 1 right, 2 left), and it is not left on the left marker nor right on the right one
 pub record Target-right (bs : List ℕ) (class : ℕ) (r : Rule) : Type 0 where
   pub state-below : r .state < states bs
   pub symbol-below : r .symbol < symbols bs
   pub move-known : r .move ≤ 2
-  pub left-stays : class ≡ classes bs → r .move ≡ 2 → ⊥
-  pub right-stays : class ≡ classes bs + 1 → r .move ≡ 1 → ⊥
+  pub not-off-left : class ≡ classes bs → r .move ≡ 2 → ⊥
+  pub not-off-right : class ≡ classes bs + 1 → r .move ≡ 1 → ⊥
 
--- by its kind: 0, 1, 2 or 3, and no other
+-- by its kind: 0 none, with no other byte set; 1 change; 2 push; 3 pop, whose symbol byte is 0 and whose move is 0 stay or 1 return. No other kind is right
 pub data Rule-right (bs : List ℕ) (class : ℕ) (r : Rule) : Type 0 where
   none-right : r .kind ≡ 0 → r .state ≡ 0 → r .symbol ≡ 0 → r .move ≡ 0 → Rule-right bs class r
   change-right : r .kind ≡ 1 → Target-right bs class r → Rule-right bs class r
   push-right : r .kind ≡ 2 → Target-right bs class r → Rule-right bs class r
   pop-right : r .kind ≡ 3 → r .state < states bs → r .symbol ≡ 0 → r .move ≤ 1 → Rule-right bs class r
 
--- THE RULES: that of each state, class and symbol, the markers' classes among the classes
+-- THE RULES: the one of each state, class and symbol; the two markers are classes too
 abbrev pub Rules-right : List ℕ → Type 0
 Rules-right bs =
     (p k a : ℕ) → p < states bs → k < classes bs + 2 → a < symbols bs → Rule-right bs k (rule-at bs p k a)
@@ -112,7 +112,7 @@ pub record First-wrong-class (bs : List ℕ) (place : ℕ) : Type 0 where
   pub wrong : classes bs ≤ byte bs place
   pub before : (v : ℕ) → v < value → byte bs (Format.map-offset + v) < classes bs
 
--- a rule: of all states, classes and symbols, those whose rules have lesser offsets have right ones
+-- a rule: it is not right, and every rule with a lesser offset is
 pub record First-bad-rule (bs : List ℕ) (place : ℕ) : Type 0 where
   pub state : ℕ
   pub class : ℕ
@@ -126,7 +126,7 @@ pub record First-bad-rule (bs : List ℕ) (place : ℕ) : Type 0 where
       (p k a : ℕ) → p < states bs → k < classes bs + 2 → a < symbols bs → rule-offset bs p k a < place →
       Rule-right bs k (rule-at bs p k a)
 
--- THE TABLE'S ROWS, a constructor each: number and place; 0 at 0 says that the image is not refused. The lowest number decides, so what is checked before a row's own condition is right
+-- THE TABLE'S ROWS, a constructor each, by number and place; number 0 at place 0 is no refusal. The lowest number decides: a row says that its own condition fails and that those of the lower numbers hold
 pub data Image-row (bs : List ℕ) : (number place : ℕ) → Type 0 where
   unrefused : Image-right bs → Image-row bs 0 0
   short-image : length bs < Format.map-offset → Image-row bs 1 (length bs)
