@@ -42,19 +42,22 @@ byte-between gs b k (suc n) (suc c) e low high = go (λ h. byte-between gs b k n
     go rest (no h) =
         record { value = suc c; from-low = omega arith; to-high = omega arith; class-is = omega (arith, class-rises gs c) }
 
-pub range-classes : (gs : List ℕ) (b c k : ℕ) → b ≤ c → class-in gs b c k ≡ true ↔ Byte-of-class gs b c k
+pub range-classes : (gs : List ℕ) (b c k : ℕ) → class-in gs b c k ≡ true ↔ Byte-of-class gs b c k
 unfolding class-in
-range-classes gs b c k h = (there, back)
+range-classes gs b c k = (there, back)
   where
     there : class-in gs b c k ≡ true → Byte-of-class gs b c k
     there e =
-        let (low, high) = both-true (leb (class-of gs b) k) (leb k (class-of gs c)) (both-true (leb b c) _ e .1) in
+        let (order, classes) = both-true (leb b c) _ e in
+        let (low, high) = both-true (leb (class-of gs b) k) (leb k (class-of gs c)) classes in
+        let h : b ≤ c = leb-true _ _ order in
         byte-between gs b k (c - b) c (omega arith) (leb-true _ _ low) (leb-true _ _ high)
 
     back : Byte-of-class gs b c k → class-in gs b c k ≡ true
     back x =
         let low : class-of gs b ≤ k = omega (arith, class-monotone gs b (x .value) (x .from-low), x .class-is) in
         let high : k ≤ class-of gs c = omega (arith, class-monotone gs (x .value) c (x .to-high), x .class-is) in
+        let h : b ≤ c = omega (arith, x .from-low, x .to-high) in
         rw (le-leb b c h, le-leb _ _ low, le-leb _ _ high)
 
 -- A CUT IS A RANGE'S: the test says what the record says

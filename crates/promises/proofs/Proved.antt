@@ -26,7 +26,7 @@ use Rattle.grammar.proofs.LongestImage.{longest-image, longest-there}
 use Rattle.grammar.proofs.RangeClasses.{classes-count, range-classes}
 use Rattle.grammar.proofs.Promised.{built-parses, few-readings}
 use Rattle.grammar.proofs.Answered.{build-determined, build-forgets}
-use Rattle.answer.proofs.ConditionsMet.{input-answer}
+use Rattle.answer.proofs.ConditionsMet.{input-answer, input-parts}
 use Rattle.answer.proofs.AnsweringMet.{answering-answer}
 use Rattle.answer.proofs.Promised.{line-whole, answer-determined, refusals-left}
 use Rattle.answer.proofs.Answered.{line-parsed, answer-forgets}
@@ -97,6 +97,7 @@ promises =
       judge-by-chain = by-the-chain;
       work-cleared = work-cleared;
       line-says = line-parsed;
+      input-is = input-parts;
       line-whole = line-whole;
       endless-printed = endless-printed;
       refusals-left = refusals-left;

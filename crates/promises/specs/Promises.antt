@@ -67,6 +67,7 @@ pub record Promises : Type 0 where
   pub work-cleared : Third.Work-cleared
   -- what users get
   pub line-says : Users.Line-says
+  pub input-is : Users.Input-is
   pub line-whole : Users.Line-whole
   pub endless-printed : Users.Endless-printed
   pub refusals-left : Users.Refusals-left

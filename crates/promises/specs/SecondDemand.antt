@@ -130,4 +130,4 @@ abbrev pub Classes-count : Type 0
 Classes-count = (gs : List ℕ) (v : ℕ) → Class-counts gs v
 
 abbrev pub Range-classes : Type 0
-Range-classes = (gs : List ℕ) (b c k : ℕ) → b ≤ c → (class-in gs b c k ≡ true) ↔ Byte-of-class gs b c k
+Range-classes = (gs : List ℕ) (b c k : ℕ) → (class-in gs b c k ≡ true) ↔ Byte-of-class gs b c k

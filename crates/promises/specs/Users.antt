@@ -16,6 +16,7 @@ use Rattle.grammar.specs.Grammar.{grammar-refusal}
 use Rattle.grammar.specs.Image.{built}
 use Rattle.answer.specs.Text.{max-line, Lined}
 use Rattle.answer.specs.Input.{input-grammar, input-capture}
+use Rattle.answer.specs.Conditions.{Input-right, Input-parts}
 use Rattle.answer.specs.Calls.{Lent, answer-refusal, Input-says, Answer-says}
 use Rattle.answer.specs.TwoCalls.{Line-parsed}
 use Rattle.captures.specs.Captures.{Row-holds, Each, table, empty-grammar, Plain-holds, plain-table}
@@ -27,6 +28,10 @@ abbrev pub Line-says : Type 0
 Line-says =
     (xs : List ℕ) (x y : Lent) (line : List ℕ) → Bytes xs → answer-refusal xs x .number ≡ 0 → Input-says xs x y line →
     Line-parsed (input-grammar xs) (input-capture xs) line
+
+-- an input that is not refused is its pairs, its grammar and its capture, and nothing after
+abbrev pub Input-is : Type 0
+Input-is = (xs : List ℕ) (r : Input-right xs) → Input-parts xs (r .grammar-length) (r .capture-length)
 
 -- a buffer with room for the longest line has the whole line, and its later bytes are as they were
 abbrev pub Line-whole : Type 0
