@@ -26,6 +26,7 @@ pub struct Stop {
     pub last: Outcome,
 }
 
+// Why a call failed: error is errno just after it.
 fn why_not(error: i32) -> Outcome
     ensures { λ r. ⌜ r ≡ failure-of error ⌝ }
 {
