@@ -7,18 +7,17 @@ use lib.ListN.{length, drop}
 use native.Mathlib.Nat.{le-trans}
 use borrow.Author.Tests.{eq-eqb}
 use Rattle.machine.specs.declared.Refusal.{Refusal}
-use Rattle.machine.specs.declared.Verdict.the-variants.{Looping}
 use Rattle.machine.specs.Format.{max-capture}
-use Rattle.machine.specs.Run.{config, how-many}
+use Rattle.machine.specs.Run.{how-many}
 use Rattle.machine.specs.Image.{machine}
 use Rattle.machine.specs.Refusals.{refusal, or-else, refuse-if, capture-refusal}
-use Rattle.simulator.specs.declared.Judged.the-variants.{Answer}
 use Rattle.simulator.specs.Calls.{judge-refusal}
 use Rattle.simulator.proofs.Determined.{judge-determined}
 use Rattle.grammar.specs.Grammar.{grammar-refusal}
 use Rattle.grammar.specs.Image.{built}
 use Rattle.grammar.proofs.BuiltGood.{built-good}
-use Rattle.answer.specs.Text.{digits, decimal, field, verdict-word, refused-word, refusal-line, answer-line, judged-line, written, max-line, Lined}
+use Rattle.answer.specs.Text.{line-feed, field, refused-word, refusal-line, judged-line, written, max-line, Lined}
+use Rattle.answer.specs.Input.{input-refusal}
 use Rattle.answer.specs.Calls.{Lent, Judges, Parts-as, Parts-say, Input-as, Input-says, Answer-says}
 use Rattle.answer.proofs.Writing.{written-whole}
 
@@ -74,12 +73,7 @@ pub refusals-left :
 unfolding judge-refusal capture-refusal or-else
 refusals-left gs cs a b h = simp (eq-eqb _ _ (built-good gs h))
 
--- TWO LINES: looping 2 1 1 1, and refused 14 8
-looping-line :
-    judged-line (Answer Looping 2 (config 1 1 1)) ≡ 108 ∷ 111 ∷ 111 ∷ 112 ∷ 105 ∷ 110 ∷ 103 ∷ 32 ∷ 50 ∷ 32 ∷ 49 ∷ 32 ∷ 49 ∷ 32 ∷ 49 ∷ 10 ∷ []
-unfolding judged-line answer-line verdict-word field decimal digits
-looping-line = refl
-
-refused-line : refusal-line (refusal 14 8) ≡ 114 ∷ 101 ∷ 102 ∷ 117 ∷ 115 ∷ 101 ∷ 100 ∷ 32 ∷ 49 ∷ 52 ∷ 32 ∷ 56 ∷ 10 ∷ []
-unfolding refusal-line refused-word field decimal digits
-refused-line = refl
+-- with no input at all the line is refused 14 0
+pub unread-refused : (x y : Lent) (line : List ℕ) → Input-says [] x y line → line ≡ refused-word ++ field 14 ++ field 0 ++ (line-feed ∷ [])
+unfolding Input-says Input-as input-refusal refusal-line
+unread-refused x y line r = r .says

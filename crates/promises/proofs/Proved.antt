@@ -28,7 +28,7 @@ use Rattle.grammar.proofs.Promised.{built-parses, few-readings}
 use Rattle.grammar.proofs.Answered.{build-determined, build-forgets}
 use Rattle.answer.proofs.ConditionsMet.{input-answer, input-parts}
 use Rattle.answer.proofs.AnsweringMet.{answering-answer}
-use Rattle.answer.proofs.Promised.{line-whole, answer-determined, refusals-left}
+use Rattle.answer.proofs.Promised.{line-whole, answer-determined, unread-refused, refusals-left}
 use Rattle.answer.proofs.Answered.{line-parsed, answer-forgets}
 use Rattle.answer.proofs.TwoCallsHold.{loops-exact, build-then-judge}
 use Rattle.captures.proofs.CapturesHold.{captures-hold, c1-image, c1-cells, c1-plain-runs}
@@ -100,6 +100,7 @@ promises =
       input-is = input-parts;
       line-whole = line-whole;
       endless-printed = endless-printed;
+      unread-refused = unread-refused;
       refusals-left = refusals-left;
       captures-hold = captures-hold;
       c1-image = c1-image;

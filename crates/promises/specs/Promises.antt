@@ -70,6 +70,7 @@ pub record Promises : Type 0 where
   pub input-is : Users.Input-is
   pub line-whole : Users.Line-whole
   pub endless-printed : Users.Endless-printed
+  pub unread-refused : Users.Unread-refused
   pub refusals-left : Users.Refusals-left
   pub captures-hold : Users.Captures-hold
   pub c1-image : Users.C1-image

@@ -1,6 +1,6 @@
 -- WHAT USERS GET: the program's line, the worked captures, the library for C. Assumes nothing: each claim is a type, and proofs/ has its proof.
 use mathlib.Core.Path.{_≡_}
-use mathlib.Core.List.{List, [], _++_}
+use mathlib.Core.List.{List, [], _∷_, _++_}
 use Prim.Native.Nat.{ℕ, _≤_}
 use lib.Dec.{ltb}
 use lib.ListN.{length, getD, take, drop}
@@ -14,7 +14,7 @@ use Rattle.machine.specs.Refusals.{refusal, or-else, refuse-if}
 use Rattle.simulator.specs.Calls.{judge-refusal}
 use Rattle.grammar.specs.Grammar.{grammar-refusal}
 use Rattle.grammar.specs.Image.{built}
-use Rattle.answer.specs.Text.{max-line, Lined}
+use Rattle.answer.specs.Text.{line-feed, field, refused-word, max-line, Lined}
 use Rattle.answer.specs.Input.{input-grammar, input-capture}
 use Rattle.answer.specs.Conditions.{Input-right, Input-parts}
 use Rattle.answer.specs.Calls.{Lent, answer-refusal, Input-says, Answer-says}
@@ -44,6 +44,11 @@ abbrev pub Endless-printed : Type 0
 Endless-printed =
     (x y : Lent) (out out-now : List ℕ) (count : ℕ) → Program-room x out → Answer-says endless-input x y out out-now count →
     take count out-now ≡ endless-line
+
+-- where a read failed there is no input, and the line for that is no verdict: it is refused 14 0
+abbrev pub Unread-refused : Type 0
+Unread-refused =
+    (x y : Lent) (line : List ℕ) → Input-says [] x y line → line ≡ refused-word ++ field 14 ++ field 0 ++ (line-feed ∷ [])
 
 -- of judging's refusals the program can meet 7, 8 and 9 alone: the image of a grammar that is not refused is good
 abbrev pub Refusals-left : Type 0
