@@ -1,4 +1,4 @@
--- What is promised of the answer's line. Assumes nothing.
+-- The answer's line is whole, follows from the input, and for no input is refused 14 0. Assumes nothing.
 use mathlib.Core.Path.{_≡_, refl, sym, ap, _∙_}
 use mathlib.Core.List.{List, [], _∷_, _++_}
 use Prim.Native.Nat.{ℕ, zero, suc, _≤_}

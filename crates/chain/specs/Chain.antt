@@ -1,4 +1,4 @@
--- The judge's own steps as one chain from a start record, and what is owed of it. Each statement is a type whose proof is owed. Assumes nothing.
+-- The judge's own steps as one chain from a start record, and what it is for a chain to judge. Assumes nothing: these are definitions.
 use mathlib.Core.Path.{_≡_}
 use mathlib.Core.List.{List}
 use mathlib.Core.Option.{Option, none, some}

@@ -1,4 +1,4 @@
--- What one step asks of its record and cells, so that it is safe, and what it promises. Assumes nothing: these are definitions.
+-- What one step asks of its record and cells, so that it is safe, and what it gives. Assumes nothing: these are definitions.
 use mathlib.Core.Path.{_≡_}
 use mathlib.Core.Bool.{true}
 use mathlib.Core.List.{List}

@@ -1,4 +1,4 @@
--- The promises of the plain run, proved: its answer is the run's own, and answer and cells are determined by the input. Assumes nothing.
+-- The plain run's answer is true of the run itself. Assumes nothing.
 use mathlib.Core.Path.{_≡_, refl, sym, _∙_}
 use mathlib.Core.Bool.{Bool, true, false, cond}
 use mathlib.Core.List.{List}

@@ -1,4 +1,4 @@
--- The plain run of a machine with a budget of steps and so many stack cells, and what is promised of it. Assumes nothing: these are definitions.
+-- The plain run of a machine with a budget of steps and so many stack cells, and what it is for its end to be true of the run. Assumes nothing: these are definitions.
 use mathlib.Core.Path.{_≡_}
 use mathlib.Core.Bool.{true, false, cond}
 use mathlib.Core.Option.{some}
@@ -40,7 +40,7 @@ unfoldable pub run-on : (fuel : ℕ) → Machine → (steps cells : ℕ) → Ins
 run-on zero M n k x = run-end (spent-or (step M x)) n (config-of x)
 run-on (suc f) M n k x = run-went (step M x) (λ y. run-on f M (suc n) k y) M n k x
 
--- WHAT IT PROMISES. The run itself at x, after n steps, is as the verdict says
+-- A TRUE END. The run itself at x, after n steps, is as the verdict says
 unfoldable pub Halts-as : Verdict → Machine → (budget cells steps : ℕ) → Instant → Type 0
 Halts-as Accepted M b k n x = (p : ℕ) × (i : ℕ) × (step M x ≡ over p i) × (M .accepting p i ≡ true)
 Halts-as Ended M b k n x = (p : ℕ) × (i : ℕ) × (step M x ≡ over p i) × (M .accepting p i ≡ false)
