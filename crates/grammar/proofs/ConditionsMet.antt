@@ -13,8 +13,11 @@ use Rattle.grammar.specs.Grammar.{max-rules, rules, kind-of, b-of, c-of,
 use Rattle.grammar.specs.Conditions.{Grammar-length-right, last-of, Grammar-rule-right, sequence-right, choice-right, not-right, empty-right, range-right, Grammar-rules-right, Grammar-right, First-wrong-rule, Grammar-row, unrefused-grammar, wrong-grammar-length, wrong-grammar-rule}
 use Rattle.machine.proofs.Reflects.{Reflects, restated, equal, less, at-most, both, either, by-cases, Refuses, when-passed, when-refused, passing, refuses-as, unless, if-so, over, any-of}
 use Rattle.machine.proofs.Searching.{Looked, all-have, lacking, look, Search, none-found, first-found}
-use Rattle.machine.proofs.Rows.{Some-row, Table, row-of, row-numbered, exactly}
-use Rattle.grammar.proofs.GrammarGood.{right-at}
+use Rattle.machine.proofs.Rows.{Some-row, Table, row-of, exactly, Check, checks}
+
+-- whether rule k is right, by the test
+abbrev pub right-at : List ℕ → (k : ℕ) → Bool
+right-at gs k = rule-right (rules gs) (kind-of gs k) (b-of gs k) (c-of gs k) (last-of gs k)
 
 -- ONE RULE, nested as the test is
 module _ (gs : List ℕ) (k : ℕ) where
@@ -140,7 +143,7 @@ module _ (gs : List ℕ) where
   row-answers n o (wrong-grammar-length w) = simp (when-refused length-test w)
   row-answers n o (wrong-grammar-rule l f) = simp (when-passed length-test l, rules-wrong o f)
 
-  pub grammar-table : Table (grammar-refusal gs) (Grammar-row gs)
+  grammar-table : Table (grammar-refusal gs) (Grammar-row gs)
   grammar-table = record { row = some-row; answers = row-answers }
 
   -- A NUMBER AND A PLACE ARE THE CHECK'S ANSWER EXACTLY IF THE GRAMMAR HAS THEIR ROW
@@ -148,14 +151,14 @@ module _ (gs : List ℕ) where
   grammar-answer = exactly grammar-table
 
   -- 0: no refusal is given exactly if all conditions hold
-  pub grammar-right : grammar-refusal gs .number ≡ 0 → Grammar-right gs
-  grammar-right e = go (row-numbered grammar-table e)
+  pub grammar-check : Check (grammar-refusal gs) (Grammar-right gs) (Grammar-row gs)
+  grammar-check = checks grammar-table right unrefused-grammar
     where
-      go : {o : ℕ} → Grammar-row gs 0 o → Grammar-right gs
-      go (unrefused-grammar r) = r
+      right : (o : ℕ) → Grammar-row gs 0 o → Grammar-right gs
+      right o (unrefused-grammar r) = r
 
-  pub grammar-accepted : Grammar-right gs → grammar-refusal gs ≡ fine
-  grammar-accepted r = row-answers 0 0 (unrefused-grammar r)
+  pub grammar-right : grammar-refusal gs .number ≡ 0 → Grammar-right gs
+  grammar-right = grammar-check .right
 
   -- 11: exactly if the length is wrong
   pub length-wrong : {o : ℕ} → grammar-refusal gs ≡ refusal 11 o → (Grammar-length-right gs → ⊥) × (o ≡ length gs)

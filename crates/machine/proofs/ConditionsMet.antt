@@ -10,10 +10,10 @@ use lib.ListN.{length}
 use borrow.Author.Tests.{lt-ltb, le-ltb}
 use Rattle.machine.specs.Format
 use Rattle.machine.specs.Image.{states, classes, symbols}
-use Rattle.machine.specs.Refusals.{refusal, fine, or-else, rule-count, image-refusal}
+use Rattle.machine.specs.Refusals.{refusal, or-else, rule-count, image-refusal}
 use Rattle.machine.specs.Conditions.{Directory-right, Counts-right, Length-right, Map-right, Rules-right, Image-right, First-wrong-pair, First-wrong-count, First-wrong-class, First-bad-rule, Image-row, unrefused, short-image, wrong-pair, wrong-count, wrong-length, wrong-class, bad-rule}
 use Rattle.machine.proofs.Reflects.{Reflects, when-holds, when-fails, decided, restated, equal}
-use Rattle.machine.proofs.Rows.{Some-row, Table, row-there, row-of, row-numbered, exactly}
+use Rattle.machine.proofs.Rows.{Some-row, Table, row-there, row-of, exactly, Check, checks}
 use Rattle.machine.proofs.ImageParts.{Part, part-right, part-wrong, directory-part, directory-fine, directory-wrong, counts-part, counts-fine, counts-wrong, map-part, map-fine, map-wrong, rules-part, rules-fine, rules-wrong}
 
 module _ (bs : List ℕ) where
@@ -89,7 +89,7 @@ module _ (bs : List ℕ) where
         rules-wrong bs o f,
       )
 
-  pub image-table : Table (image-refusal bs) (Image-row bs)
+  image-table : Table (image-refusal bs) (Image-row bs)
   image-table = record { row = some-row; answers = row-answers }
 
   -- A NUMBER AND A PLACE ARE THE CHECK'S ANSWER EXACTLY IF THE IMAGE HAS THEIR ROW
@@ -109,14 +109,14 @@ module _ (bs : List ℕ) where
       go (bad-rule d c l m f) = omega arith
 
   -- 0: no refusal is given exactly if all conditions hold
-  pub image-right : image-refusal bs .number ≡ 0 → Image-right bs
-  image-right e = go (row-numbered image-table e)
+  pub image-check : Check (image-refusal bs) (Image-right bs) (Image-row bs)
+  image-check = checks image-table right unrefused
     where
-      go : {o : ℕ} → Image-row bs 0 o → Image-right bs
-      go (unrefused r) = r
+      right : (o : ℕ) → Image-row bs 0 o → Image-right bs
+      right o (unrefused r) = r
 
-  pub image-accepted : Image-right bs → image-refusal bs ≡ fine
-  image-accepted r = row-answers 0 0 (unrefused r)
+  pub image-right : image-refusal bs .number ≡ 0 → Image-right bs
+  image-right = image-check .right
 
   -- 1: exactly if the image is under 32 bytes
   pub image-short : {o : ℕ} → image-refusal bs ≡ refusal 1 o → (length bs < Format.map-offset) × (o ≡ length bs)

@@ -4,12 +4,13 @@ pub mod Searching
 pub mod Rows
 pub mod Bits
 pub mod Refused
-pub mod CheckGood
 pub mod CountingOn
 pub mod Digits
 pub mod RuleRight
 pub mod ImageParts
 pub mod ConditionsMet
+pub mod CaptureMet
+pub mod CheckGood
 pub mod Numbers
 pub mod Nonzero
 pub mod Rules

@@ -1,4 +1,4 @@
--- When an image is right, condition by condition as the paper's prose has them, whatever the order in which a check tests them; and the rows that the paper's table of refusals has for an image. Assumes nothing: these are definitions.
+-- When an image is right, condition by condition as the paper's prose has them, whatever the order in which a check tests them; and the rows that the paper's table of refusals has for an image and a capture. Assumes nothing: these are definitions.
 use mathlib.Core.Path.{_≡_}
 use mathlib.Core.List.{List}
 use Prim.Native.Nat.{ℕ, _+_, _*_, _-_, _/_, _%_, _^_, _<_, _≤_}
@@ -138,3 +138,13 @@ pub data Image-row (bs : List ℕ) : (number place : ℕ) → Type 0 where
   bad-rule :
       {place : ℕ} → Directory-right bs → Counts-right bs → Length-right bs → Map-right bs → First-bad-rule bs place →
       Image-row bs 6 place
+
+-- A CAPTURE of n bytes with its image, and their rows 1 to 7: the image's come first
+pub record Capture-right (bs : List ℕ) (n : ℕ) : Type 0 where
+  pub image : Image-right bs
+  pub short : n ≤ Format.max-capture
+
+pub data Capture-row (bs : List ℕ) (n : ℕ) : (number place : ℕ) → Type 0 where
+  unrefused-capture : Capture-right bs n → Capture-row bs n 0 0
+  refused-image : {number place : ℕ} → Image-row bs number place → (number ≡ 0 → ⊥) → Capture-row bs n number place
+  long-capture : Image-right bs → Format.max-capture < n → Capture-row bs n 7 n

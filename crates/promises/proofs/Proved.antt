@@ -1,6 +1,7 @@
 -- Every promise is kept: one record, a field a claim, each by the lemma that proves it. Assumes nothing.
 use Rattle.machine.specs.Image.{machine}
 use Rattle.machine.proofs.ConditionsMet.{image-answer}
+use Rattle.machine.proofs.CaptureMet.{capture-answer}
 use Rattle.machine.proofs.Inside.{inside}
 use Rattle.machine.proofs.Reach.{entered-there}
 use Rattle.machine.proofs.Listing.{one-count}
@@ -41,6 +42,7 @@ promises =
     record {
       image-refused = image-answer;
       grammar-refused = grammar-answer;
+      capture-refused = capture-answer;
       judging-refused = judging-answer;
       running-refused = running-answer;
       building-refused = building-answer;

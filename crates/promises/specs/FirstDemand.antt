@@ -5,8 +5,8 @@ use mathlib.Core.List.{List}
 use mathlib.Core.Logic.{_↔_}
 use Prim.Native.Nat.{ℕ}
 use lib.ListN.{length, take, drop}
-use Rattle.machine.specs.Refusals.{refusal, image-refusal}
-use Rattle.machine.specs.Conditions.{Image-row}
+use Rattle.machine.specs.Refusals.{refusal, image-refusal, capture-refusal}
+use Rattle.machine.specs.Conditions.{Image-row, Capture-row}
 use Rattle.machine.specs.Run.{how-many}
 use Rattle.machine.specs.Image.{machine}
 use Rattle.machine.specs.Replies.{refused}
@@ -35,6 +35,10 @@ Image-refused = (bs : List ℕ) (n p : ℕ) → (image-refusal bs ≡ refusal n 
 
 abbrev pub Grammar-refused : Type 0
 Grammar-refused = (gs : List ℕ) (n p : ℕ) → (grammar-refusal gs ≡ refusal n p) ↔ Grammar-row gs n p
+
+-- SO IS A CAPTURE OF SO MANY BYTES with its image, by 1 to 7: by the call `cells`, and by every other call that is given both, before it looks at what is lent
+abbrev pub Capture-refused : Type 0
+Capture-refused = (bs : List ℕ) (long n p : ℕ) → (capture-refusal bs long ≡ refusal n p) ↔ Capture-row bs long n p
 
 -- SO IS A BAD CAPTURE OR LENT SLICE, by the call that is given it: by judging, by the plain run, by building, by the program's function
 abbrev pub Judging-refused : Type 0

@@ -8,6 +8,7 @@ pub record Promises : Type 0 where
   -- the first demand: refusals, and what follows from the input alone
   pub image-refused : First.Image-refused
   pub grammar-refused : First.Grammar-refused
+  pub capture-refused : First.Capture-refused
   pub judging-refused : First.Judging-refused
   pub running-refused : First.Running-refused
   pub building-refused : First.Building-refused

@@ -3,26 +3,22 @@ use mathlib.Core.Path.{_≡_}
 use mathlib.Core.List.{List}
 use Prim.Native.Nat.{ℕ, _<_, _≤_}
 use lib.ListN.{length}
-use Rattle.machine.specs.Format
 use Rattle.machine.specs.Run.{how-many}
 use Rattle.machine.specs.Image.{machine}
-use Rattle.machine.specs.Conditions.{Image-right, Image-row}
+use Rattle.machine.specs.Conditions.{Capture-right, Capture-row}
 
--- an image that is right, a capture that is not too long, and N notes and work cells
+-- an image and a capture that are right, and N notes and work cells
 pub record Judging-right (bs cs : List ℕ) (notes work : ℕ) : Type 0 where
-  pub image : Image-right bs
-  pub short : length cs ≤ Format.max-capture
+  pub capture : Capture-right bs (length cs)
   pub notes-room : how-many (machine bs cs) ≤ notes
   pub work-room : how-many (machine bs cs) ≤ work
 
 -- THE TABLE'S ROWS, a constructor each: number and place; 0 at 0 says that judging is not refused. The lowest number decides
 pub data Judging-row (bs cs : List ℕ) (notes work : ℕ) : (number place : ℕ) → Type 0 where
   unrefused-judging : Judging-right bs cs notes work → Judging-row bs cs notes work 0 0
-  refused-image : {number place : ℕ} → Image-row bs number place → (number ≡ 0 → ⊥) → Judging-row bs cs notes work number place
-  long-capture : Image-right bs → Format.max-capture < length cs → Judging-row bs cs notes work 7 (length cs)
-  few-notes :
-      Image-right bs → length cs ≤ Format.max-capture → notes < how-many (machine bs cs) →
-      Judging-row bs cs notes work 8 (how-many (machine bs cs))
+  refused-capture :
+      {number place : ℕ} → Capture-row bs (length cs) number place → (number ≡ 0 → ⊥) → Judging-row bs cs notes work number place
+  few-notes : Capture-right bs (length cs) → notes < how-many (machine bs cs) → Judging-row bs cs notes work 8 (how-many (machine bs cs))
   few-work :
-      Image-right bs → length cs ≤ Format.max-capture → how-many (machine bs cs) ≤ notes → work < how-many (machine bs cs) →
+      Capture-right bs (length cs) → how-many (machine bs cs) ≤ notes → work < how-many (machine bs cs) →
       Judging-row bs cs notes work 9 (how-many (machine bs cs))
