@@ -1,7 +1,7 @@
 -- What is proved of grammars and their images, by topic: unrefused grammars and byte classes; the image as it reads back; its machine as a table of rows; parsing; few readings; and the laws that the code's proofs cite.
 pub mod Bools
-pub mod GrammarGood
 pub mod ConditionsMet
+pub mod GrammarGood
 pub mod Classes
 pub mod ClassesFew
 pub mod RangeClasses

@@ -18,15 +18,7 @@ use Rattle.machine.specs.Calls.{checked}
 pub record Fine (f : Refusal) : Type 0 where
   pub none-such : f .number ≡ 0
 
--- a chain of refusals that ends with none: each test said so
-pub passed : (b : Bool) (n p : ℕ) (g : Refusal) → Fine (cond b (refusal (suc n) p) g) → (b ≡ false) × Fine g
-passed true n p g e = absurd (omega (arith, e .none-such))
-passed false n p g e = (refl, e)
-
-pub held : (b : Bool) (n p : ℕ) (g : Refusal) → Fine (cond b g (refusal (suc n) p)) → (b ≡ true) × Fine g
-held true n p g e = (refl, e)
-held false n p g e = absurd (omega (arith, e .none-such))
-
+-- two refusals one after the other, and one by a test
 pub neither : (f g : Refusal) → Fine (or-else f g) → Fine f × Fine g
 unfolding or-else
 neither f g e = go (eqb (f .number) 0) refl e
@@ -37,7 +29,8 @@ neither f g e = go (eqb (f .number) 0) refl e
 
 pub not-refused : (t : Bool) (n p : ℕ) → Fine (refuse-if t (refusal (suc n) p)) → t ≡ false
 unfolding refuse-if
-not-refused t n p e = passed t n p _ e .0
+not-refused true n p e = absurd (omega (arith, e .none-such))
+not-refused false n p e = refl
 
 pub good-number : (f : Refusal) → checked f ≡ Good → f .number ≡ 0
 unfolding checked
