@@ -60,19 +60,29 @@ moves-within a b e r count room long m p h q =
 pub moved-within : (r : Outcome) (n count long : ℕ) → r ≡ Bytes n → Within r count long → Within (Bytes n) count long
 moved-within r n count long h w = subst (λ (o : Outcome). Within o count long) h w
 
+-- between two calls: where the last one moved nothing, bytes are left
+abbrev pub Going : Outcome → (count long : ℕ) → Type 0
+Going (Bytes n) count long = count ≤ long
+Going Nothing count long = count < long
+Going Interrupted count long = count < long
+Going Failed count long = count < long
+
+pub goes-on : (r o : Outcome) (count long : ℕ) → r ≡ o → Going o count long → Going r count long
+goes-on r o count long h g = subst⁻¹ (λ (o : Outcome). Going o count long) h g
+
 -- a loop stops at a call that moved nothing, or with all the bytes moved
 pub stops-at : (r o : Outcome) (count long : ℕ) → r ≡ o → Stopped o count long → Stopped r count long
 stops-at r o count long h s = subst⁻¹ (λ (o : Outcome). Stopped o count long) h s
 
-pub stops-full : (o : Outcome) (count long : ℕ) → count ≡ long → Stopped o count long
-stops-full (Bytes n) count long q = q
-stops-full Nothing count long q = le-of-eq q
-stops-full Interrupted count long q = le-of-eq q
-stops-full Failed count long q = le-of-eq q
+pub stops-full : (o : Outcome) (count long : ℕ) → Going o count long → long ≤ count → Stopped o count long
+stops-full (Bytes n) count long g q = omega (arith, g, q)
+stops-full Nothing count long g q = absurd (omega (arith, g, q))
+stops-full Interrupted count long g q = absurd (omega (arith, g, q))
+stops-full Failed count long g q = absurd (omega (arith, g, q))
 
 -- what counts as an input lies within the buffer
 pub whole-within : (o : Outcome) (count long : ℕ) → Stopped o count long → whole-of o count ≤ long
 whole-within (Bytes n) count long s = le-of-eq s
-whole-within Nothing count long s = s
+whole-within Nothing count long s = omega (arith, s)
 whole-within Interrupted count long s = omega arith
 whole-within Failed count long s = omega arith

@@ -25,12 +25,12 @@ Within Nothing count long = Unit {0}
 Within Interrupted count long = Unit {0}
 Within Failed count long = Unit {0}
 
--- after a call that moved bytes there is no stop until all the bytes are moved
+-- the last call moved bytes where all are moved, and none where some are left
 abbrev pub Stopped : Outcome → (count long : ℕ) → Type 0
 Stopped (Bytes n) count long = count ≡ long
-Stopped Nothing count long = count ≤ long
-Stopped Interrupted count long = count ≤ long
-Stopped Failed count long = count ≤ long
+Stopped Nothing count long = count < long
+Stopped Interrupted count long = count < long
+Stopped Failed count long = count < long
 
 -- what was read is an input where reading came to the end of it or filled the buffer; where a read failed, nothing is
 abbrev pub whole-of : Outcome → (count : ℕ) → ℕ

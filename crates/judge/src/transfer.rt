@@ -9,7 +9,7 @@ ghost use lib.IntN.{pos};
 ghost use lib.Signed.{_≤ℤ_};
 ghost use Rattle.judge.specs.Transfers.{outcome-of, failure-of, whole-of, Within, Stopped};
 
-// How often an interrupted call is made again. No run uses this up: it is here so that the loops are known to end.
+// How often interrupted calls are made again, in all: so the loops are known to end. After that an interruption is a failure.
 const MOST_TRIES: u32 = 1000000;
 
 // What one call moved: so many bytes; none, which a read says at the end of the input; none because a signal came first; none because it failed.
@@ -20,7 +20,7 @@ pub enum Outcome {
     Failed,
 }
 
-// How many bytes were moved in all, and how the last call came out.
+// How many bytes were moved in all, and how the last call came out: Bytes(0) where no call was made.
 pub struct Stop {
     pub count: usize,
     pub last: Outcome,
@@ -77,7 +77,7 @@ fn read_on(input: &mut [u8]) -> Stop
 {
     let mut count = 0;
     let mut tries = MOST_TRIES;
-    let mut last = Outcome::Nothing;
+    let mut last = Outcome::Bytes(0);
     while count < input.len() {
         last = read_once(input, count);
         match last {
@@ -140,7 +140,7 @@ fn write_on(line: &[u8]) -> Stop
 {
     let mut count = 0;
     let mut tries = MOST_TRIES;
-    let mut last = Outcome::Nothing;
+    let mut last = Outcome::Bytes(0);
     while count < line.len() {
         last = write_once(line, count);
         match last {

@@ -5,12 +5,12 @@ use native.Mathlib.Omega.{arith}
 use lib.ListN.{length}
 use borrow.Author.Needs.{needs}
 use Rattle.judge.specs.declared.transfer.Outcome.the-variants.{Nothing, Interrupted, Failed}
-use Rattle.judge.proofs.Outcomes.{moved-within, stops-at, stops-full}
+use Rattle.judge.proofs.Outcomes.{Going, moved-within, goes-on, stops-at, stops-full}
 use Rattle.judge.proofs.transfer.read_on.Statement.{statement}
 use Rattle.judge.proofs.transfer.read_on.Tie as tie
 
 abbrev Inv-loop : tie.InvT-loop
-Inv-loop input₀ count₀ tries₀ last₀ input count tries last = (length input ≡ length input₀) × (count ≤ length input)
+Inv-loop input₀ count₀ tries₀ last₀ input count tries last = (length input ≡ length input₀) × Going last count (length input)
 
 abbrev μ-loop : tie.MeasureT-loop
 μ-loop input₀ count₀ tries₀ last₀ input count tries last = length input - count + tries
@@ -49,7 +49,7 @@ loop-less-2 : tie.Need-loop-less-2 Inv-loop μ-loop
 loop-less-2 c = omega (arith, (c .before .before .before .before .before .read-once .kept .0))
 
 loop-again-2 : tie.Need-loop-again-2 Inv-loop μ-loop
-loop-again-2 c = ((c .before .before .before .before .before .read-once .kept .0) ∙ c .before .before .before .before .before .before .before .before .loop .inv .0, omega (arith, (c .before .before .before .before .before .read-once .kept .0)))
+loop-again-2 c = ((c .before .before .before .before .before .read-once .kept .0) ∙ c .before .before .before .before .before .before .before .before .loop .inv .0, goes-on _ Interrupted _ _ (c .before .enum-told .given .1) (omega (arith, (c .before .before .before .before .before .read-once .kept .0))))
 
 enum-told-2 : tie.Need-enum-told-2 Inv-loop μ-loop
 enum-told-2 c = search needs
@@ -73,7 +73,7 @@ same-length-4 : tie.Need-same-length-4 Inv-loop μ-loop
 same-length-4 c = c .before .loop .inv .0
 
 returns-4 : tie.Need-returns-4 Inv-loop μ-loop
-returns-4 c = stops-full (c .before .loop .last) (c .before .loop .count) (length (c .before .loop .input)) (omega arith)
+returns-4 c = stops-full (c .before .loop .last) (c .before .loop .count) (length (c .before .loop .input)) (c .before .loop .inv .1) (omega arith)
 
 pub read-on-spec : {M : Type 1} → statement M
 read-on-spec =

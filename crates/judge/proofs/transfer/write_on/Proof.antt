@@ -4,12 +4,12 @@ use native.Mathlib.Omega.{arith}
 use lib.ListN.{length}
 use borrow.Author.Needs.{needs}
 use Rattle.judge.specs.declared.transfer.Outcome.the-variants.{Nothing, Interrupted, Failed}
-use Rattle.judge.proofs.Outcomes.{moved-within, stops-at, stops-full}
+use Rattle.judge.proofs.Outcomes.{Going, moved-within, goes-on, stops-at, stops-full}
 use Rattle.judge.proofs.transfer.write_on.Statement.{statement}
 use Rattle.judge.proofs.transfer.write_on.Tie as tie
 
 abbrev Inv-loop : tie.InvT-loop
-Inv-loop line count₀ tries₀ last₀ count tries last = count ≤ length line
+Inv-loop line count₀ tries₀ last₀ count tries last = Going last count (length line)
 
 abbrev μ-loop : tie.MeasureT-loop
 μ-loop line count₀ tries₀ last₀ count tries last = length line - count + tries
@@ -45,7 +45,7 @@ loop-less-2 : tie.Need-loop-less-2 Inv-loop μ-loop
 loop-less-2 c = omega arith
 
 loop-again-2 : tie.Need-loop-again-2 Inv-loop μ-loop
-loop-again-2 c = omega arith
+loop-again-2 c = goes-on _ Interrupted _ _ (c .before .enum-told .given .1) (omega arith)
 
 enum-told-2 : tie.Need-enum-told-2 Inv-loop μ-loop
 enum-told-2 c = search needs
@@ -60,7 +60,7 @@ returns-3 : tie.Need-returns-3 Inv-loop μ-loop
 returns-3 c = stops-at _ Failed _ _ (c .enum-told3 .given .1) (omega arith)
 
 returns-4 : tie.Need-returns-4 Inv-loop μ-loop
-returns-4 c = stops-full (c .before .loop .last) (c .before .loop .count) (length (c .before .before .before .args .line .now)) (omega arith)
+returns-4 c = stops-full (c .before .loop .last) (c .before .loop .count) (length (c .before .before .before .args .line .now)) (c .before .loop .inv) (omega arith)
 
 pub write-on-spec : {M : Type 1} → statement M
 write-on-spec =
