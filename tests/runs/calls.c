@@ -1,6 +1,6 @@
 /* Stands in for the C library's read of standard input and write of standard output, so that a test can make them move bytes in parts, be interrupted or fail.
    READS and WRITES say what the calls do, a character a call, the last one for all later calls:
-   1 to 9, so many bytes at most; a, all that there are; i, interrupted by a signal; f, a failure. */
+   0 to 9, so many bytes at most; a, all that there are; i, interrupted by a signal; f, a failure. */
 #define _GNU_SOURCE
 #include <errno.h>
 #include <stdlib.h>
@@ -15,7 +15,7 @@ static ssize_t scripted(long call, const char **script, int fd, void *bytes, siz
         errno = step == 'i' ? EINTR : EIO;
         return -1;
     }
-    if (step >= '1' && step <= '9' && count > (size_t)(step - '0'))
+    if (step >= '0' && step <= '9' && count > (size_t)(step - '0'))
         count = (size_t)(step - '0');
     return syscall(call, fd, bytes, count);
 }
