@@ -8,7 +8,7 @@ use native.Mathlib.Omega.{arith}
 use lib.ListN.{length}
 use borrow.Author.Tests.{lt-ltb, le-ltb}
 use Rattle.machine.specs.Refusals.{refusal, refuse-if}
-use Rattle.machine.proofs.Rows.{Some-row, Table, exactly, Check, checks, stops, goes-on, then-row}
+use Rattle.machine.proofs.Rows.{Some-row, exactly, Check, checks, stops, goes-on, then-row}
 use Rattle.grammar.specs.Image.{built, built-length}
 use Rattle.grammar.specs.Calls.{build-refusal}
 use Rattle.grammar.specs.Conditions.{Grammar-right, Building-right, Building-row, unrefused-building, refused-grammar, short-buffer}
@@ -33,15 +33,12 @@ module _ (gs : List ℕ) (room : ℕ) where
   row-answers n o (short-buffer g h) =
       goes-on (grammar-check gs) _ g (simp (lt-ltb room (built-length gs) (omega (arith, h, built-length-is gs)), built-length-is gs))
 
-  building-table : Table (build-refusal gs room) (Building-row gs room)
-  building-table = record { row = some-row; answers = row-answers }
-
   pub building-check : Check (build-refusal gs room) (Building-right gs room) (Building-row gs room)
-  building-check = checks building-table right unrefused-building
+  building-check = checks (record { row = some-row; answers = row-answers }) right unrefused-building
     where
       right : (o : ℕ) → Building-row gs room 0 o → Building-right gs room
       right o (unrefused-building r) = r
       right o (refused-grammar r some) = absurd (some refl)
 
   pub building-answer : (n o : ℕ) → (build-refusal gs room ≡ refusal n o) ↔ Building-row gs room n o
-  building-answer = exactly building-table
+  building-answer = exactly (building-check .table)

@@ -53,17 +53,16 @@ pub run-answered :
 unfolding Run-says
 run-answered bs cs n r a x h s = answered-as _ _ _ r a x h s
 
--- no refusal: none of image and capture, and some cell
-pub run-fine : (bs cs : List ℕ) (k : ℕ) → run-refusal bs cs k .number ≡ 0 → (capture-refusal bs (length cs) .number ≡ 0) × (0 < k)
+-- no refusal: some cell, so what is true of the plain run is true of the call's answer
+some-cell : (bs cs : List ℕ) (k : ℕ) → run-refusal bs cs k .number ≡ 0 → 0 < k
 unfolding run-refusal
-run-fine bs cs k e =
-    let (capture, cells) = neither (capture-refusal bs (length cs)) _ (record { none-such = e }) in
-    (capture .none-such, omega (arith, eqb-false k 0 (not-refused _ 9 0 cells)))
+some-cell bs cs k e =
+    let cells = neither (capture-refusal bs (length cs)) _ (record { none-such = e }) .1 in
+    omega (arith, eqb-false k 0 (not-refused _ 9 0 cells))
 
--- so what is true of the plain run is true of the call's answer
 pub run-holds :
     (bs cs : List ℕ) (n k : ℕ) → run-refusal bs cs k .number ≡ 0 → True-end (machine bs cs) n k (run-on n (machine bs cs) 0 k start)
-run-holds bs cs n k h = plain-run-true (machine bs cs) n k (run-fine bs cs k h .1)
+run-holds bs cs n k h = plain-run-true (machine bs cs) n k (some-cell bs cs k h)
 
 -- EARLIER CONTENTS DON'T MATTER
 forgets-as :

@@ -9,7 +9,7 @@ use borrow.Author.Tests.{lt-ltb, le-ltb}
 use Rattle.machine.specs.Format
 use Rattle.machine.specs.Refusals.{refusal, refuse-if, capture-refusal}
 use Rattle.machine.specs.Conditions.{Image-right, Capture-right, Capture-row, unrefused-capture, refused-image, long-capture}
-use Rattle.machine.proofs.Rows.{Some-row, Table, exactly, Check, checks, stops, goes-on, then-row}
+use Rattle.machine.proofs.Rows.{Some-row, exactly, Check, checks, stops, goes-on, then-row}
 use Rattle.machine.proofs.ConditionsMet.{image-check}
 
 module _ (bs : List ℕ) (n : ℕ) where
@@ -26,15 +26,12 @@ module _ (bs : List ℕ) (n : ℕ) where
   row-answers m o (refused-image r some) = stops (image-check bs) _ r some
   row-answers m o (long-capture i h) = goes-on (image-check bs) _ i (simp (lt-ltb _ _ h))
 
-  capture-table : Table (capture-refusal bs n) (Capture-row bs n)
-  capture-table = record { row = some-row; answers = row-answers }
-
   pub capture-check : Check (capture-refusal bs n) (Capture-right bs n) (Capture-row bs n)
-  capture-check = checks capture-table right unrefused-capture
+  capture-check = checks (record { row = some-row; answers = row-answers }) right unrefused-capture
     where
       right : (o : ℕ) → Capture-row bs n 0 o → Capture-right bs n
       right o (unrefused-capture r) = r
       right o (refused-image r some) = absurd (some refl)
 
   pub capture-answer : (m o : ℕ) → (capture-refusal bs n ≡ refusal m o) ↔ Capture-row bs n m o
-  capture-answer = exactly capture-table
+  capture-answer = exactly (capture-check .table)

@@ -36,11 +36,11 @@ Image-refused = (bs : List ℕ) (n p : ℕ) → (image-refusal bs ≡ refusal n 
 abbrev pub Grammar-refused : Type 0
 Grammar-refused = (gs : List ℕ) (n p : ℕ) → (grammar-refusal gs ≡ refusal n p) ↔ Grammar-row gs n p
 
--- SO IS A CAPTURE OF SO MANY BYTES with its image, by 1 to 7: by the call `cells`, and by every other call that is given both, before it looks at what is lent
+-- SO IS A BAD CAPTURE, by its length, after what its image is refused for: by the call `cells`, and by every call that is given both before it looks at what is lent
 abbrev pub Capture-refused : Type 0
 Capture-refused = (bs : List ℕ) (long n p : ℕ) → (capture-refusal bs long ≡ refusal n p) ↔ Capture-row bs long n p
 
--- SO IS A BAD CAPTURE OR LENT SLICE, by the call that is given it: by judging, by the plain run, by building, by the program's function
+-- SO IS A BAD LENT SLICE OR INPUT, by the call that is given it: by judging, by the plain run, by building, by the program's function
 abbrev pub Judging-refused : Type 0
 Judging-refused = (bs cs : List ℕ) (notes work n p : ℕ) → (judge-refusal bs cs notes work ≡ refusal n p) ↔ Judging-row bs cs notes work n p
 

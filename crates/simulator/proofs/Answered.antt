@@ -1,18 +1,17 @@
 -- What the call's contract comes to where it answers, and where it refuses. Assumes nothing.
 use mathlib.Core.Path.{_≡_, refl, sym, ap, _∙_}
 use mathlib.Core.List.{List}
-use Prim.Native.Nat.{ℕ, zero, suc, _<_, _≤_}
+use Prim.Native.Nat.{ℕ, zero, suc, _<_}
 use native.Mathlib.Omega.{arith}
 use lib.ListN.{length, drop, replicate, length-replicate}
 use lib.Seq.{drop-at}
-use borrow.Author.Tests.{ltb-false}
 use Rattle.machine.specs.declared.Config.{Config}
 use Rattle.machine.specs.declared.Refusal.{Refusal}
 use Rattle.machine.specs.declared.Verdict.{Verdict}
 use Rattle.machine.specs.Run.{how-many}
 use Rattle.machine.specs.Image.{byte, machine}
 use Rattle.machine.specs.Refusals.{Unrefused, capture-refusal}
-use Rattle.machine.proofs.Refused.{neither, not-refused, unrefused-by}
+use Rattle.machine.proofs.Refused.{neither, unrefused-by}
 use Rattle.simulator.specs.declared.Judged.{Judged}
 use Rattle.simulator.specs.declared.Judged.the-variants.{Refused, Answer}
 use Rattle.simulator.specs.Calls.{judge-refusal, Right, Judge-as, Judge-says}
@@ -47,22 +46,10 @@ unfolding Judge-says
 judged-refused bs cs r a a-now b b-now e s =
     refused-as (judge-refusal bs cs (length a) (length b) .number) (judge-refusal bs cs (length a) (length b)) bs cs r a a-now b b-now e s
 
--- no refusal of judging: none of image and capture, and enough cells
-pub record Judgeable (bs cs : List ℕ) (notes work : ℕ) : Type 0 where
-  pub capture-fine : capture-refusal bs (length cs) .number ≡ 0
-  pub notes-room : how-many (machine bs cs) ≤ notes
-  pub work-room : how-many (machine bs cs) ≤ work
-
-pub judgeable : (bs cs : List ℕ) (a b : ℕ) → judge-refusal bs cs a b .number ≡ 0 → Judgeable bs cs a b
+-- no refusal of judging: none of image and capture
+capture-fine : (bs cs : List ℕ) (a b : ℕ) → judge-refusal bs cs a b .number ≡ 0 → capture-refusal bs (length cs) .number ≡ 0
 unfolding judge-refusal
-judgeable bs cs a b e =
-    let (capture, cells) = neither (capture-refusal bs (length cs)) _ (record { none-such = e }) in
-    let (notes, work) = neither _ _ cells in
-    record {
-      capture-fine = capture .none-such;
-      notes-room = ltb-false _ _ (not-refused _ 7 _ notes);
-      work-room = ltb-false _ _ (not-refused _ 8 _ work);
-    }
+capture-fine bs cs a b e = neither (capture-refusal bs (length cs)) _ (record { none-such = e }) .0 .none-such
 
 -- WHAT AN ANSWER COMES TO
 pub record Answered (bs cs : List ℕ) (v : Verdict) (n : ℕ) (d : Config) (a a-now b b-now : List ℕ) : Type 0 where
@@ -91,7 +78,7 @@ pub answered :
 answered bs cs a a-now b b-now v n d bytes s =
     let e = answered-fine bs cs a a-now b b-now v n d s in
     record {
-      unrefused = unrefused-by bs cs bytes (judgeable bs cs (length a) (length b) e .capture-fine);
+      unrefused = unrefused-by bs cs bytes (capture-fine bs cs (length a) (length b) e);
       right = judged-right bs cs (Answer v n d) a a-now b b-now e s;
     }
 

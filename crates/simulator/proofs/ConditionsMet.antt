@@ -11,7 +11,7 @@ use Rattle.machine.specs.Run.{how-many}
 use Rattle.machine.specs.Image.{machine}
 use Rattle.machine.specs.Refusals.{refusal, or-else, refuse-if}
 use Rattle.machine.specs.Conditions.{Capture-right}
-use Rattle.machine.proofs.Rows.{Some-row, Table, exactly, Check, checks, stops, goes-on, then-row}
+use Rattle.machine.proofs.Rows.{Some-row, exactly, Check, checks, stops, goes-on, then-row}
 use Rattle.machine.proofs.CaptureMet.{capture-check}
 use Rattle.simulator.specs.Calls.{judge-refusal}
 use Rattle.simulator.specs.Conditions.{Judging-right, Judging-row, unrefused-judging, refused-capture, few-notes, few-work}
@@ -40,15 +40,12 @@ module _ (bs cs : List ℕ) (a b : ℕ) where
   row-answers n o (few-notes c h) = goes-on (capture-check bs (length cs)) _ c (simp (lt-ltb _ _ h))
   row-answers n o (few-work c m h) = goes-on (capture-check bs (length cs)) _ c (simp (le-ltb _ _ m, lt-ltb _ _ h))
 
-  judging-table : Table (judge-refusal bs cs a b) (Judging-row bs cs a b)
-  judging-table = record { row = some-row; answers = row-answers }
-
   pub judging-check : Check (judge-refusal bs cs a b) (Judging-right bs cs a b) (Judging-row bs cs a b)
-  judging-check = checks judging-table right unrefused-judging
+  judging-check = checks (record { row = some-row; answers = row-answers }) right unrefused-judging
     where
       right : (o : ℕ) → Judging-row bs cs a b 0 o → Judging-right bs cs a b
       right o (unrefused-judging r) = r
       right o (refused-capture r some) = absurd (some refl)
 
   pub judging-answer : (n o : ℕ) → (judge-refusal bs cs a b ≡ refusal n o) ↔ Judging-row bs cs a b n o
-  judging-answer = exactly judging-table
+  judging-answer = exactly (judging-check .table)
