@@ -49,9 +49,7 @@ class-below {bs} {cs} u (suc i) = go (ltb i (length cs)) refl
 
 -- A RULE THAT IS RIGHT
 pub record Good-rule (bs : List ℕ) (class : ℕ) (r : Rule) : Type 0 where
-  pub none-still : r .kind ≡ 0 → r .move ≡ 0
   pub state-below : (r .kind ≡ 0 → ⊥) → r .state < states bs
-  pub pop-move : r .kind ≡ 3 → r .move ≤ 1
   pub symbol-below : (r .kind ≡ 0 → ⊥) → (r .kind ≡ 3 → ⊥) → r .symbol < symbols bs
   pub on-tape : (r .kind ≡ 0 → ⊥) → (r .kind ≡ 3 → ⊥) → move-off bs class (r .move) ≡ false
 
@@ -64,38 +62,24 @@ on-right bs k m e f h = off (eqb k (classes bs) && eqb m 2) (simp (eq-eqb k (cla
     off true z = let y : _≡_ {A = ℕ} 0 1 = cc in omega arith
     off false z = let y : _≡_ {A = ℕ} 0 1 = cc in omega arith
 
-good-target : {bs : List ℕ} {k : ℕ} {r : Rule} → Target-right bs k r → (r .kind ≡ 0 → ⊥) → (r .kind ≡ 3 → ⊥) → Good-rule bs k r
+good-target : {bs : List ℕ} {k : ℕ} {r : Rule} → Target-right bs k r → Good-rule bs k r
 unfolding move-off
-good-target t some other =
+good-target t =
     record {
-      none-still = λ y. absurd (some y);
       state-below = λ y. t .state-below;
-      pop-move = λ y. absurd (other y);
       symbol-below = λ y w. t .symbol-below;
       on-tape =
           λ y w. when-passed (any-of (if-so (both (equal _ _) (equal _ _))) (if-so (both (equal _ _) (equal _ _))))
           (λ s. t .not-off-left (s .0) (s .1), λ s. t .not-off-right (s .0) (s .1));
     }
 
-pub good-rule : {bs : List ℕ} {k : ℕ} {r : Rule} → Rule-right bs k r → Good-rule bs k r
+good-rule : {bs : List ℕ} {k : ℕ} {r : Rule} → Rule-right bs k r → Good-rule bs k r
 good-rule (none-right e p a m) =
-    record {
-      none-still = λ y. m;
-      state-below = λ y. absurd (y e);
-      pop-move = λ y. omega arith;
-      symbol-below = λ y w. absurd (y e);
-      on-tape = λ y w. absurd (y e);
-    }
-good-rule (change-right e t) = good-target t (λ y. omega arith) (λ y. omega arith)
-good-rule (push-right e t) = good-target t (λ y. omega arith) (λ y. omega arith)
+    record { state-below = λ y. absurd (y e); symbol-below = λ y w. absurd (y e); on-tape = λ y w. absurd (y e) }
+good-rule (change-right e t) = good-target t
+good-rule (push-right e t) = good-target t
 good-rule (pop-right e p a m) =
-    record {
-      none-still = λ y. absurd (omega arith);
-      state-below = λ y. p;
-      pop-move = λ y. m;
-      symbol-below = λ y w. absurd (w e);
-      on-tape = λ y w. absurd (w e);
-    }
+    record { state-below = λ y. p; symbol-below = λ y w. absurd (w e); on-tape = λ y w. absurd (w e) }
 
 -- THE RULE OF A CONFIGURATION: its index, and that it is right
 abbrev pub rule-index : (image capture : List ℕ) → Config → ℕ
