@@ -62,7 +62,7 @@ moved-within r n count long h w = subst (λ (o : Outcome). Within o count long) 
 
 -- between two calls: where the last one moved nothing, bytes are left
 abbrev pub Going : Outcome → (count long : ℕ) → Type 0
-Going (Bytes n) count long = count ≤ long
+Going (Bytes n) count long = (n ≤ count) × (count ≤ long)
 Going Nothing count long = count < long
 Going Interrupted count long = count < long
 Going Failed count long = count < long
@@ -75,14 +75,14 @@ pub stops-at : (r o : Outcome) (count long : ℕ) → r ≡ o → Stopped o coun
 stops-at r o count long h s = subst⁻¹ (λ (o : Outcome). Stopped o count long) h s
 
 pub stops-full : (o : Outcome) (count long : ℕ) → Going o count long → long ≤ count → Stopped o count long
-stops-full (Bytes n) count long g q = omega (arith, g, q)
+stops-full (Bytes n) count long (m, g) q = (m, omega (arith, g, q))
 stops-full Nothing count long g q = absurd (omega (arith, g, q))
 stops-full Interrupted count long g q = absurd (omega (arith, g, q))
 stops-full Failed count long g q = absurd (omega (arith, g, q))
 
 -- what counts as an input lies within the buffer
 pub whole-within : (o : Outcome) (count long : ℕ) → Stopped o count long → whole-of o count ≤ long
-whole-within (Bytes n) count long s = le-of-eq s
+whole-within (Bytes n) count long (m, s) = le-of-eq s
 whole-within Nothing count long s = omega (arith, s)
 whole-within Interrupted count long s = omega arith
 whole-within Failed count long s = omega arith

@@ -25,9 +25,9 @@ Within Nothing count long = Unit {0}
 Within Interrupted count long = Unit {0}
 Within Failed count long = Unit {0}
 
--- the last call moved bytes where all are moved, and none where some are left
+-- the last call moved bytes where all are moved, its own among them, and none where some are left
 abbrev pub Stopped : Outcome → (count long : ℕ) → Type 0
-Stopped (Bytes n) count long = count ≡ long
+Stopped (Bytes n) count long = (n ≤ count) × (count ≡ long)
 Stopped Nothing count long = count < long
 Stopped Interrupted count long = count < long
 Stopped Failed count long = count < long

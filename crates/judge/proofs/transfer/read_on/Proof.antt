@@ -16,7 +16,7 @@ abbrev μ-loop : tie.MeasureT-loop
 μ-loop input₀ count₀ tries₀ last₀ input count tries last = length input - count + tries
 
 loop-holds : tie.Need-loop-holds Inv-loop μ-loop
-loop-holds c = (refl, omega arith)
+loop-holds c = (refl, (omega arith, omega arith))
 
 read-once-requires : tie.Need-read-once-requires Inv-loop μ-loop
 read-once-requires c κs = omega arith
@@ -31,7 +31,7 @@ loop-less : tie.Need-loop-less Inv-loop μ-loop
 loop-less c = let more = moved-within _ _ _ _ (c .before .last .given .1) (c .before .before .before .before .before .read-once .ensures .0) in omega (arith, (c .before .before .before .before .before .read-once .kept .0), more)
 
 loop-again : tie.Need-loop-again Inv-loop μ-loop
-loop-again c = let more = moved-within _ _ _ _ (c .before .last .given .1) (c .before .before .before .before .before .read-once .ensures .0) in ((c .before .before .before .before .before .read-once .kept .0) ∙ c .before .before .before .before .before .before .before .before .loop .inv .0, more .1)
+loop-again c = let more = moved-within _ _ _ _ (c .before .last .given .1) (c .before .before .before .before .before .read-once .ensures .0) in ((c .before .before .before .before .before .read-once .kept .0) ∙ c .before .before .before .before .before .before .before .before .loop .inv .0, (omega arith, more .1))
 
 enum-told : tie.Need-enum-told Inv-loop μ-loop
 enum-told c = search needs

@@ -15,7 +15,7 @@ abbrev μ-loop : tie.MeasureT-loop
 μ-loop line count₀ tries₀ last₀ count tries last = length line - count + tries
 
 loop-holds : tie.Need-loop-holds Inv-loop μ-loop
-loop-holds c = omega arith
+loop-holds c = (omega arith, omega arith)
 
 write-once-requires : tie.Need-write-once-requires Inv-loop μ-loop
 write-once-requires c κs = omega arith
@@ -30,7 +30,7 @@ loop-less : tie.Need-loop-less Inv-loop μ-loop
 loop-less c = let more = moved-within _ _ _ _ (c .before .last .given .1) (c .before .before .before .write-once .ensures) in omega (arith, more)
 
 loop-again : tie.Need-loop-again Inv-loop μ-loop
-loop-again c = let more = moved-within _ _ _ _ (c .before .last .given .1) (c .before .before .before .write-once .ensures) in more .1
+loop-again c = let more = moved-within _ _ _ _ (c .before .last .given .1) (c .before .before .before .write-once .ensures) in (omega arith, more .1)
 
 enum-told : tie.Need-enum-told Inv-loop μ-loop
 enum-told c = search needs
