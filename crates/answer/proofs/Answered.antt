@@ -1,24 +1,22 @@
 -- What the call's contract comes to where it refuses and where it answers; and that earlier contents don't matter. Assumes nothing.
-use mathlib.Core.Path.{_≡_, refl, sym, ap, subst, _∙_}
+use mathlib.Core.Path.{_≡_, refl, sym, ap, _∙_}
 use mathlib.Core.Bool.{Bool, true, false, cond}
 use mathlib.Core.List.{List, [], _∷_}
 use Prim.Native.Nat.{ℕ, zero, suc, _+_, _<_, _≤_, min}
 use native.Mathlib.Nat.{min-le-left, min-le-right, le-of-suc-le-suc}
 use native.Mathlib.Omega.{arith}
 use lib.Dec.{eqb}
-use lib.ListN.{length, getD, take, drop}
+use lib.ListN.{length, take, drop}
 use lib.Seq.{getD-drop, take-at}
-use borrow.Author.Tests.{eq-eqb, ne-eqb, eqb-true, eqb-false}
+use borrow.Author.Tests.{eqb-true, eqb-false}
 use Rattle.machine.specs.declared.Refusal.{Refusal}
-use Rattle.machine.specs.Run.{how-many}
-use Rattle.machine.specs.Image.{byte, machine}
+use Rattle.machine.specs.Image.{byte}
 use Rattle.machine.specs.Refusals.{or-else}
 use Rattle.machine.proofs.Refused.{neither}
 use Rattle.simulator.specs.declared.Judged.{Judged}
-use Rattle.simulator.specs.declared.Judged.the-variants.{Answer}
-use Rattle.simulator.specs.Calls.{judge-refusal, Judge-says}
+use Rattle.simulator.specs.Calls.{judge-refusal}
 use Rattle.simulator.proofs.Answered.{judged-right}
-use Rattle.simulator.proofs.Determined.{judge-forgets}
+use Rattle.simulator.proofs.Determined.{judge-independent}
 use Rattle.grammar.specs.Grammar.{grammar-refusal}
 use Rattle.grammar.specs.Image.{built, built-length}
 use Rattle.grammar.specs.Calls.{build-refusal}
@@ -130,13 +128,13 @@ module _ (xs : List ℕ) (x y z w : Lent) (room : Same-room x z) (l k : List ℕ
   unfolding answer-refusal
   refusals-same = rw (room .image, room .notes, room .work)
 
-  pub judged-forgets : answer-refusal xs x .number ≡ 0 → (l ≡ k) × Same-cells (input-grammar xs) (input-capture xs) y w
-  judged-forgets fine =
+  pub judged-independent : answer-refusal xs x .number ≡ 0 → (l ≡ k) × Same-cells (input-grammar xs) (input-capture xs) y w
+  judged-independent fine =
       let bs = built (input-grammar xs) in
       let j = input-judged xs x y l fine a in
       let i = input-judged xs z w k (ap (λ (f : Refusal). f .number) refusals-same ∙ fine) b in
       let (same, cells) =
-      judge-forgets bs (input-capture xs) (x .notes) (x .work) (z .notes) (z .work) (j .judged) (i .judged) (y .notes) (y .work) (w .notes) (w .work)
+      judge-independent bs (input-capture xs) (x .notes) (x .work) (z .notes) (z .work) (j .judged) (i .judged) (y .notes) (y .work) (w .notes) (w .work)
       (room .notes) (room .work) (j .judges) (i .judges)
       in
       let (notes, work) = cells (input-fine xs x fine .1) in
@@ -147,18 +145,18 @@ module _ (xs : List ℕ) (x y z w : Lent) (room : Same-room x z) (l k : List ℕ
         record { image = first ∙ sym second; notes = notes; work = work },
       )
 
-  refused-forgets : (answer-refusal xs x .number ≡ 0 → ⊥) → l ≡ k
-  refused-forgets some =
+  refused-independent : (answer-refusal xs x .number ≡ 0 → ⊥) → l ≡ k
+  refused-independent some =
       let r = input-refused xs x y l some a in
       let q = input-refused xs z w k (λ e. some (sym (ap (λ (f : Refusal). f .number) refusals-same) ∙ e)) b in
       r .says ∙ ap refusal-line (sym refusals-same) ∙ sym (q .says)
 
-  pub line-forgets : l ≡ k
-  line-forgets = go (eqb (answer-refusal xs x .number) 0) refl
+  pub line-independent : l ≡ k
+  line-independent = go (eqb (answer-refusal xs x .number) 0) refl
     where
       go : (t : Bool) → eqb (answer-refusal xs x .number) 0 ≡ t → l ≡ k
-      go true e = judged-forgets (eqb-true _ _ e) .0
-      go false e = refused-forgets (eqb-false _ _ e)
+      go true e = judged-independent (eqb-true _ _ e) .0
+      go false e = refused-independent (eqb-false _ _ e)
 
 -- what a buffer holds of a text is the text's first bytes
 held-first : (n : ℕ) (text buffer : List ℕ) → n ≤ length text → n ≤ length buffer → take n (written text buffer) ≡ take n text
@@ -175,13 +173,13 @@ lined-first {line} {out} {n = n} h =
     let room : n ≤ length out = rw (h .holds .counted) (min-le-right (length line) (length out)) in
     ap (take n) (h .holds .bytes) ∙ held-first n line out text room
 
-pub answer-forgets :
+pub answer-independent :
     (xs : List ℕ) (x y z w : Lent) (out p out′ q : List ℕ) (n m : ℕ) → Same-room x z → length out ≡ length out′ → Answer-says xs x y out p n →
     Answer-says xs z w out′ q m →
     (n ≡ m) × (take n p ≡ take n q) × (answer-refusal xs x .number ≡ 0 → Same-cells (input-grammar xs) (input-capture xs) y w)
 unfolding Answer-says
-answer-forgets xs x y z w out p out′ q n m room long a b =
-    let same = line-forgets xs x y z w room (a .line) (b .line) (a .right) (b .right) in
+answer-independent xs x y z w out p out′ q n m room long a b =
+    let same = line-independent xs x y z w room (a .line) (b .line) (a .right) (b .right) in
     let counts : n ≡ m =
     a .lined .holds .counted
     ∙ ap (λ (l : List ℕ). min (length l) (length out)) same
@@ -191,4 +189,4 @@ answer-forgets xs x y z w out p out′ q n m room long a b =
     let lines : take n p ≡ take n q =
     lined-first (a .lined) ∙ ap (take n) same ∙ ap (λ (k : ℕ). take k (b .line)) counts ∙ sym (lined-first (b .lined))
     ∙ ap (λ (k : ℕ). take k q) (sym counts) in
-    (counts, lines, λ fine. judged-forgets xs x y z w room (a .line) (b .line) (a .right) (b .right) fine .1)
+    (counts, lines, λ fine. judged-independent xs x y z w room (a .line) (b .line) (a .right) (b .right) fine .1)

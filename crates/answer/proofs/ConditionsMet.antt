@@ -2,7 +2,7 @@
 use mathlib.Core.Path.{_≡_, refl, sym, _∙_}
 use mathlib.Core.Bool.{_||_}
 use mathlib.Core.List.{List, _++_}
-use mathlib.Core.Logic.{_↔_, _⊎_, inl, inr}
+use mathlib.Core.Logic.{_↔_}
 use Prim.Native.Nat.{ℕ}
 use native.Mathlib.Omega.{arith}
 use lib.Dec.{ltb}
@@ -13,7 +13,7 @@ use Rattle.machine.specs.Refusals.{refusal, fine}
 use Rattle.answer.specs.Input.{pairs-length, max-input, capture-offset, first-pair-right, second-pair-right, input-refusal, input-grammar, input-capture}
 use Rattle.answer.specs.Conditions.{Input-length-right, Input-right, Input-parts, First-pair-right, Second-pair-right, Input-row, unrefused-input, wrong-input-length, wrong-first-pair, wrong-second-pair}
 use Rattle.machine.proofs.Reflects.{Reflects, when-holds, when-fails, decided, restated, equal, at-most, both, Refuses, when-refused, passing, refuses-as, over, any-of}
-use Rattle.machine.proofs.Rows.{Some-row, Table, row-of, row-numbered, exactly}
+use Rattle.machine.proofs.Rows.{Some-row, Table, row-numbered, exactly}
 use Rattle.answer.proofs.InputLaws.{first-refused, second-refused, not-refused}
 
 module _ (xs : List ℕ) where
@@ -96,27 +96,6 @@ module _ (xs : List ℕ) where
 
   pub input-accepted : Input-right xs → input-refusal xs ≡ fine
   input-accepted r = row-answers 0 0 (unrefused-input r)
-
-  -- 14 at 0: exactly if the length is wrong, or it is right and the first pair wrong
-  pub refused-at-0 :
-      (input-refusal xs ≡ refusal 14 0) ↔ (Input-length-right xs → ⊥) ⊎ (Input-length-right xs × (First-pair-right xs → ⊥))
-  refused-at-0 = (λ e. from (row-of input-table e), to)
-    where
-      from : Input-row xs 14 0 → (Input-length-right xs → ⊥) ⊎ (Input-length-right xs × (First-pair-right xs → ⊥))
-      from (wrong-input-length w) = inl w
-      from (wrong-first-pair l w) = inr (l, w)
-
-      to : (Input-length-right xs → ⊥) ⊎ (Input-length-right xs × (First-pair-right xs → ⊥)) → input-refusal xs ≡ refusal 14 0
-      to (inl w) = row-answers 14 0 (wrong-input-length w)
-      to (inr r) = row-answers 14 0 (wrong-first-pair (r .0) (r .1))
-
-  -- 14 at 8: exactly if the length and the first pair are right and the second is wrong
-  pub refused-at-8 :
-      (input-refusal xs ≡ refusal 14 8) ↔ Input-length-right xs × First-pair-right xs × (Second-pair-right xs → ⊥)
-  refused-at-8 = (λ e. from (row-of input-table e), λ r. row-answers 14 8 (wrong-second-pair (r .0) (r .1) (r .2)))
-    where
-      from : Input-row xs 14 8 → Input-length-right xs × First-pair-right xs × (Second-pair-right xs → ⊥)
-      from (wrong-second-pair l f w) = (l, f, w)
 
   -- THE PARTS of an input that is not refused
   capture-is : input-capture xs ≡ drop (four xs 4) (drop pairs-length xs)

@@ -61,21 +61,21 @@ build-fine gs n e =
     (good .none-such, ltb-false _ _ (not-refused _ 12 _ room))
 
 -- EARLIER CONTENTS DON'T MATTER
-forgets-as :
+independent-as :
     (k : ℕ) (f : Refusal) (gs : List ℕ) (r s : Built) (a a′ x y : List ℕ) → Build-as k f gs r a x → Build-as k f gs s a′ y →
     (r ≡ s) × (k ≡ 0 → take (built-length gs) x ≡ take (built-length gs) y)
 unfolding Build-as
-forgets-as zero f gs r s a a′ x y p q =
+independent-as zero f gs r s a a′ x y p q =
     let n = built-length gs in
     let first = ap (take n) (p .1) ∙ take-at (built gs) (drop n a) n (built-length-is gs) in
     let second = ap (take n) (q .1) ∙ take-at (built gs) (drop n a′) n (built-length-is gs) in
     (p .0 ∙ sym (q .0), λ e. first ∙ sym second)
-forgets-as (suc k) f gs r s a a′ x y p q = (p .0 ∙ sym (q .0), λ e. absurd (omega arith))
+independent-as (suc k) f gs r s a a′ x y p q = (p .0 ∙ sym (q .0), λ e. absurd (omega arith))
 
-pub build-forgets :
+pub build-independent :
     (gs : List ℕ) (r s : Built) (a a′ x y : List ℕ) → length a ≡ length a′ → Build-says gs r a x → Build-says gs s a′ y →
     (r ≡ s) × (build-refusal gs (length a) .number ≡ 0 → take (built-length gs) x ≡ take (built-length gs) y)
 unfolding Build-says
-build-forgets gs r s a a′ x y l p q =
-    forgets-as (build-refusal gs (length a) .number) (build-refusal gs (length a)) gs r s a a′ x y p
+build-independent gs r s a a′ x y l p q =
+    independent-as (build-refusal gs (length a) .number) (build-refusal gs (length a)) gs r s a a′ x y p
     (subst (λ (m : ℕ). Build-as (build-refusal gs m .number) (build-refusal gs m) gs s a′ y) (sym l) q)

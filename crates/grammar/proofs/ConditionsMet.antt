@@ -13,7 +13,7 @@ use Rattle.grammar.specs.Grammar.{max-rules, rules, kind-of, b-of, c-of,
 use Rattle.grammar.specs.Conditions.{Grammar-length-right, last-of, Grammar-rule-right, sequence-right, choice-right, not-right, empty-right, range-right, Grammar-rules-right, Grammar-right, First-wrong-rule, Grammar-row, unrefused-grammar, wrong-grammar-length, wrong-grammar-rule}
 use Rattle.machine.proofs.Reflects.{Reflects, restated, equal, less, at-most, both, either, by-cases, Refuses, when-passed, when-refused, passing, refuses-as, unless, if-so, over, any-of}
 use Rattle.machine.proofs.Searching.{Looked, all-have, lacking, look, Search, none-found, first-found}
-use Rattle.machine.proofs.Rows.{Some-row, Table, row-of, exactly, Check, checks}
+use Rattle.machine.proofs.Rows.{Some-row, Table, exactly, Check, checks}
 
 -- whether rule k is right, by the test
 abbrev pub right-at : List ℕ → (k : ℕ) → Bool
@@ -159,20 +159,3 @@ module _ (gs : List ℕ) where
 
   pub grammar-right : grammar-refusal gs .number ≡ 0 → Grammar-right gs
   grammar-right = grammar-check .right
-
-  -- 11: exactly if the length is wrong
-  pub length-wrong : {o : ℕ} → grammar-refusal gs ≡ refusal 11 o → (Grammar-length-right gs → ⊥) × (o ≡ length gs)
-  length-wrong e = go (row-of grammar-table e)
-    where
-      go : {o : ℕ} → Grammar-row gs 11 o → (Grammar-length-right gs → ⊥) × (o ≡ length gs)
-      go (wrong-grammar-length n) = (n, refl)
-
-  pub length-refused : (Grammar-length-right gs → ⊥) → grammar-refusal gs ≡ refusal 11 (length gs)
-  length-refused n = row-answers 11 (length gs) (wrong-grammar-length n)
-
-  -- 12: a rule is wrong, and the place is that of the first
-  pub first-wrong-rule : {o : ℕ} → grammar-refusal gs ≡ refusal 12 o → First-wrong-rule gs o
-  first-wrong-rule e = go (row-of grammar-table e)
-    where
-      go : {o : ℕ} → Grammar-row gs 12 o → First-wrong-rule gs o
-      go (wrong-grammar-rule l f) = f

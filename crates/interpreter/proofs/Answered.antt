@@ -65,19 +65,19 @@ pub run-holds :
 run-holds bs cs n k h = plain-run-true (machine bs cs) n k (some-cell bs cs k h)
 
 -- EARLIER CONTENTS DON'T MATTER
-forgets-as :
+independent-as :
     (k : ℕ) (f : Refusal) (e : Run-end) (r s : Ran) (a a′ x y : List ℕ) → length a ≡ length a′ → Run-as k f e r a x → Run-as k f e s a′ y →
     (r ≡ s) × (k ≡ 0 → x ≡ y)
 unfolding Run-as
-forgets-as zero f e r s a a′ x y l h g = (h .0 ∙ sym (g .0), λ z. h .1 ∙ ap (λ (m : ℕ). replicate m 0) l ∙ sym (g .1))
-forgets-as (suc k) f e r s a a′ x y l h g = (h .0 ∙ sym (g .0), λ z. absurd (omega arith))
+independent-as zero f e r s a a′ x y l h g = (h .0 ∙ sym (g .0), λ z. h .1 ∙ ap (λ (m : ℕ). replicate m 0) l ∙ sym (g .1))
+independent-as (suc k) f e r s a a′ x y l h g = (h .0 ∙ sym (g .0), λ z. absurd (omega arith))
 
-pub run-forgets :
+pub run-independent :
     (bs cs : List ℕ) (n : ℕ) (r s : Ran) (a a′ x y : List ℕ) → length a ≡ length a′ → Run-says bs cs n r a x → Run-says bs cs n s a′ y →
     (r ≡ s) × (run-refusal bs cs (length a) .number ≡ 0 → x ≡ y)
 unfolding Run-says
-run-forgets bs cs n r s a a′ x y l h g =
-    forgets-as (run-refusal bs cs (length a) .number) (run-refusal bs cs (length a)) (run-on n (machine bs cs) 0 (length a) start) r s a a′ x y l h
+run-independent bs cs n r s a a′ x y l h g =
+    independent-as (run-refusal bs cs (length a) .number) (run-refusal bs cs (length a)) (run-on n (machine bs cs) 0 (length a) start) r s a a′ x y l h
     (subst
     (λ (m : ℕ). Run-as (run-refusal bs cs m .number) (run-refusal bs cs m) (run-on n (machine bs cs) 0 m start) s a′ y)
     (sym l) g)

@@ -1,19 +1,15 @@
 -- The plain run's answer is true of the run itself. Assumes nothing.
-use mathlib.Core.Path.{_≡_, refl, sym, _∙_}
+use mathlib.Core.Path.{_≡_, refl}
 use mathlib.Core.Bool.{Bool, true, false, cond}
-use mathlib.Core.List.{List}
 use mathlib.Core.Option.{some}
 use Prim.Native.Nat.{ℕ, zero, suc, _+_, _≤_, _<_}
 use native.Mathlib.Omega.{arith}
 use lib.Dec.{ltb}
 use lib.ListN.{length}
 use borrow.Author.Tests.{ltb-true, ltb-false}
-use Rattle.machine.specs.declared.Refusal.{Refusal}
 use Rattle.machine.specs.declared.Verdict.the-variants.{Accepted, Ended, Deep}
 use Rattle.machine.specs.Run.{Machine, Instant, Outcome, stuck, over, next, step, start, after, config-of}
-use Rattle.interpreter.specs.declared.Ran.{Ran}
 use Rattle.interpreter.specs.PlainRun.{Run-end, run-end, ended-as, spent-or, run-went, run-on, Halts-as, last-pop, True-end}
-use Rattle.interpreter.specs.Calls.{Run-as, Run-says}
 use Rattle.machine.proofs.Runs.{after-next}
 use Rattle.interpreter.proofs.Heights.{pushes}
 

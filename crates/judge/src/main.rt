@@ -2,8 +2,9 @@
 mod transfer;
 
 use answer::answer;
+use transfer::cut_short;
 use transfer::read_whole;
-use transfer::write_whole;
+use transfer::write_on;
 ghost use lib.ListN.{take};
 ghost use Rattle.answer.specs.Calls.{lent};
 ghost use Rattle.judge.specs.Program.{Buffers, Prints};
@@ -32,5 +33,8 @@ fn main() {
     let mut line = [0u8; 64];
     let count = read_whole(&mut input);
     let long = line_of(&input, count, &mut image, &mut notes, &mut work, &mut line);
-    write_whole(&line[..long]);
+    let stop = write_on(&line[..long]);
+    if cut_short(stop, long) {
+        os::fail(b"judge: the line cannot be written");
+    }
 }

@@ -4,6 +4,7 @@ use libc::STDIN_FILENO;
 use libc::STDOUT_FILENO;
 ghost use mathlib.Core.Path.{_≡_};
 ghost use Prim.Native.Nat.{_≤_};
+ghost use lib.Dec.{ltb};
 ghost use lib.ListN.{length, take};
 ghost use lib.IntN.{pos};
 ghost use lib.Signed.{_≤ℤ_};
@@ -135,7 +136,7 @@ fn write_once(line: &[u8], count: usize) -> Outcome
 }
 
 // Writes until the line is written or a write takes no more bytes.
-fn write_on(line: &[u8]) -> Stop
+pub fn write_on(line: &[u8]) -> Stop
     ensures { λ r. ⌜ Stopped (r .last) (r .count) (length (now (line .entry))) ⌝ }
 {
     let mut count = 0;
@@ -158,11 +159,9 @@ fn write_on(line: &[u8]) -> Stop
     Stop { count, last }
 }
 
-// Writes the line to standard output, and says on standard error where it could not be written whole.
-pub fn write_whole(line: &[u8]) {
-    let stop = write_on(line);
-    let count = stop.count;
-    if count < line.len() {
-        os::fail(b"judge: the line cannot be written");
-    }
+// Whether writing stopped before all of a line of so many bytes was written.
+pub fn cut_short(stop: Stop, long: usize) -> bool
+    ensures { λ r. ⌜ r ≡ ltb (stop .count) long ⌝ }
+{
+    stop.count < long
 }

@@ -1,5 +1,5 @@
 -- What the image's refusals mean: each image has just one row of the paper's table, and the check's answer is that row's. So no refusal is given just if all conditions hold, and a refused place is the first that is wrong. Assumes nothing.
-use mathlib.Core.Path.{_≡_, refl, sym, _∙_}
+use mathlib.Core.Path.{_≡_, sym, _∙_}
 use mathlib.Core.List.{List}
 use mathlib.Core.Logic.{_↔_}
 use Prim.Native.Nat.{ℕ, _+_, _*_, _<_, _≤_}
@@ -13,7 +13,7 @@ use Rattle.machine.specs.Image.{states, classes, symbols}
 use Rattle.machine.specs.Refusals.{refusal, or-else, rule-count, image-refusal}
 use Rattle.machine.specs.Conditions.{Directory-right, Counts-right, Length-right, Map-right, Rules-right, Image-right, First-wrong-pair, First-wrong-count, First-wrong-class, First-bad-rule, Image-row, unrefused, short-image, wrong-pair, wrong-count, wrong-length, wrong-class, bad-rule}
 use Rattle.machine.proofs.Reflects.{Reflects, when-holds, when-fails, decided, restated, equal}
-use Rattle.machine.proofs.Rows.{Some-row, Table, row-there, row-of, exactly, Check, checks}
+use Rattle.machine.proofs.Rows.{Some-row, Table, exactly, Check, checks}
 use Rattle.machine.proofs.ImageParts.{Part, part-right, part-wrong, directory-part, directory-fine, directory-wrong, counts-part, counts-fine, counts-wrong, map-part, map-fine, map-wrong, rules-part, rules-fine, rules-wrong}
 
 module _ (bs : List ℕ) where
@@ -96,18 +96,6 @@ module _ (bs : List ℕ) where
   pub image-answer : (n o : ℕ) → (image-refusal bs ≡ refusal n o) ↔ Image-row bs n o
   image-answer = exactly image-table
 
-  pub number-most : image-refusal bs .number ≤ 6
-  number-most = go (row-there image-table)
-    where
-      go : {n o : ℕ} → Image-row bs n o → n ≤ 6
-      go (unrefused r) = omega arith
-      go (short-image h) = omega arith
-      go (wrong-pair h f) = omega arith
-      go (wrong-count d f) = omega arith
-      go (wrong-length d c n) = omega arith
-      go (wrong-class d c l f) = omega arith
-      go (bad-rule d c l m f) = omega arith
-
   -- 0: no refusal is given exactly if all conditions hold
   pub image-check : Check (image-refusal bs) (Image-right bs) (Image-row bs)
   image-check = checks image-table right unrefused
@@ -117,44 +105,3 @@ module _ (bs : List ℕ) where
 
   pub image-right : image-refusal bs .number ≡ 0 → Image-right bs
   image-right = image-check .right
-
-  -- 1: exactly if the image is under 32 bytes
-  pub image-short : {o : ℕ} → image-refusal bs ≡ refusal 1 o → (length bs < Format.map-offset) × (o ≡ length bs)
-  image-short e = go (row-of image-table e)
-    where
-      go : {o : ℕ} → Image-row bs 1 o → (length bs < Format.map-offset) × (o ≡ length bs)
-      go (short-image h) = (h, refl)
-
-  pub short-refused : length bs < Format.map-offset → image-refusal bs ≡ refusal 1 (length bs)
-  short-refused h = row-answers 1 (length bs) (short-image h)
-
-  -- 2 to 6: what is wrong, and that the place is the first that is
-  pub first-wrong-pair : {o : ℕ} → image-refusal bs ≡ refusal 2 o → First-wrong-pair bs o
-  first-wrong-pair e = go (row-of image-table e)
-    where
-      go : {o : ℕ} → Image-row bs 2 o → First-wrong-pair bs o
-      go (wrong-pair h f) = f
-
-  pub first-wrong-count : {o : ℕ} → image-refusal bs ≡ refusal 3 o → First-wrong-count bs o
-  first-wrong-count e = go (row-of image-table e)
-    where
-      go : {o : ℕ} → Image-row bs 3 o → First-wrong-count bs o
-      go (wrong-count d f) = f
-
-  pub length-wrong : {o : ℕ} → image-refusal bs ≡ refusal 4 o → (o ≡ 20) × (Length-right bs → ⊥)
-  length-wrong e = go (row-of image-table e)
-    where
-      go : {o : ℕ} → Image-row bs 4 o → (o ≡ 20) × (Length-right bs → ⊥)
-      go (wrong-length d c n) = (refl, n)
-
-  pub first-wrong-class : {o : ℕ} → image-refusal bs ≡ refusal 5 o → First-wrong-class bs o
-  first-wrong-class e = go (row-of image-table e)
-    where
-      go : {o : ℕ} → Image-row bs 5 o → First-wrong-class bs o
-      go (wrong-class d c l f) = f
-
-  pub first-bad-rule : {o : ℕ} → image-refusal bs ≡ refusal 6 o → First-bad-rule bs o
-  first-bad-rule e = go (row-of image-table e)
-    where
-      go : {o : ℕ} → Image-row bs 6 o → First-bad-rule bs o
-      go (bad-rule d c l m f) = f

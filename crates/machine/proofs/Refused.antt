@@ -1,5 +1,5 @@
 -- Refusals one after another: what it means that none is given, and what the check's answer says of the definition. Assumes nothing.
-use mathlib.Core.Path.{_≡_, refl, sym, ap, _∙_}
+use mathlib.Core.Path.{_≡_, refl}
 use mathlib.Core.Bool.{Bool, true, false, cond}
 use mathlib.Core.List.{List}
 use Prim.Native.Nat.{ℕ, suc, _<_, _≤_}
@@ -10,9 +10,7 @@ use borrow.Author.Tests.{lt-ltb, le-ltb, ltb-false, eq-eqb, ne-eqb, eqb-true, eq
 use Rattle.machine.specs.declared.Refusal.{Refusal}
 use Rattle.machine.specs.Format
 use Rattle.machine.specs.Image.{byte}
-use Rattle.machine.specs.declared.Checked.the-variants.{Good, Refused}
 use Rattle.machine.specs.Refusals.{refusal, fine, or-else, refuse-if, image-refusal, capture-refusal, Unrefused}
-use Rattle.machine.specs.Calls.{checked}
 
 -- no refusal, as a record: what is said of a chain of tests is then read off the chain
 pub record Fine (f : Refusal) : Type 0 where
@@ -31,22 +29,6 @@ pub not-refused : (t : Bool) (n p : ℕ) → Fine (refuse-if t (refusal (suc n) 
 unfolding refuse-if
 not-refused true n p e = absurd (omega (arith, e .none-such))
 not-refused false n p e = refl
-
-pub good-number : (f : Refusal) → checked f ≡ Good → f .number ≡ 0
-unfolding checked
-good-number f e = go (eqb (f .number) 0) refl e
-  where
-    go : (t : Bool) → eqb (f .number) 0 ≡ t → cond t Good (Refused f) ≡ Good → f .number ≡ 0
-    go true q h = eqb-true _ _ q
-    go false q h = absurd (let z : _≡_ {A = ℕ} 0 1 = cc in omega arith)
-
-pub refused-number : (f g : Refusal) → checked f ≡ Refused g → (g ≡ f) × (g .number ≡ 0 → ⊥)
-unfolding checked
-refused-number f g e = go (eqb (f .number) 0) refl e
-  where
-    go : (t : Bool) → eqb (f .number) 0 ≡ t → cond t Good (Refused f) ≡ Refused g → (g ≡ f) × (g .number ≡ 0 → ⊥)
-    go true q h = absurd (let z : _≡_ {A = ℕ} 0 1 = cc in omega arith)
-    go false q h = let s : g ≡ f = cc in (s, λ z. eqb-false (f .number) 0 q (sym (ap (λ (x : Refusal). x .number) s) ∙ z))
 
 -- with no refusal of 1 to 7 the image is good and the capture short
 pub capture-fine : (bs : List ℕ) (n : ℕ) → capture-refusal bs n .number ≡ 0 → (image-refusal bs .number ≡ 0) × (n ≤ Format.max-capture)

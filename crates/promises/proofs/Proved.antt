@@ -12,13 +12,13 @@ use Rattle.machine.proofs.NotesImplied.{noted-implies}
 use Rattle.chain.proofs.ChainJudges.{chain-judges}
 use Rattle.simulator.proofs.ConditionsMet.{judging-answer}
 use Rattle.simulator.proofs.Answered.{later-kept}
-use Rattle.simulator.proofs.Determined.{judge-determined, judge-forgets}
+use Rattle.simulator.proofs.Determined.{judge-determined, judge-independent}
 use Rattle.simulator.proofs.Needing.{cells-are}
 use Rattle.simulator.proofs.JudgeLoop.{start-is}
 use Rattle.simulator.proofs.Promised.{verdict-there, verdict-exact, looping-exact, readings-entered, readings-noted, entered-numbered, notes-left, unentered-zero, notes-tell, by-the-chain, work-cleared}
 use Rattle.interpreter.proofs.ConditionsMet.{running-answer}
 use Rattle.interpreter.proofs.Promised.{plain-run-true}
-use Rattle.interpreter.proofs.Answered.{run-determined, run-forgets}
+use Rattle.interpreter.proofs.Answered.{run-determined, run-independent}
 use Rattle.grammar.proofs.ConditionsMet.{grammar-answer}
 use Rattle.grammar.proofs.BuildingMet.{building-answer}
 use Rattle.grammar.proofs.BuiltGood.{built-good}
@@ -26,11 +26,11 @@ use Rattle.grammar.proofs.BuiltImage.{built-length-is}
 use Rattle.grammar.proofs.LongestImage.{longest-image, longest-there}
 use Rattle.grammar.proofs.RangeClasses.{classes-count, range-classes}
 use Rattle.grammar.proofs.Promised.{built-parses, few-readings}
-use Rattle.grammar.proofs.Answered.{build-determined, build-forgets}
+use Rattle.grammar.proofs.Answered.{build-determined, build-independent}
 use Rattle.answer.proofs.ConditionsMet.{input-answer, input-parts}
 use Rattle.answer.proofs.AnsweringMet.{answering-answer}
 use Rattle.answer.proofs.Promised.{line-whole, answer-determined, unread-refused, refusals-left}
-use Rattle.answer.proofs.Answered.{line-parsed, answer-forgets}
+use Rattle.answer.proofs.Answered.{line-parsed, answer-independent}
 use Rattle.answer.proofs.TwoCallsHold.{loops-exact, build-then-judge}
 use Rattle.captures.proofs.CapturesHold.{captures-hold, c1-image, c1-cells, c1-plain-runs}
 use Rattle.captures.proofs.ProgramPrints.{endless-printed}
@@ -56,10 +56,10 @@ promises =
       run-determined = run-determined;
       build-determined = build-determined;
       answer-determined = answer-determined;
-      judge-forgets = judge-forgets;
-      run-forgets = run-forgets;
-      build-forgets = build-forgets;
-      answer-forgets = answer-forgets;
+      judge-independent = judge-independent;
+      run-independent = run-independent;
+      build-independent = build-independent;
+      answer-independent = answer-independent;
       judge-later = later-kept;
       verdict-there = verdict-there;
       one-verdict = one-verdict;

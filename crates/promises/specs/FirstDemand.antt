@@ -97,8 +97,8 @@ Answer-determined =
     (y ≡ z) × (p ≡ q) × (n ≡ m)
 
 -- EARLIER CONTENTS DON'T MATTER: whatever stood in slices of these lengths, the answer is the same, and so is every cell that the call writes
-abbrev pub Judge-forgets : Type 0
-Judge-forgets =
+abbrev pub Judge-independent : Type 0
+Judge-independent =
     (bs cs a b a′ b′ : List ℕ) (r s : Judged) (x y x′ y′ : List ℕ) → length a ≡ length a′ → length b ≡ length b′ →
     Judge-says bs cs r a x b y → Judge-says bs cs s a′ x′ b′ y′ →
     (r ≡ s)
@@ -106,18 +106,18 @@ Judge-forgets =
     (take (how-many (machine bs cs)) x ≡ take (how-many (machine bs cs)) x′)
     × (take (how-many (machine bs cs)) y ≡ take (how-many (machine bs cs)) y′))
 
-abbrev pub Run-forgets : Type 0
-Run-forgets =
+abbrev pub Run-independent : Type 0
+Run-independent =
     (bs cs : List ℕ) (n : ℕ) (r s : Ran) (a a′ x y : List ℕ) → length a ≡ length a′ → Run-says bs cs n r a x → Run-says bs cs n s a′ y →
     (r ≡ s) × (run-refusal bs cs (length a) .number ≡ 0 → x ≡ y)
 
-abbrev pub Build-forgets : Type 0
-Build-forgets =
+abbrev pub Build-independent : Type 0
+Build-independent =
     (gs : List ℕ) (r s : Built) (a a′ x y : List ℕ) → length a ≡ length a′ → Build-says gs r a x → Build-says gs s a′ y →
     (r ≡ s) × (build-refusal gs (length a) .number ≡ 0 → take (built-length gs) x ≡ take (built-length gs) y)
 
-abbrev pub Answer-forgets : Type 0
-Answer-forgets =
+abbrev pub Answer-independent : Type 0
+Answer-independent =
     (xs : List ℕ) (x y z w : Lent) (out p out′ q : List ℕ) (n m : ℕ) → Same-room x z → length out ≡ length out′ → Answer-says xs x y out p n →
     Answer-says xs z w out′ q m →
     (n ≡ m) × (take n p ≡ take n q) × (answer-refusal xs x .number ≡ 0 → Same-cells (input-grammar xs) (input-capture xs) y w)

@@ -22,10 +22,10 @@ pub record Promises : Type 0 where
   pub run-determined : First.Run-determined
   pub build-determined : First.Build-determined
   pub answer-determined : First.Answer-determined
-  pub judge-forgets : First.Judge-forgets
-  pub run-forgets : First.Run-forgets
-  pub build-forgets : First.Build-forgets
-  pub answer-forgets : First.Answer-forgets
+  pub judge-independent : First.Judge-independent
+  pub run-independent : First.Run-independent
+  pub build-independent : First.Build-independent
+  pub answer-independent : First.Answer-independent
   pub judge-later : First.Judge-later
   -- the second demand: verdicts
   pub verdict-there : Second.Verdict-there

@@ -1,16 +1,14 @@
 -- The call's answer and the cells that it leaves are determined by its input; earlier contents of the first N cells don't matter. Assumes nothing.
-use mathlib.Core.Path.{_≡_, refl, sym, _∙_, ap, subst}
+use mathlib.Core.Path.{_≡_, sym, _∙_, ap, subst}
 use mathlib.Core.List.{List, _++_}
 use Prim.Native.Nat.{ℕ, zero, suc}
 use native.Mathlib.Omega.{arith}
 use lib.ListN.{length, take, drop, replicate, length-replicate}
 use lib.Seq.{take-at}
-use Rattle.machine.specs.declared.Config.{Config}
 use Rattle.machine.specs.declared.Refusal.{Refusal}
-use Rattle.machine.specs.declared.Verdict.{Verdict}
-use Rattle.machine.specs.Run.{Machine, how-many}
+use Rattle.machine.specs.Run.{how-many}
 use Rattle.machine.specs.Image.{machine}
-use Rattle.machine.specs.Verdicts.{Says, nonzero}
+use Rattle.machine.specs.Verdicts.{nonzero}
 use Rattle.machine.proofs.Notes.{one-notes}
 use Rattle.machine.proofs.OneVerdict.{one-verdict}
 use Rattle.simulator.specs.declared.Judged.{Judged}
@@ -56,18 +54,18 @@ judge-determined bs cs a b r s x y x′ y′ f g =
     by-number (judge-refusal bs cs (length a) (length b) .number) (judge-refusal bs cs (length a) (length b)) bs cs a b r s x y x′ y′ f g
 
 -- EARLIER CONTENTS DON'T MATTER: slices of the same lengths get the same answer and the same first N cells
-Forgets : (bs cs : List ℕ) → (k : ℕ) → (r s : Judged) → (x y x′ y′ : List ℕ) → Type 0
-Forgets bs cs k r s x y x′ y′ =
+Independent : (bs cs : List ℕ) → (k : ℕ) → (r s : Judged) → (x y x′ y′ : List ℕ) → Type 0
+Independent bs cs k r s x y x′ y′ =
     (r ≡ s)
     × (k ≡ 0 →
     (take (how-many (machine bs cs)) x ≡ take (how-many (machine bs cs)) x′)
     × (take (how-many (machine bs cs)) y ≡ take (how-many (machine bs cs)) y′))
 
-forgets-by :
+independent-by :
     (k : ℕ) (z : Refusal) (bs cs a b a′ b′ : List ℕ) (r s : Judged) (x y x′ y′ : List ℕ) → Judge-as k z bs cs r a x b y →
-    Judge-as k z bs cs s a′ x′ b′ y′ → Forgets bs cs k r s x y x′ y′
-unfolding Judge-as Forgets
-forgets-by zero z bs cs a b a′ b′ r s x y x′ y′ f g =
+    Judge-as k z bs cs s a′ x′ b′ y′ → Independent bs cs k r s x y x′ y′
+unfolding Judge-as Independent
+independent-by zero z bs cs a b a′ b′ r s x y x′ y′ f g =
     let n = how-many (machine bs cs) in
     let same = same-answer bs cs a b a′ b′ r s x y x′ y′ f g in
     let first = ap (take n) (f .notes-now) ∙ take-at (f .notes) (drop n a) n (f .noted-cells) in
@@ -75,17 +73,17 @@ forgets-by zero z bs cs a b a′ b′ r s x y x′ y′ f g =
     let zeros = ap (take n) (f .work-now) ∙ take-at (replicate n 0) (drop n b) n (length-replicate n 0) in
     let zeros′ = ap (take n) (g .work-now) ∙ take-at (replicate n 0) (drop n b′) n (length-replicate n 0) in
     (same .answers, λ e. (first ∙ same .notes ∙ sym second, zeros ∙ sym zeros′))
-forgets-by (suc k) z bs cs a b a′ b′ r s x y x′ y′ f g = (f .0 ∙ sym (g .0), λ e. absurd (omega arith))
+independent-by (suc k) z bs cs a b a′ b′ r s x y x′ y′ f g = (f .0 ∙ sym (g .0), λ e. absurd (omega arith))
 
-pub judge-forgets :
+pub judge-independent :
     (bs cs a b a′ b′ : List ℕ) (r s : Judged) (x y x′ y′ : List ℕ) → length a ≡ length a′ → length b ≡ length b′ →
     Judge-says bs cs r a x b y → Judge-says bs cs s a′ x′ b′ y′ →
     (r ≡ s)
     × (judge-refusal bs cs (length a) (length b) .number ≡ 0 →
     (take (how-many (machine bs cs)) x ≡ take (how-many (machine bs cs)) x′)
     × (take (how-many (machine bs cs)) y ≡ take (how-many (machine bs cs)) y′))
-unfolding Judge-says Forgets
-judge-forgets bs cs a b a′ b′ r s x y x′ y′ p q f g =
+unfolding Judge-says Independent
+judge-independent bs cs a b a′ b′ r s x y x′ y′ p q f g =
     let same : judge-refusal bs cs (length a′) (length b′) ≡ judge-refusal bs cs (length a) (length b) = rw (p, q) in
-    forgets-by (judge-refusal bs cs (length a) (length b) .number) (judge-refusal bs cs (length a) (length b)) bs cs a b a′ b′ r s x y x′ y′ f
+    independent-by (judge-refusal bs cs (length a) (length b) .number) (judge-refusal bs cs (length a) (length b)) bs cs a b a′ b′ r s x y x′ y′ f
     (subst (λ (z : Refusal). Judge-as (z .number) z bs cs s a′ x′ b′ y′) same g)

@@ -1,5 +1,5 @@
 -- What judging promises beyond its contract: every unrefused image and capture has a verdict, reported readings count the configurations entered, and the notes left speak of each of them. Assumes nothing.
-use mathlib.Core.Path.{_≡_, refl, sym, ap, subst, _∙_}
+use mathlib.Core.Path.{_≡_, sym, ap, subst, _∙_}
 use mathlib.Core.List.{List, _++_}
 use mathlib.Core.Logic.{_↔_}
 use mathlib.Core.Option.{some}

@@ -32,14 +32,26 @@ line-of-requires c κs = search needs
 array-share-prefix-line : tie.Need-array-share-prefix-line
 array-share-prefix-line c = search needs
 
-slice-aggregate-write-whole : tie.Need-slice-aggregate-write-whole
-slice-aggregate-write-whole c = sym (length-take-le _ _ (c .before .before .before .before .before .line-of .ensures .within))
+slice-aggregate-write-on : tie.Need-slice-aggregate-write-on
+slice-aggregate-write-on c = sym (length-take-le _ _ (c .before .before .before .before .before .line-of .ensures .within))
 
-write-whole-requires : tie.Need-write-whole-requires
-write-whole-requires c κs = search needs
+write-on-requires : tie.Need-write-on-requires
+write-on-requires c κs = search needs
+
+cut-short-requires : tie.Need-cut-short-requires
+cut-short-requires c κs = search needs
+
+slice-aggregate-fail : tie.Need-slice-aggregate-fail
+slice-aggregate-fail c = search needs
+
+fail-requires : tie.Need-fail-requires
+fail-requires c κs = search needs
 
 returns : tie.Need-returns
 returns c = search needs
+
+returns-2 : tie.Need-returns-2
+returns-2 c = search needs
 
 pub main-spec : {M : Type 1} → statement M
 main-spec =
@@ -54,6 +66,10 @@ main-spec =
     slice-aggregate-line-of-5
     line-of-requires
     array-share-prefix-line
-    slice-aggregate-write-whole
-    write-whole-requires
-    returns)
+    slice-aggregate-write-on
+    write-on-requires
+    cut-short-requires
+    slice-aggregate-fail
+    fail-requires
+    returns
+    returns-2)
