@@ -97,6 +97,7 @@ promises =
       chain-judges = chain-judges;
       start-made = start-is;
       judge-by-chain = by-the-chain;
+      few-steps = λ bs cs a a-now b b-now v n d bytes says. let c = by-the-chain bs cs a a-now b b-now v n d bytes says in (c .steps, c .few, c .verdict-is, c .not-before);
       work-cleared = work-cleared;
       line-says = line-parsed;
       input-is = input-parts;

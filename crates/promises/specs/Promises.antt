@@ -65,6 +65,7 @@ pub record Promises : Type 0 where
   pub chain-judges : Third.Chain-judges
   pub start-made : Third.Start-made
   pub judge-by-chain : Third.Judge-by-chain
+  pub few-steps : Third.Few-steps
   pub work-cleared : Third.Work-cleared
   -- what users get
   pub line-says : Users.Line-says

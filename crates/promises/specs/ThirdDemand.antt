@@ -1,7 +1,7 @@
 -- THE THIRD DEMAND: reported readings are exactly the number of different configurations that the run enters; for a grammar few; the notes name for each the one that pops its entry; the judge's own steps, one chain, reach answer and notes within 4 r + 1. Assumes nothing: each claim is a type, and proofs/ has its proof.
 use mathlib.Core.Path.{_≡_}
 use mathlib.Core.List.{List}
-use mathlib.Core.Option.{some}
+use mathlib.Core.Option.{none, some}
 use Prim.Native.Nat.{ℕ, _+_, _*_, _<_, _≤_}
 use lib.ListN.{length, getD, take, drop, replicate}
 use Rattle.machine.specs.declared.Config.{Config}
@@ -15,7 +15,7 @@ use Rattle.machine.specs.Implications.{Noted-by-implication}
 use Rattle.machine.specs.Refusals.{Unrefused}
 use Rattle.chain.specs.declared.Record.{Record}
 use Rattle.chain.specs.Ready.{start-record}
-use Rattle.chain.specs.Chain.{Judges, begin-record, chain}
+use Rattle.chain.specs.Chain.{Judges, begin-record, chain, reached}
 use Rattle.simulator.specs.declared.Judged.the-variants.{Answer}
 use Rattle.simulator.specs.Calls.{Chain-ends, Judge-says}
 use Rattle.grammar.specs.Grammar.{rules, grammar-refusal}
@@ -110,6 +110,13 @@ abbrev pub Judge-by-chain : Type 0
 Judge-by-chain =
     (bs cs a a-now b b-now : List ℕ) (v : Verdict) (n : ℕ) (d : Config) → Bytes cs → Judge-says bs cs (Answer v n d) a a-now b b-now →
     Chain-ends bs cs v n d (take (how-many (machine bs cs)) a-now)
+
+-- the number itself: with n readings the chain's first verdict stands after 4 n + 1 steps at most, and it is the call's
+abbrev pub Few-steps : Type 0
+Few-steps =
+    (bs cs a a-now b b-now : List ℕ) (v : Verdict) (n : ℕ) (d : Config) → Bytes cs → Judge-says bs cs (Answer v n d) a a-now b b-now →
+    (k : ℕ) × (k ≤ 4 * n + 1) × (chain .verdict (reached chain bs cs k .now-at) ≡ some v)
+    × ((m : ℕ) → m < k → chain .verdict (reached chain bs cs m .now-at) ≡ none)
 
 -- THE FIRST N WORK CELLS ARE 0
 abbrev pub Work-cleared : Type 0
