@@ -1,12 +1,37 @@
 -- Offsets and limits of the image, by name: the one place that says them. Assumes nothing: these are definitions.
 use Prim.Native.Nat.{ℕ}
 
+-- the directory: where the pair of each section stands, and the place of the third pair's length
+abbrev pub counts-pair : ℕ
+counts-pair = 0
+
+abbrev pub map-pair : ℕ
+map-pair = 8
+
+abbrev pub rules-pair : ℕ
+rules-pair = 16
+
+abbrev pub rules-size : ℕ
+rules-size = 20
+
 -- sections: the counts and finals, the class map, the rules
 abbrev pub counts-offset : ℕ
 counts-offset = 24
 
 abbrev pub counts-length : ℕ
 counts-length = 8
+
+abbrev pub states-offset : ℕ
+states-offset = 24
+
+abbrev pub classes-offset : ℕ
+classes-offset = 25
+
+abbrev pub symbols-offset : ℕ
+symbols-offset = 26
+
+abbrev pub zero-offset : ℕ
+zero-offset = 27
 
 abbrev pub finals-offset : ℕ
 finals-offset = 28
@@ -20,6 +45,10 @@ map-length = 256
 abbrev pub rules-offset : ℕ
 rules-offset = 288
 
+-- a rule's bytes: kind, state, symbol, direction
+abbrev pub rule-length : ℕ
+rule-length = 4
+
 abbrev pub max-states : ℕ
 max-states = 32
 
@@ -32,3 +61,7 @@ max-symbols = 128
 -- the longest capture, in bytes
 abbrev pub max-capture : ℕ
 max-capture = 65535
+
+-- the most tape places: the longest capture's and the two markers
+abbrev pub max-places : ℕ
+max-places = 65537

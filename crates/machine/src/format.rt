@@ -1,5 +1,14 @@
 // Offsets and limits of the image, by name: the one place of the code that says them, as specs/Format.antt does for the contracts.
 
+// The directory: where the pair of each section stands, and the place of the third pair's length.
+pub const COUNTS_PAIR: usize = 0;
+
+pub const MAP_PAIR: usize = 8;
+
+pub const RULES_PAIR: usize = 16;
+
+pub const RULES_SIZE: usize = 20;
+
 // Sections: the counts and finals, the class map, the rules.
 pub const COUNTS_OFFSET: usize = 24;
 
