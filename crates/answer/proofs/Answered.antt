@@ -10,7 +10,7 @@ use lib.ListN.{length, take, drop}
 use lib.Seq.{getD-drop, take-at}
 use borrow.Author.Tests.{eqb-true, eqb-false}
 use Rattle.machine.specs.declared.Refusal.{Refusal}
-use Rattle.machine.specs.Image.{byte}
+use Rattle.codec.specs.Bytes.{byte}
 use Rattle.machine.specs.Refusals.{or-else}
 use Rattle.machine.proofs.Refused.{neither}
 use Rattle.simulator.specs.declared.Judged.{Judged}
@@ -22,9 +22,9 @@ use Rattle.grammar.specs.Image.{built, built-length}
 use Rattle.grammar.specs.Calls.{build-refusal}
 use Rattle.grammar.proofs.Answered.{build-fine}
 use Rattle.grammar.proofs.BuiltImage.{built-length-is}
-use Rattle.answer.specs.Text.{refusal-line, answer-line, judged-line, written, Lined}
+use Rattle.text.specs.Line.{refusal-line, answer-line, written, Lined}
 use Rattle.answer.specs.Input.{input-refusal, input-grammar, input-capture, capture-offset}
-use Rattle.answer.specs.Calls.{Lent, Refuses, Judges, parts-refusal, lent-refusal, Parts-as, Parts-say, answer-refusal, Input-as, Input-says, Answer-says, Same-room, Same-cells}
+use Rattle.answer.specs.Calls.{judged-line, Lent, Refuses, Judges, parts-refusal, lent-refusal, Parts-as, Parts-say, answer-refusal, Input-as, Input-says, Answer-says, Same-room, Same-cells}
 use Rattle.answer.specs.TwoCalls.{Gets, Line-parsed}
 use Rattle.answer.proofs.TwoCallsHold.{gets}
 

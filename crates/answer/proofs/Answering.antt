@@ -13,9 +13,9 @@ use Rattle.grammar.specs.declared.Built.the-variants.{Refused, Image}
 use Rattle.grammar.specs.Image.{built, built-length}
 use Rattle.grammar.specs.Calls.{build-refusal, Build-as, Build-says}
 use Rattle.grammar.proofs.BuiltImage.{built-length-is}
-use Rattle.answer.specs.Text.{refusal-line, judged-line, Lined}
+use Rattle.text.specs.Line.{refusal-line, Lined}
 use Rattle.answer.specs.Input.{input-refusal, input-grammar, input-capture}
-use Rattle.answer.specs.Calls.{Lent, lent, lent-refusal, Judges, Parts-as, Parts-say, Input-as, Input-says, Told, Answer-says}
+use Rattle.answer.specs.Calls.{judged-line, Lent, lent, lent-refusal, Judges, Parts-as, Parts-say, Input-as, Input-says, Told, Answer-says}
 
 -- with nothing refused building is not refused
 never-as : (n : ℕ) (f g : Refusal) (gs : List ℕ) (r : Built) (m p : List ℕ) → n ≡ 0 → Build-as n g gs r m p → r ≡ Refused f → ⊥

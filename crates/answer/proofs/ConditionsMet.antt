@@ -8,9 +8,9 @@ use native.Mathlib.Omega.{arith}
 use lib.Dec.{ltb}
 use lib.ListN.{length, take, drop, length-take, length-drop, take-append-drop}
 use lib.Seq.{drop-drop}
-use Rattle.machine.specs.Image.{four}
+use Rattle.codec.specs.Numbers.{pair-at}
 use Rattle.machine.specs.Refusals.{refusal, fine}
-use Rattle.answer.specs.Input.{pairs-length, max-input, capture-offset, first-pair-right, second-pair-right, input-refusal, input-grammar, input-capture}
+use Rattle.answer.specs.Input.{pairs-length, grammar-pair, capture-pair, max-input, capture-offset, first-pair-right, second-pair-right, input-refusal, input-grammar, input-capture}
 use Rattle.answer.specs.Conditions.{Input-length-right, Input-right, Input-parts, First-pair-right, Second-pair-right, Input-row, unrefused-input, wrong-input-length, wrong-first-pair, wrong-second-pair}
 use Rattle.machine.proofs.Reflects.{Reflects, when-holds, when-fails, decided, restated, equal, at-most, both, Refuses, when-refused, passing, refuses-as, over, any-of}
 use Rattle.machine.proofs.Rows.{Some-row, Table, row-numbered, exactly}
@@ -39,8 +39,8 @@ module _ (xs : List ℕ) where
   from-pairs l f s =
       record {
         long = l;
-        grammar-length = four xs 4;
-        capture-length = four xs 12;
+        grammar-length = pair-at xs grammar-pair .long;
+        capture-length = pair-at xs capture-pair .long;
         first-pair = record { offset-is = f .offset-is; length-is = refl };
         second-pair = record { offset-is = s .offset-is; length-is = refl };
         nothing-after = s .nothing-after;
@@ -66,8 +66,8 @@ module _ (xs : List ℕ) where
     where
       go : Dec (Input-length-right xs) → Dec (First-pair-right xs) → Dec (Second-pair-right xs) → Some-row (Input-row xs)
       go (no n) f s = (14, 0, wrong-input-length n)
-      go (yes l) (no n) s = (14, 0, wrong-first-pair l n)
-      go (yes l) (yes f) (no n) = (14, 8, wrong-second-pair l f n)
+      go (yes l) (no n) s = (14, grammar-pair, wrong-first-pair l n)
+      go (yes l) (yes f) (no n) = (14, capture-pair, wrong-second-pair l f n)
       go (yes l) (yes f) (yes s) = (0, 0, unrefused-input (from-pairs l f s))
 
   -- AND ITS ROW IS THE CHECK'S ANSWER
@@ -98,19 +98,19 @@ module _ (xs : List ℕ) where
   input-accepted r = row-answers 0 0 (unrefused-input r)
 
   -- THE PARTS of an input that is not refused
-  capture-is : input-capture xs ≡ drop (four xs 4) (drop pairs-length xs)
+  capture-is : input-capture xs ≡ drop (pair-at xs grammar-pair .long) (drop pairs-length xs)
   unfolding input-capture capture-offset
-  capture-is = sym (drop-drop (four xs 4) pairs-length xs)
+  capture-is = sym (drop-drop (pair-at xs grammar-pair .long) pairs-length xs)
 
   parts-whole : take pairs-length xs ++ (input-grammar xs ++ input-capture xs) ≡ xs
   unfolding input-grammar
-  parts-whole = rw (capture-is, take-append-drop (four xs 4) (drop pairs-length xs)) (take-append-drop pairs-length xs)
+  parts-whole = rw (capture-is, take-append-drop (pair-at xs grammar-pair .long) (drop pairs-length xs)) (take-append-drop pairs-length xs)
 
-  grammar-long : First-pair-right xs → length (input-grammar xs) ≡ four xs 4
+  grammar-long : First-pair-right xs → length (input-grammar xs) ≡ pair-at xs grammar-pair .long
   unfolding input-grammar
   grammar-long f = simp (length-take, length-drop) (omega (arith, f .within))
 
-  capture-long : Second-pair-right xs → length (input-capture xs) ≡ four xs 12
+  capture-long : Second-pair-right xs → length (input-capture xs) ≡ pair-at xs capture-pair .long
   unfolding input-capture capture-offset
   capture-long s = simp length-drop (omega (arith, s .nothing-after))
 

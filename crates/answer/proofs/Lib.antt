@@ -1,7 +1,4 @@
 -- Laws that the proofs of the answer's functions cite.
-pub mod Writing
-pub mod Decimal
-pub mod LineLength
 pub mod InputLaws
 pub mod ConditionsMet
 pub mod Refusing

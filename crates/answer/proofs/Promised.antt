@@ -16,10 +16,10 @@ use Rattle.simulator.proofs.Determined.{judge-determined}
 use Rattle.grammar.specs.Grammar.{grammar-refusal}
 use Rattle.grammar.specs.Image.{built}
 use Rattle.grammar.proofs.BuiltGood.{built-good}
-use Rattle.answer.specs.Text.{line-feed, field, refused-word, refusal-line, judged-line, written, max-line, Lined}
+use Rattle.text.specs.Line.{line-feed, field, refused-word, refusal-line, written, max-line, Lined}
 use Rattle.answer.specs.Input.{input-refusal}
-use Rattle.answer.specs.Calls.{Lent, Judges, Parts-as, Parts-say, Input-as, Input-says, Answer-says}
-use Rattle.answer.proofs.Writing.{written-whole}
+use Rattle.answer.specs.Calls.{judged-line, Lent, Judges, Parts-as, Parts-say, Input-as, Input-says, Answer-says}
+use Rattle.text.proofs.Writing.{written-whole}
 
 pub line-whole :
     (line buffer buffer-now : List ℕ) (count : ℕ) → Lined line buffer buffer-now count → max-line ≤ length buffer →

@@ -10,14 +10,16 @@ use borrow.Author.Tests.{le-ltb, eq-eqb}
 use Rattle.machine.specs.declared.Config.{Config}
 use Rattle.machine.specs.declared.Refusal.{Refusal}
 use Rattle.machine.specs.declared.Verdict.{Verdict}
-use Rattle.machine.specs.declared.Verdict.the-variants.{Accepted, Ended, Stuck, Looping, Spent, Deep}
+use Rattle.machine.specs.declared.Verdict.the-variants.{Accepted, Ended, Stuck, Looping}
 use Rattle.machine.specs.Format
-use Rattle.machine.specs.Image.{Bytes, machine}
+use Rattle.codec.specs.Bytes.{Bytes}
+use Rattle.machine.specs.Image.{machine}
 use Rattle.machine.specs.Verdicts.{Goes-on, Says}
 use Rattle.machine.specs.Refusals.{or-else, refuse-if, image-refusal}
+use Rattle.machine.proofs.Halts.{says-looping}
 use Rattle.machine.proofs.OneVerdict.{one-verdict, goes-on-loops}
 use Rattle.simulator.specs.declared.Judged.{Judged}
-use Rattle.simulator.specs.Calls.{Right, Judge-says}
+use Rattle.simulator.specs.Calls.{Judged-right, Judge-says}
 use Rattle.simulator.proofs.Answered.{judged-right}
 use Rattle.simulator.proofs.Promised.{verdict-there}
 use Rattle.simulator.proofs.JudgeRefusals.{not-refused}
@@ -40,9 +42,7 @@ parsed-as : (gs cs : List ℕ) → Parses-right (machine (built gs) cs) (express
 parsed-as gs cs b Accepted d s = b .accepted-parses d s
 parsed-as gs cs b Ended d s = b .never-ended d s
 parsed-as gs cs b Stuck d s = b .stuck-parses d s
-parsed-as gs cs b Looping d s = λ o p. b .parses-halts o p (s .0)
-parsed-as gs cs b Spent d s = s
-parsed-as gs cs b Deep d s = s
+parsed-as gs cs b Looping d s = λ o p. b .parses-halts o p (says-looping s .0)
 
 -- and no other verdict is
 module _ (gs cs : List ℕ) (b : Parses-right (machine (built gs) cs) (expression gs) cs) (v : Verdict) (d : Config) (s : Says (machine (built gs) cs) v d) where
@@ -57,23 +57,19 @@ module _ (gs cs : List ℕ) (b : Parses-right (machine (built gs) cs) (expressio
       go Ended p e = absurd p
       go Stuck p e = absurd (none-parses (p .0) (p .1))
       go Looping p e = e
-      go Spent p e = absurd p
-      go Deep p e = absurd p
 
   only-as : (w : Verdict) → As-parsed gs cs w → w ≡ v
   only-as Accepted p = same-as Accepted (b .parses-accepted p)
   only-as Ended p = absurd p
   only-as Stuck p = same-as Stuck (b .parses-stuck (p .0) (p .1) (p .2))
   only-as Looping p = looping-only p v (parsed-as gs cs b v d s) refl
-  only-as Spent p = absurd p
-  only-as Deep p = absurd p
 
 -- looping, exactly where parsing has no result
 pub loops-exact :
     (gs cs : List ℕ) → grammar-refusal gs .number ≡ 0 → Bytes cs → length cs ≤ Format.max-capture →
     ((d : Config) × Says (machine (built gs) cs) Looping d) ↔ ((o : Option ℕ) → Parses (expression gs) cs 0 0 o → ⊥)
 loops-exact gs cs good bytes short =
-    (λ (d, s) o p. b .parses-halts o p (s .0), λ none-parses. loops (b .no-parse-goes-on none-parses))
+    (λ (d, s) o p. b .parses-halts o p (says-looping s .0), λ none-parses. loops (b .no-parse-goes-on none-parses))
   where
     b : Parses-right (machine (built gs) cs) (expression gs) cs
     b = built-parses gs cs good bytes
@@ -85,17 +81,17 @@ loops-exact gs cs good bytes short =
 
 pub gets :
     (gs cs notes notes-now work work-now : List ℕ) (r : Judged) → grammar-refusal gs .number ≡ 0 → Bytes cs →
-    Right (built gs) cs r notes notes-now work work-now → Gets gs cs r
+    Judged-right (built gs) cs r notes notes-now work work-now → Gets gs cs r
 gets gs cs notes notes-now work work-now r good bytes j =
     let b = built-parses gs cs good bytes in
     record {
-      verdict = j .verdict;
-      readings = j .readings;
-      end = j .end;
+      verdict = j .judgement .verdict;
+      readings = j .judgement .readings;
+      end = j .judgement .end;
       answers = j .answers;
-      parsed = parsed-as gs cs b (j .verdict) (j .end) (j .says);
-      only = only-as gs cs b (j .verdict) (j .end) (j .says);
-      few = rw (j .counted) (few-readings gs cs (j .notes) good bytes (j .noted));
+      parsed = parsed-as gs cs b (j .judgement .verdict) (j .judgement .end) (j .right .says);
+      only = only-as gs cs b (j .judgement .verdict) (j .judgement .end) (j .right .says);
+      few = rw (j .right .counted) (few-readings gs cs (j .notes) good bytes (j .right .noted));
     }
 
 -- with enough room neither call refuses
@@ -123,7 +119,7 @@ build-then-judge gs cs image image-now notes notes-now work work-now b r e built
     says : Judge-says (built gs) cs r notes notes-now work work-now
     says = subst (λ (bs : List ℕ). Judge-says bs cs r notes notes-now work work-now) same judge-says
 
-    right : Right (built gs) cs r notes notes-now work work-now
+    right : Judged-right (built gs) cs r notes notes-now work work-now
     right =
         judged-right (built gs) cs r notes notes-now work work-now
         (ap (λ (f : Refusal). f .number) (not-refused (built gs) cs (length notes) (length work) (ap (λ (f : Refusal). f .number) (sym (then-fine (built gs) (length cs) (image-refusal (built gs)) refl good (e .short)))) (e .notes-room) (e .work-room)))

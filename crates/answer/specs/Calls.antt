@@ -5,14 +5,20 @@ use Prim.Native.Nat.{ℕ, zero, suc}
 use lib.ListN.{length, take, drop}
 use Rattle.machine.specs.declared.Refusal.{Refusal}
 use Rattle.simulator.specs.declared.Judged.{Judged}
+use Rattle.simulator.specs.declared.Judged.the-variants.{Refused, Answer}
 use Rattle.machine.specs.Run.{how-many}
 use Rattle.machine.specs.Image.{machine}
 use Rattle.machine.specs.Refusals.{or-else}
 use Rattle.simulator.specs.Calls.{judge-refusal, Judge-says}
 use Rattle.grammar.specs.Image.{built, built-length}
 use Rattle.grammar.specs.Calls.{build-refusal}
-use Rattle.answer.specs.Text.{refusal-line, judged-line, Lined}
+use Rattle.text.specs.Line.{refusal-line, answer-line, Lined}
 use Rattle.answer.specs.Input.{input-refusal, input-grammar, input-capture}
+
+-- the line of what judging says
+unfoldable pub judged-line : Judged → List ℕ
+judged-line (Refused f) = refusal-line f
+judged-line (Answer j) = answer-line (j .verdict) (j .readings) (j .end)
 
 -- the image buffer, notes and work cells that a call is lent
 pub record Lent : Type 0 where

@@ -3,12 +3,12 @@ use mathlib.Core.Path.{_≡_}
 use mathlib.Core.List.{List, _++_}
 use Prim.Native.Nat.{ℕ, _+_, _≤_}
 use lib.ListN.{length, take}
-use Rattle.machine.specs.Image.{four}
+use Rattle.codec.specs.Numbers.{pair-at}
 use Rattle.machine.specs.Conditions.{Pair-right}
 use Rattle.simulator.specs.Conditions.{Judging-right, Judging-row}
 use Rattle.grammar.specs.Image.{built}
 use Rattle.grammar.specs.Conditions.{Building-right, Building-row}
-use Rattle.answer.specs.Input.{pairs-length, max-input, input-grammar, input-capture}
+use Rattle.answer.specs.Input.{pairs-length, grammar-pair, capture-pair, max-input, input-grammar, input-capture}
 use Rattle.answer.specs.Calls.{Lent}
 
 -- THE LENGTH: not under 16 and not over 65,536 bytes
@@ -21,8 +21,8 @@ pub record Input-right (xs : List ℕ) : Type 0 where
   pub long : Input-length-right xs
   pub grammar-length : ℕ
   pub capture-length : ℕ
-  pub first-pair : Pair-right xs 0 pairs-length grammar-length
-  pub second-pair : Pair-right xs 8 (pairs-length + grammar-length) capture-length
+  pub first-pair : Pair-right xs grammar-pair pairs-length grammar-length
+  pub second-pair : Pair-right xs capture-pair (pairs-length + grammar-length) capture-length
   pub nothing-after : length xs ≡ pairs-length + grammar-length + capture-length
 
 -- the parts of such an input: after the pairs comes the grammar, then the capture, and nothing after
@@ -33,20 +33,20 @@ pub record Input-parts (xs : List ℕ) (grammar-length capture-length : ℕ) : T
 
 -- THE PAIRS by themselves: the first is wrong also where 16 + g passes the input's length,
 pub record First-pair-right (xs : List ℕ) : Type 0 where
-  pub offset-is : four xs 0 ≡ pairs-length
-  pub within : pairs-length + four xs 4 ≤ length xs
+  pub offset-is : pair-at xs grammar-pair .offset ≡ pairs-length
+  pub within : pairs-length + pair-at xs grammar-pair .long ≤ length xs
 
 -- and the second also where 16 + g + n is not the input's length
 pub record Second-pair-right (xs : List ℕ) : Type 0 where
-  pub offset-is : four xs 8 ≡ pairs-length + four xs 4
-  pub nothing-after : length xs ≡ pairs-length + four xs 4 + four xs 12
+  pub offset-is : pair-at xs capture-pair .offset ≡ pairs-length + pair-at xs grammar-pair .long
+  pub nothing-after : length xs ≡ pairs-length + pair-at xs grammar-pair .long + pair-at xs capture-pair .long
 
 -- THE TABLE'S ROWS, a constructor each, by number and place; number 0 at place 0 is no refusal
 pub data Input-row (xs : List ℕ) : (number place : ℕ) → Type 0 where
   unrefused-input : Input-right xs → Input-row xs 0 0
   wrong-input-length : (Input-length-right xs → ⊥) → Input-row xs 14 0
-  wrong-first-pair : Input-length-right xs → (First-pair-right xs → ⊥) → Input-row xs 14 0
-  wrong-second-pair : Input-length-right xs → First-pair-right xs → (Second-pair-right xs → ⊥) → Input-row xs 14 8
+  wrong-first-pair : Input-length-right xs → (First-pair-right xs → ⊥) → Input-row xs 14 grammar-pair
+  wrong-second-pair : Input-length-right xs → First-pair-right xs → (Second-pair-right xs → ⊥) → Input-row xs 14 capture-pair
 
 -- THE CALL, with lent buffers: 14 of its input, then 11 to 13 of its grammar, then 7 to 9 of its capture; the image is one that is built, and so is right
 pub record Answering-right (xs : List ℕ) (x : Lent) : Type 0 where

@@ -6,16 +6,18 @@ use Prim.Native.Nat.{ℕ, _+_, _*_, _<_, _≤_}
 use lib.ListN.{length}
 use Rattle.machine.specs.declared.Config.{Config}
 use Rattle.machine.specs.declared.Verdict.{Verdict}
-use Rattle.machine.specs.declared.Verdict.the-variants.{Accepted, Ended, Stuck, Looping, Spent, Deep}
+use Rattle.machine.specs.declared.Verdict.the-variants.{Accepted, Ended, Stuck, Looping}
 use Rattle.machine.specs.Format
 use Rattle.machine.specs.Run.{how-many}
-use Rattle.machine.specs.Image.{byte, machine}
+use Rattle.codec.specs.Bytes.{byte}
+use Rattle.machine.specs.Image.{machine}
 use Rattle.simulator.specs.declared.Judged.{Judged}
 use Rattle.simulator.specs.declared.Judged.the-variants.{Answer}
+use Rattle.simulator.specs.Calls.{judgement}
 use Rattle.grammar.specs.Grammar.{rules, expression, grammar-refusal}
 use Rattle.grammar.specs.Parsing.{Parses}
 use Rattle.grammar.specs.Image.{built, built-length}
-use Rattle.answer.specs.Text.{answer-line}
+use Rattle.text.specs.Line.{answer-line}
 
 -- accepted: parsing from rule 0 consumes all; stuck: it has another result; looping: it has none; nothing else is said
 abbrev pub As-parsed : (grammar capture : List ℕ) → Verdict → Type 0
@@ -23,15 +25,13 @@ As-parsed gs cs Accepted = Parses (expression gs) cs 0 0 (some (length cs))
 As-parsed gs cs Ended = ⊥
 As-parsed gs cs Stuck = (o : Option ℕ) × Parses (expression gs) cs 0 0 o × (o ≡ some (length cs) → ⊥)
 As-parsed gs cs Looping = (o : Option ℕ) → Parses (expression gs) cs 0 0 o → ⊥
-As-parsed gs cs Spent = ⊥
-As-parsed gs cs Deep = ⊥
 
 -- an answer, the verdict as parsing says and no other, and few readings
 pub record Gets (gs cs : List ℕ) (r : Judged) : Type 0 where
   pub verdict : Verdict
   pub readings : ℕ
   pub end : Config
-  pub answers : r ≡ Answer verdict readings end
+  pub answers : r ≡ Answer (judgement verdict readings end)
   pub parsed : As-parsed gs cs verdict
   pub only : (v : Verdict) → As-parsed gs cs v → v ≡ verdict
   pub few : readings ≤ 6 * rules gs * (length cs + 1) + 2

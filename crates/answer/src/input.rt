@@ -1,6 +1,6 @@
 // The program's input: the pairs (16, g) and (16 + g, n), a grammar of g bytes, a capture of n, nothing after; and refusal 14.
+use codec::read_pair;
 use machine::Refusal;
-use machine::little_endian::four;
 ghost use mathlib.Core.Path.{_≡_};
 ghost use Prim.Native.Nat.{_≤_};
 ghost use lib.ListN.{length};
@@ -10,6 +10,11 @@ ghost use Rattle.answer.specs.Input.{pairs-length, capture-offset, first
 // The pairs' own length, where the grammar begins.
 pub const PAIRS_LENGTH: usize = 16;
 
+// Where the pairs stand.
+const GRAMMAR_PAIR: usize = 0;
+
+const CAPTURE_PAIR: usize = 8;
+
 // The longest input, in bytes.
 pub const MAX_INPUT: usize = 65536;
 
@@ -18,7 +23,8 @@ pub fn capture_offset(input: &[u8]) -> usize
     requires { ⌜ pairs-length ≤ length (now input) ⌝ }
     ensures { λ r. ⌜ r ≡ capture-offset (now (input .entry)) ⌝ }
 {
-    let long = four(input, 4) as usize;
+    let pair = read_pair(input, GRAMMAR_PAIR);
+    let long = pair.long as usize;
     PAIRS_LENGTH + long
 }
 
@@ -26,7 +32,8 @@ fn first_pair_right(input: &[u8]) -> bool
     requires { ⌜ pairs-length ≤ length (now input) ⌝ }
     ensures { λ r. ⌜ r ≡ first-pair-right (now (input .entry)) ⌝ }
 {
-    let offset = four(input, 0) as usize;
+    let pair = read_pair(input, GRAMMAR_PAIR);
+    let offset = pair.offset as usize;
     if offset != PAIRS_LENGTH {
         return false;
     }
@@ -38,12 +45,13 @@ fn second_pair_right(input: &[u8]) -> bool
     requires { ⌜ pairs-length ≤ length (now input) ⌝ }
     ensures { λ r. ⌜ r ≡ second-pair-right (now (input .entry)) ⌝ }
 {
-    let offset = four(input, 8) as usize;
+    let pair = read_pair(input, CAPTURE_PAIR);
+    let offset = pair.offset as usize;
     let middle = capture_offset(input);
     if offset != middle {
         return false;
     }
-    let long = four(input, 12) as usize;
+    let long = pair.long as usize;
     let end = middle + long;
     end == input.len()
 }
@@ -65,10 +73,10 @@ pub fn input_refusal(input: &[u8]) -> Refusal
         return refused(0);
     }
     if !first_pair_right(input) {
-        return refused(0);
+        return refused(GRAMMAR_PAIR);
     }
     if !second_pair_right(input) {
-        return refused(8);
+        return refused(CAPTURE_PAIR);
     }
     Refusal {
         number: 0,

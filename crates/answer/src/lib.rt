@@ -1,6 +1,5 @@
 // The program's answer: the line that it prints for an input, written into a lent buffer.
 pub mod input;
-pub mod text;
 
 use grammar::Built;
 use grammar::build::build_image;
@@ -22,8 +21,8 @@ ghost use Rattle.simulator.specs.Calls.{judge-refusal};
 ghost use Rattle.grammar.specs.Grammar.{grammar-refusal};
 ghost use Rattle.grammar.specs.Image.{built};
 ghost use Rattle.grammar.specs.Calls.{build-refusal};
-ghost use Rattle.answer.specs.Text.{judged-line, Lined};
-ghost use Rattle.answer.specs.Calls.{lent, Judges, Told, parts-refusal, Parts-say, Answer-says};
+ghost use Rattle.text.specs.Line.{Lined};
+ghost use Rattle.answer.specs.Calls.{judged-line, lent, Judges, Told, parts-refusal, Parts-say, Answer-says};
 
 // The line of what judging says.
 fn put_judged(out: &mut [u8], judged: Judged) -> usize
@@ -31,11 +30,10 @@ fn put_judged(out: &mut [u8], judged: Judged) -> usize
 {
     match judged {
         Judged::Refused(refusal) => put_refusal(out, refusal),
-        Judged::Answer {
-            verdict,
-            readings,
-            end,
-        } => put_answer(out, verdict, readings, end),
+        Judged::Answer(j) => {
+            let verdict = j.verdict;
+            put_answer(out, verdict, j.readings, j.end)
+        }
     }
 }
 

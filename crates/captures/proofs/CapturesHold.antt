@@ -2,19 +2,24 @@
 use mathlib.Core.Path.{_≡_, refl, ap}
 use mathlib.Core.List.{List, [], _∷_, map}
 use lib.ListN.{length, getD, drop}
-use Rattle.machine.specs.Run.{start, step, step-on, step-by, config-of, top, how-many, config-number, config-from}
-use Rattle.machine.specs.Image.{machine, four, states, classes, symbols, final, rule-offset, rule-from, rule-at, class-under, moved, action-by, action, accepting}
-use Rattle.machine.specs.Refusals.{or-else, refuse-if, pair-is, directory, counts, count-wrong, map-from, move-off, rule-bad, index-class, rules-from, rule-count, image-refusal}
-use Rattle.chain.specs.Turn.{turn, turn-by, look, unwind, unwound, cleared, closed, first-look, resumed, accepts, link}
-use Rattle.chain.specs.Chain.{reached, begun, chain, begin-record, verdict-of}
-use Rattle.chain.proofs.ChainJudges.{standing-at}
-use Rattle.interpreter.specs.PlainRun.{run-on, run-went, spent-or, ended-as}
+use Rattle.machine.specs.Halting.{stop-verdict, halt-verdict, accepts-by}
+use Rattle.machine.specs.Run.{start, step, step-on, step-by, config-of, top, how-many, number-by, config-by}
+use Rattle.codec.specs.Numbers.{number-at, little-endian, pair-bytes}
+use Rattle.machine.specs.Image.{machine, states, classes, symbols, rule-offset, rule-from, rule-at, class-under, moved, action-by, action, accepting, sizes-of}
+use Rattle.machine.specs.Encoding.{header, rule-bytes, rules-bytes, encode}
+use Rattle.machine.specs.Refusals.{or-else, refuse-if, pair-is, directory, counts, count-wrong, map-from, move-off, rule-bad, index-class, rule-count, image-refusal, rules-refusal-from}
+use Rattle.machine.specs.Verdicts.{note-of}
+use Rattle.chain.specs.Step.{judge-step, step-by-mode, look, unwind, unwound, cleared, closed, first-look, resumed, link}
+use Rattle.chain.specs.Chain.{reached, chain, verdict-of, started, start-state}
+use Rattle.chain.proofs.ChainJudges.{registers-at}
+use Rattle.interpreter.specs.PlainRun.{run-on, run-step, spent-or}
 use Rattle.grammar.specs.Grammar as Grammar
 use Rattle.grammar.specs.Classes.{cuts-at, cut-from, cut, class-of, class-count, class-in}
-use Rattle.grammar.specs.Image.{work-first, ok-first, fail-first, work-second, ok-second, fail-second, row-first, row-second, row-zero, class-inside, made, little-endian, rule-bytes, symbols-of, built-rules, rules-made, map-made, header, built}
-use Rattle.captures.specs.Captures.{Row, Row-holds, Each, nil, cons, table, image-of, source-refusal, row-machine, popping-image, empty-grammar, plain-table, Plain-holds}
-use Rattle.captures.proofs.ChainEnd.{turns}
-use Rattle.captures.proofs.RowLaws.{Found, found, found-by, said, ran-found, ran-said, chain-last, enough, all-bytes, found-holds}
+use Rattle.grammar.specs.Table.{rows, by-state, select, row-zero, class-inside, rows-at, made}
+use Rattle.grammar.specs.Image.{symbols-of, built-rules, rules-made, map-made, built, parts}
+use Rattle.captures.specs.Captures.{Row, Row-holds, Each, nil, cons, table, image-of, source-refusal, row-machine, popping-image, empty-grammar, plain-table, Plain-holds, popping-parts}
+use Rattle.captures.proofs.ChainEnd.{steps-on}
+use Rattle.captures.proofs.RowLaws.{Found, found, found-by, said, exit-verdict, ran-found, ran-said, chain-last, enough, all-bytes, found-holds}
 
 -- rows whose tests all pass
 each-holds : (rs : List Row) → map found rs ≡ map said rs → Each Row-holds rs
@@ -25,16 +30,16 @@ each-holds (r ∷ rs) e =
 -- THE TEST and C1's facts, computed
 computed :
     (map found table ≡ map said table) × (length (built empty-grammar) ≡ 468) × (how-many (machine (built empty-grammar) []) ≡ 30) × Each Plain-holds plain-table
-unfolding table plain-table found said found-by ran-found ran-said chain-last enough all-bytes turns image-of source-refusal row-machine popping-image
-    start step step-on step-by config-of top how-many config-number config-from
-    machine four states classes symbols final rule-offset rule-from rule-at class-under moved action-by action accepting
-    or-else refuse-if pair-is directory counts count-wrong map-from move-off rule-bad index-class rules-from rule-count image-refusal
-    turn turn-by look unwind unwound cleared closed first-look resumed accepts link reached begun chain begin-record verdict-of standing-at
-    run-on run-went spent-or ended-as
-    Grammar.rules Grammar.kind-of Grammar.b-of Grammar.c-of Grammar.expression-by Grammar.expression Grammar.rule-right Grammar.rules-from Grammar.grammar-refusal
+unfolding table plain-table found said found-by ran-found ran-said chain-last enough all-bytes steps-on image-of source-refusal row-machine popping-parts popping-image
+    start step step-on step-by config-of top how-many number-by config-by note-of sizes-of
+    machine number-at little-endian pair-bytes header rule-bytes rules-bytes encode states classes symbols rule-offset rule-from rule-at class-under moved action-by action accepting
+    or-else refuse-if pair-is directory counts count-wrong map-from move-off rule-bad index-class rules-refusal-from rule-count image-refusal
+    judge-step step-by-mode look unwind unwound cleared closed first-look resumed link reached started chain start-state verdict-of registers-at
+    run-on run-step spent-or exit-verdict stop-verdict halt-verdict accepts-by
+    Grammar.rules Grammar.kind-of Grammar.b-of Grammar.c-of Grammar.expression-by Grammar.expression Grammar.range-of Grammar.rule-right Grammar.rules-from Grammar.grammar-refusal
     cuts-at cut-from cut class-of class-count class-in
-    work-first ok-first fail-first work-second ok-second fail-second row-first row-second row-zero class-inside made
-    little-endian rule-bytes symbols-of built-rules rules-made map-made header built
+    rows by-state select row-zero class-inside rows-at made
+    symbols-of built-rules rules-made map-made parts built
 computed = (refl, refl, refl, cons refl (cons refl (cons refl nil)))
 
 pub captures-hold : Each Row-holds table

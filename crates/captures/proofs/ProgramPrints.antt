@@ -7,20 +7,23 @@ use lib.ListN.{length, take, drop}
 use lib.Seq.{take-at}
 use Rattle.machine.specs.declared.Verdict.the-variants.{Looping}
 use Rattle.machine.specs.Run.{config, how-many}
-use Rattle.machine.specs.Image.{machine, four, states, classes, symbols, rule-from}
-use Rattle.machine.specs.Refusals.{or-else, refuse-if, pair-is, directory, counts, count-wrong, map-from, move-off, rule-bad, index-class, rules-from, rule-count, image-refusal, capture-refusal}
+use Rattle.codec.specs.Numbers.{number-at, little-endian, pair-bytes}
+use Rattle.machine.specs.Image.{machine, states, classes, symbols, rule-from}
+use Rattle.machine.specs.Encoding.{header, rule-bytes, rules-bytes, encode}
+use Rattle.machine.specs.Refusals.{or-else, refuse-if, pair-is, directory, counts, count-wrong, map-from, move-off, rule-bad, index-class, rule-count, image-refusal, capture-refusal, rules-refusal-from}
 use Rattle.simulator.specs.declared.Judged.{Judged}
 use Rattle.simulator.specs.declared.Judged.the-variants.{Answer}
-use Rattle.simulator.specs.Calls.{judge-refusal, Right}
+use Rattle.simulator.specs.Calls.{judge-refusal, judgement, Judged-right}
 use Rattle.simulator.proofs.Answered.{judged-right}
 use Rattle.simulator.proofs.Promised.{answer-known}
 use Rattle.grammar.specs.Grammar as Grammar
 use Rattle.grammar.specs.Classes.{cuts-at, cut-from, cut, class-of, class-count, class-in}
-use Rattle.grammar.specs.Image.{work-first, ok-first, fail-first, work-second, ok-second, fail-second, row-first, row-second, row-zero, class-inside, made, little-endian, rule-bytes, symbols-of, built-rules, rules-made, map-made, header, built, built-length}
+use Rattle.grammar.specs.Table.{rows, by-state, select, row-zero, class-inside, rows-at, made}
+use Rattle.grammar.specs.Image.{symbols-of, built-rules, rules-made, map-made, built, built-length, parts as parts-of}
 use Rattle.grammar.specs.Calls.{build-refusal}
-use Rattle.answer.specs.Text.{digits, decimal, field, verdict-word, answer-line, judged-line}
+use Rattle.text.specs.Line.{digits, decimal, field, verdict-word, answer-line}
 use Rattle.answer.specs.Input.{capture-offset, first-pair-right, second-pair-right, input-refusal, input-grammar, input-capture}
-use Rattle.answer.specs.Calls.{Lent, parts-refusal, answer-refusal, Input-says, Answer-says}
+use Rattle.answer.specs.Calls.{judged-line, Lent, parts-refusal, answer-refusal, Input-says, Answer-says}
 use Rattle.answer.proofs.Promised.{line-whole}
 use Rattle.answer.proofs.Answered.{input-judged, input-fine}
 use Rattle.captures.specs.Captures.{Row, row, from-grammar, Row-holds, Each, cons, endless-grammar, table, image-of, row-machine}
@@ -29,18 +32,18 @@ use Rattle.captures.proofs.CapturesHold.{captures-hold}
 
 -- nothing is refused, by the buffers' lengths
 parts : (input-grammar endless-input ≡ endless-grammar) × (input-capture endless-input ≡ [])
-unfolding endless-input input-grammar input-capture capture-offset four
+unfolding endless-input input-grammar input-capture capture-offset number-at little-endian pair-bytes
 parts = (refl, refl)
 
 fine-by-lengths : or-else (input-refusal endless-input) (parts-refusal (input-grammar endless-input) (input-capture endless-input) 65536 16384 16384) .number ≡ 0
 unfolding endless-input input-refusal first-pair-right second-pair-right input-grammar input-capture capture-offset
     parts-refusal build-refusal judge-refusal capture-refusal how-many
-    machine four states classes symbols rule-from
-    or-else refuse-if pair-is directory counts count-wrong map-from move-off rule-bad index-class rules-from rule-count image-refusal
-    Grammar.rules Grammar.kind-of Grammar.b-of Grammar.c-of Grammar.expression-by Grammar.expression Grammar.rule-right Grammar.rules-from Grammar.grammar-refusal
+    machine number-at little-endian pair-bytes header rule-bytes rules-bytes encode states classes symbols rule-from
+    or-else refuse-if pair-is directory counts count-wrong map-from move-off rule-bad index-class rules-refusal-from rule-count image-refusal
+    Grammar.rules Grammar.kind-of Grammar.b-of Grammar.c-of Grammar.expression-by Grammar.expression Grammar.range-of Grammar.rule-right Grammar.rules-from Grammar.grammar-refusal
     cuts-at cut-from cut class-of class-count class-in
-    work-first ok-first fail-first work-second ok-second fail-second row-first row-second row-zero class-inside made
-    little-endian rule-bytes symbols-of built-rules rules-made map-made header built built-length
+    rows by-state select row-zero class-inside rows-at made
+    symbols-of built-rules rules-made map-made parts-of built built-length
 fine-by-lengths = refl
 
 fine : (x : Lent) (out : List ℕ) → Program-room x out → answer-refusal endless-input x .number ≡ 0
@@ -60,7 +63,7 @@ unfolding table
 endless-row = fifth captures-hold
 
 answer-is :
-    (r : Judged) (a a-now b b-now : List ℕ) → Right (built endless-grammar) [] r a a-now b b-now → r ≡ Answer Looping 2 (config 1 1 1)
+    (r : Judged) (a a-now b b-now : List ℕ) → Judged-right (built endless-grammar) [] r a a-now b b-now → r ≡ Answer (judgement Looping 2 (config 1 1 1))
 unfolding row-machine image-of
 answer-is r a a-now b b-now right =
     answer-known (built endless-grammar) [] (endless-row .unrefused) Looping 2 (config 1 1 1) (endless-row .says) (endless-row .entered)
@@ -75,7 +78,7 @@ line-of x y out line room s =
     judged-right (built (input-grammar endless-input)) (input-capture endless-input) (j .judged) (x .notes) (y .notes) (x .work) (y .work)
     (input-fine endless-input x none-refused .1) (j .judges)
     in
-    let known : j .judged ≡ Answer Looping 2 (config 1 1 1) =
+    let known : j .judged ≡ Answer (judgement Looping 2 (config 1 1 1)) =
     answer-is (j .judged) (x .notes) (y .notes) (x .work) (y .work) (rw (parts .0, parts .1) at right) in
     j .says ∙ ap judged-line known ∙ line-is
 

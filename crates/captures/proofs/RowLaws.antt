@@ -11,18 +11,26 @@ use borrow.Author.Tests.{ltb-true, leb-true}
 use Rattle.machine.specs.declared.Config.{Config}
 use Rattle.machine.specs.declared.Verdict.{Verdict}
 use Rattle.machine.specs.declared.Verdict.the-variants.{Looping}
+use Rattle.machine.specs.declared.Halt.{Halt}
 use Rattle.machine.specs.Format
+use Rattle.machine.specs.Halting.{halt-verdict}
 use Rattle.machine.specs.Run.{Machine, start}
-use Rattle.machine.specs.Image.{machine, byte}
+use Rattle.codec.specs.Bytes.{byte}
+use Rattle.machine.specs.Image.{machine}
 use Rattle.machine.specs.Refusals.{Unrefused, image-refusal}
 use Rattle.machine.specs.Verdicts.{Says, All-entered}
+use Rattle.machine.proofs.Runs.{some-same}
+use Rattle.machine.proofs.Halts.{says-looping}
+use Rattle.interpreter.specs.declared.Exit.{Exit}
+use Rattle.interpreter.specs.declared.Exit.the-variants.{Halted, Spent, Deep}
 use Rattle.interpreter.specs.PlainRun.{Run-end, run-end, run-on, True-end}
 use Rattle.interpreter.proofs.Promised.{plain-run-true}
-use Rattle.chain.specs.Turn.{Standing}
-use Rattle.chain.specs.Chain.{verdict-of}
-use Rattle.chain.proofs.ChainJudges.{standing-at}
+use Rattle.chain.specs.declared.Registers.{Registers}
+use Rattle.chain.specs.Step.{Program-state}
+use Rattle.chain.specs.Chain.{environment-of, verdict-of}
+use Rattle.chain.proofs.ChainJudges.{registers-at}
 use Rattle.captures.specs.Captures.{Row, row-machine, image-of, source-refusal, Takes, Steps-are, Row-holds}
-use Rattle.captures.proofs.ChainEnd.{turns, standing-turns, chain-tells}
+use Rattle.captures.proofs.ChainEnd.{steps-on, registers-steps, chain-tells}
 
 -- bytes
 unfoldable pub all-bytes : List ℕ → Bool
@@ -40,6 +48,23 @@ bytes-below [] e i = omega arith
 bytes-below (b ∷ bs) e zero = ltb-true b 256 (and-true (ltb b 256) (all-bytes bs) e .0)
 bytes-below (b ∷ bs) e (suc i) = bytes-below bs (and-true (ltb b 256) (all-bytes bs) e .1) i
 
+-- the verdict, steps and end of a plain run that halts
+pub record Ran-as : Type 0 where
+  pub verdict : Option Verdict
+  pub steps : ℕ
+  pub end : Config
+
+abbrev pub ran-as : Option Verdict → (steps : ℕ) → Config → Ran-as
+ran-as v n d = record { verdict = v; steps = n; end = d }
+
+unfoldable pub exit-verdict : Exit → Option Verdict
+exit-verdict (Halted h) = some (halt-verdict h)
+exit-verdict Spent = none
+exit-verdict Deep = none
+
+abbrev pub ran-of : Run-end → Ran-as
+ran-of e = ran-as (exit-verdict (e .exit)) (e .steps) (e .reached)
+
 -- WHAT IS COMPUTED of a row: the refusals, the end of the judge's chain, and of a plain run that has budget and cells enough; for a row without steps the verdict that it names
 pub record Found : Type 0 where
   pub source-refused : ℕ
@@ -49,34 +74,34 @@ pub record Found : Type 0 where
   pub verdict : Option Verdict
   pub readings : ℕ
   pub end : Config
-  pub ran : Run-end
+  pub ran : Ran-as
 
 -- more than any capture of the table takes
 unfoldable pub enough : ℕ
 enough = 20
 
-unfoldable pub ran-found : Option ℕ → Machine → Verdict → Config → Run-end
-ran-found none M v d = run-end v 0 d
-ran-found (some n) M v d = run-on enough M 0 enough start
+unfoldable pub ran-found : Option ℕ → Machine → Verdict → Config → Ran-as
+ran-found none M v d = ran-as (some v) 0 d
+ran-found (some n) M v d = ran-of (run-on enough M 0 enough start)
 
-unfoldable pub ran-said : Option ℕ → Verdict → Config → Run-end
-ran-said none v d = run-end Looping 0 d
-ran-said (some n) v d = run-end v n d
+unfoldable pub ran-said : Option ℕ → Verdict → Config → Ran-as
+ran-said none v d = ran-as (some Looping) 0 d
+ran-said (some n) v d = ran-as (some v) n d
 
 -- the chain after 4 r + 1 steps
-unfoldable pub chain-last : (image capture : List ℕ) → (readings : ℕ) → Standing
-chain-last bs cs r = turns (4 * r + 1) (machine bs cs) (standing-at bs cs 0)
+unfoldable pub chain-last : (image capture : List ℕ) → (readings : ℕ) → Program-state Registers
+chain-last bs cs r = steps-on (4 * r + 1) (machine bs cs) (environment-of bs cs) (registers-at bs cs 0)
 
-unfoldable pub found-by : Row → Machine → Standing → Found
+unfoldable pub found-by : Row → Machine → Program-state Registers → Found
 found-by r M x =
     record {
       source-refused = source-refusal (r .source);
       image-refused = image-refusal (image-of (r .source)) .number;
       short = leb (length (r .capture)) Format.max-capture;
       bytes = all-bytes (r .capture);
-      verdict = verdict-of (x .now-at .mode);
-      readings = x .now-at .readings;
-      end = x .now-at .at;
+      verdict = verdict-of (x .state .mode);
+      readings = x .state .readings;
+      end = x .state .at;
       ran = ran-found (r .steps) M (r .verdict) (r .end);
     }
 
@@ -98,32 +123,48 @@ said r =
     }
 
 -- THE LAW, by parts
-run-ends : (M : Machine) (v : Verdict) (n : ℕ) (d : Config) → run-on enough M 0 enough start ≡ run-end v n d → Takes M v n d
+exit-halts : (e : Exit) (v : Verdict) → exit-verdict e ≡ some v → (h : Halt) × (e ≡ Halted h) × (v ≡ halt-verdict h)
+unfolding exit-verdict
+exit-halts (Halted h) v e = (h, refl, cc)
+exit-halts Spent v e = absurd (let z : _≡_ {A = ℕ} 0 1 = cc in omega arith)
+exit-halts Deep v e = absurd (let z : _≡_ {A = ℕ} 0 1 = cc in omega arith)
+
+end-same : (e : Run-end) {x : Exit} {n : ℕ} {d : Config} → e .exit ≡ x → e .steps ≡ n → e .reached ≡ d → e ≡ run-end x n d
+end-same e p q r = rw (← p, ← q, ← r) refl
+
+run-ends : (M : Machine) (v : Verdict) (n : ℕ) (d : Config) → ran-of (run-on enough M 0 enough start) ≡ ran-as (some v) n d → Takes M v n d
 unfolding enough
 run-ends M v n d e =
+    let ran : Run-end = run-on enough M 0 enough start in
+    let (h, exits, verdicts) = exit-halts (ran .exit) v (ap (λ (x : Ran-as). x .verdict) e) in
+    let same : ran ≡ run-end (Halted h) n d = end-same ran exits (ap (λ (x : Ran-as). x .steps) e) (ap (λ (x : Ran-as). x .end) e) in
     record {
       budget = enough;
       cells = enough;
-      ran = e;
-      true-end = subst (True-end M enough enough) e (plain-run-true M enough enough (omega arith));
+      halt = h;
+      verdict-is = verdicts;
+      ran = same;
+      true-end = subst (True-end M enough enough) same (plain-run-true M enough enough (omega arith));
     }
 
 steps-hold :
     (s : Option ℕ) (M : Machine) (v : Verdict) (d : Config) → ran-found s M v d ≡ ran-said s v d → Says M v d → Steps-are s M v d
 unfolding ran-found ran-said Steps-are
-steps-hold none M v d e h = subst (λ (w : Verdict). Says M w d) (ap (λ (x : Run-end). x .verdict) e) h .0
+steps-hold none M v d e h =
+    let loops : v ≡ Looping = some-same (some v) refl (ap (λ (x : Ran-as). x .verdict) e) in
+    says-looping (subst (λ (w : Verdict). Says M w d) loops h) .0
 steps-hold (some n) M v d e h = run-ends M v n d e
 
 chain-holds :
     (bs cs : List ℕ) (v : Verdict) (r : ℕ) (d : Config) → Unrefused bs cs →
-    verdict-of (chain-last bs cs r .now-at .mode) ≡ some v → chain-last bs cs r .now-at .readings ≡ r →
-    chain-last bs cs r .now-at .at ≡ d → Says (machine bs cs) v d × All-entered (machine bs cs) r
+    verdict-of (chain-last bs cs r .state .mode) ≡ some v → chain-last bs cs r .state .readings ≡ r →
+    chain-last bs cs r .state .at ≡ d → Says (machine bs cs) v d × All-entered (machine bs cs) r
 unfolding chain-last
 chain-holds bs cs v r d u e f g =
-    let same = standing-turns bs cs (4 * r + 1) in
-    let t = chain-tells bs cs u (4 * r + 1) v (ap (λ (x : Standing). verdict-of (x .now-at .mode)) same ∙ e) in (
-      subst (Says (machine bs cs) v) (ap (λ (x : Standing). x .now-at .at) same ∙ g) (t .says),
-      subst (All-entered (machine bs cs)) (ap (λ (x : Standing). x .now-at .readings) same ∙ f) (t .entered),
+    let same = registers-steps bs cs (4 * r + 1) in
+    let t = chain-tells bs cs u (4 * r + 1) v (ap (λ (x : Program-state Registers). verdict-of (x .state .mode)) same ∙ e) in (
+      subst (Says (machine bs cs) v) (ap (λ (x : Program-state Registers). x .state .at) same ∙ g) (t .says),
+      subst (All-entered (machine bs cs)) (ap (λ (x : Program-state Registers). x .state .readings) same ∙ f) (t .entered),
     )
 
 pub found-holds : (r : Row) → found r ≡ said r → Row-holds r

@@ -1,20 +1,27 @@
 -- The ten worked captures C1 to C10: each with its verdict, readings, end configuration and steps; and what it is for such a row to be true. Assumes nothing: these are definitions.
 use mathlib.Core.Path.{_≡_}
-use mathlib.Core.List.{List, [], _∷_, _++_}
+use mathlib.Core.Bool.{true}
+use mathlib.Core.List.{List, [], _∷_}
 use mathlib.Core.Option.{Option, none, some}
 use Prim.Native.Nat.{ℕ}
 use lib.ListN.{replicate}
 use Rattle.machine.specs.declared.Config.{Config}
 use Rattle.machine.specs.declared.Verdict.{Verdict}
-use Rattle.machine.specs.declared.Verdict.the-variants.{Accepted, Ended, Stuck, Looping, Spent, Deep}
+use Rattle.machine.specs.declared.Verdict.the-variants.{Accepted, Ended, Stuck, Looping}
+use Rattle.machine.specs.declared.Halt.{Halt}
+use Rattle.machine.specs.declared.Halt.the-variants.{Over}
 use Rattle.machine.specs.Format
+use Rattle.machine.specs.Halting.{halt-verdict}
 use Rattle.machine.specs.Run.{Machine, config, start}
 use Rattle.machine.specs.Image.{machine}
+use Rattle.machine.specs.Encoding.{Parts, encode}
 use Rattle.machine.specs.Refusals.{Unrefused}
 use Rattle.machine.specs.Verdicts.{Says, Goes-on, All-entered}
+use Rattle.interpreter.specs.declared.Exit.the-variants.{Halted, Spent, Deep}
 use Rattle.interpreter.specs.PlainRun.{Run-end, run-end, run-on, True-end}
 use Rattle.grammar.specs.Grammar.{grammar-refusal}
-use Rattle.grammar.specs.Image.{little-endian, rule, rule-bytes, no-rule, built}
+use Rattle.grammar.specs.Table.{rule, no-rule}
+use Rattle.grammar.specs.Image.{built}
 
 -- where a row's image is from: built of a grammar, or given
 pub data Source : Type 0 where
@@ -46,12 +53,19 @@ unfoldable pub row-machine : Row → Machine
 row-machine r = machine (image-of (r .source)) (r .capture)
 
 -- C10's image: Q, K and G are 1, no state is final; the three rules are those of the one byte class, the left marker, which pops and stays, and the right marker
+unfoldable pub popping-parts : Parts
+popping-parts =
+    record {
+      states = 1;
+      classes = 1;
+      symbols = 1;
+      finals = 0;
+      class-map = replicate Format.map-length 0;
+      rules = no-rule ∷ rule Format.kind-pop 0 0 Format.pop-stay ∷ no-rule ∷ [];
+    }
+
 unfoldable pub popping-image : List ℕ
-popping-image =
-    little-endian 4 Format.counts-offset ++ little-endian 4 Format.counts-length ++ little-endian 4 Format.map-offset ++ little-endian 4 Format.map-length
-    ++ little-endian 4 Format.rules-offset ++ little-endian 4 12 ++ (1 ∷ 1 ∷ 1 ∷ 0 ∷ []) ++ little-endian 4 0
-    ++ replicate Format.map-length 0
-    ++ (rule-bytes no-rule ++ rule-bytes (rule 3 0 0 0) ++ rule-bytes no-rule)
+popping-image = encode popping-parts
 
 -- the grammars, in hex; 97 and 98 are the bytes 61 and 62
 -- 04000000
@@ -97,8 +111,10 @@ table =
 pub record Takes (M : Machine) (v : Verdict) (steps : ℕ) (end : Config) : Type 0 where
   pub budget : ℕ
   pub cells : ℕ
-  pub ran : run-on budget M 0 cells start ≡ run-end v steps end
-  pub true-end : True-end M budget cells (run-end v steps end)
+  pub halt : Halt
+  pub verdict-is : v ≡ halt-verdict halt
+  pub ran : run-on budget M 0 cells start ≡ run-end (Halted halt) steps end
+  pub true-end : True-end M budget cells (run-end (Halted halt) steps end)
 
 unfoldable pub Steps-are : Option ℕ → Machine → Verdict → (end : Config) → Type 0
 Steps-are none M v d = Goes-on M
@@ -129,7 +145,7 @@ plain-row b k e = record { budget = b; cells = k; answers = e }
 -- accepted with budget 3 and two cells; budget 2 is spent; with one cell the first push is too deep
 unfoldable pub plain-table : List Plain-row
 plain-table =
-    plain-row 3 2 (run-end Accepted 3 (config 2 1 0))
+    plain-row 3 2 (run-end (Halted (Over true)) 3 (config 2 1 0))
     ∷ plain-row 2 2 (run-end Spent 2 (config 2 1 0))
     ∷ plain-row 3 1 (run-end Deep 0 (config 0 0 0))
     ∷ []

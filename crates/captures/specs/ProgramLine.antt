@@ -1,15 +1,17 @@
 -- The program on C5: its 20 bytes of input, its buffers, and the whole output. Assumes nothing: these are definitions.
 use mathlib.Core.Path.{_≡_}
 use mathlib.Core.List.{List, [], _∷_, _++_}
-use Prim.Native.Nat.{ℕ, _≤_}
+use Prim.Native.Nat.{ℕ, _+_, _≤_}
 use lib.ListN.{length}
-use Rattle.answer.specs.Text.{max-line}
+use Rattle.codec.specs.Numbers.{pair, pair-bytes}
+use Rattle.answer.specs.Input.{pairs-length}
+use Rattle.text.specs.Line.{max-line}
 use Rattle.answer.specs.Calls.{Lent}
 use Rattle.captures.specs.Captures.{endless-grammar}
 
--- 10000000 04000000 14000000 00000000, and C5's grammar 01000000
+-- 10000000 04000000 14000000 00000000, and C5's grammar of four bytes, 01000000
 unfoldable pub endless-input : List ℕ
-endless-input = (16 ∷ 0 ∷ 0 ∷ 0 ∷ 4 ∷ 0 ∷ 0 ∷ 0 ∷ 20 ∷ 0 ∷ 0 ∷ 0 ∷ 0 ∷ 0 ∷ 0 ∷ 0 ∷ []) ++ endless-grammar
+endless-input = pair-bytes (pair pairs-length 4) ++ pair-bytes (pair (pairs-length + 4) 0) ++ endless-grammar
 
 -- looping 2 1 1 1 and a line feed, in ASCII
 unfoldable pub endless-line : List ℕ

@@ -81,7 +81,8 @@ module _ {M : Machine} {P : Config → Type 0} where
       go : Dec (t < path-steps p) → Dec (t ≡ path-steps p) → (t < path-steps p → Known M P os (config-of x)) → Known M P (open-as c b ∷ os) (config-of x)
       go (yes a) d before = known-later (open-as c b) (before a)
       go (no a) (yes q) before =
-          let same : over-base c (to .pointer) (to .ground) ≡ x = some-same (after t M start) (subst (λ (k : ℕ). after k M start ≡ some (over-base c (to .pointer) (to .ground))) (sym q) (to .reached)) at-x in
+          let same : over-base c (to .pointer) (to .ground) ≡ x =
+          some-same (after t M start) (subst (λ (k : ℕ). after k M start ≡ some (over-base c (to .pointer) (to .ground))) (sym q) (to .reached)) at-x in
           known-here c (config-of x) b (ap config-of (sym same) ∙ config-over c (to .pointer) (to .ground))
       go (no a) (no q) before =
           let mt : path-steps p ≤ t = omega arith in
@@ -156,7 +157,8 @@ module _ {M : Machine} {P : Config → Type 0} where
       go : Dec (u < path-steps p) → Dec (u ≡ path-steps p) → (u < path-steps p → ⊥) → ⊥
       go (yes a) d before = before a
       go (no a) (yes q) before =
-          let at-c : over-base c (to .pointer) (to .ground) ≡ y = some-same (after u M start) (subst (λ (k : ℕ). after k M start ≡ some (over-base c (to .pointer) (to .ground))) (sym q) (to .reached)) at-y in
+          let at-c : over-base c (to .pointer) (to .ground) ≡ y =
+          some-same (after u M start) (subst (λ (k : ℕ). after k M start ≡ some (over-base c (to .pointer) (to .ground))) (sym q) (to .reached)) at-y in
           clash (ap config-of (sym at-c) ∙ config-over c (to .pointer) (to .ground)) (path-times p (λ d i. h d (later i)) t (omega arith) x at-x)
       go (no a) (no q) before =
           let mu : path-steps p ≤ u = omega arith in

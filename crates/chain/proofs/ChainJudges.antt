@@ -1,132 +1,120 @@
--- The program's own chain judges every image and capture that is not refused; and each of its standings is one that a step may take. Assumes nothing.
+-- The program's own chain is correct for every image and capture that is not refused; and each of its states is one that a step may take. Assumes nothing.
 use mathlib.Core.Path.{_≡_, refl, sym, subst, _∙_, ap}
 use mathlib.Core.List.{List}
 use Prim.Native.Nat.{ℕ, zero, suc, _+_, _-_, _<_, _≤_}
 use native.Mathlib.Omega.{arith}
-use native.Mathlib.Numerals.{add-one, add-two}
-use lib.Dec.{eqb, eqb·suc-suc}
 use lib.ListN.{length, take, drop}
 use lib.Seq.{getD-take, getD-drop}
 use Rattle.machine.specs.declared.Sizes.{Sizes}
-use Rattle.machine.specs.Image.{byte, four, symbols, classes, final, accepting, machine, sizes-of}
+use Rattle.machine.specs.Format
+use Rattle.codec.specs.Bytes.{byte}
+use Rattle.codec.specs.Numbers.{number-at, u32-at}
+use Rattle.machine.specs.Image.{symbols, classes, accepting, machine, sizes-of}
 use Rattle.machine.specs.Refusals.{Unrefused}
 use Rattle.machine.specs.Verdicts.{All-entered}
 use Rattle.machine.proofs.Inside.{inside}
-use Rattle.machine.proofs.Reach.{entered-there}
-use Rattle.chain.specs.declared.Record.{Record}
-use Rattle.chain.specs.Turn.{Standing, standing, turn, accepts}
-use Rattle.chain.specs.Chain.{turned, begun, reached, begin-record, chain, Judges}
-use Rattle.chain.proofs.Invariant.{Holds}
 use Rattle.machine.proofs.Listing.{all-entered}
-use Rattle.chain.specs.Ready.{Ready, Turns}
-use Rattle.chain.proofs.StepAdds.{turn-adds}
-use Rattle.chain.proofs.SizesKept.{turn-sizes}
+use Rattle.machine.proofs.Reach.{entered-there}
+use Rattle.chain.specs.declared.Environment.{Environment}
+use Rattle.chain.specs.declared.Registers.{Registers}
+use Rattle.chain.specs.declared.JudgeState.{JudgeState}
+use Rattle.chain.specs.Step.{Program-state, with-cells, judge-step}
+use Rattle.chain.specs.Ready.{Ready, Newly-noted}
+use Rattle.chain.specs.Chain.{stepped, started, reached, start-state, chain, environment-of, Chain-correct}
+use Rattle.chain.proofs.Invariant.{Fitted, Chain-invariant}
+use Rattle.chain.proofs.StepAdds.{step-adds}
 use Rattle.chain.proofs.Readies.{holds-ready}
 use Rattle.chain.proofs.Finish.{Starts, begin-holds, few-steps, settled-at, work-zero, Finished, finish}
 
--- a byte of the counts
-count-byte : (bs : List ℕ) (k : ℕ) → k < 8 → byte (take 8 (drop 24 bs)) k ≡ byte bs (24 + k)
-count-byte bs k l = getD-take 8 (drop 24 bs) k 0 l ∙ getD-drop 24 bs k 0
+-- the section of the counts, and a byte of it
+abbrev pub counts-of : (image : List ℕ) → List ℕ
+counts-of bs = take Format.counts-length (drop Format.counts-offset bs)
 
-count-four : (bs : List ℕ) → four (take 8 (drop 24 bs)) 4 ≡ four bs 28
-unfolding four
+count-byte : (bs : List ℕ) (k : ℕ) → k < Format.counts-length → byte (counts-of bs) k ≡ byte bs (Format.counts-offset + k)
+count-byte bs k l = getD-take Format.counts-length (drop Format.counts-offset bs) k 0 l ∙ getD-drop Format.counts-offset bs k 0
+
+count-four : (bs : List ℕ) → u32-at (counts-of bs) 4 ≡ u32-at bs Format.finals-offset
+unfolding number-at
 count-four bs =
     rw (count-byte bs 4 (omega arith), count-byte bs 5 (omega arith), count-byte bs 6 (omega arith), count-byte bs 7 (omega arith))
 
--- the start record is made of the image's counts and finals
-pub begin-sizes : (bs cs : List ℕ) → begin-record (take 8 (drop 24 bs)) (length cs) .sizes ≡ sizes-of bs cs
-unfolding begin-record sizes-of classes symbols
-begin-sizes bs cs = rw (count-byte bs 1 (omega arith), count-byte bs 2 (omega arith))
+-- the start's environment is made of the image's counts and finals
+pub start-environment : (bs cs : List ℕ) → start-state (counts-of bs) (length cs) .environment ≡ environment-of bs cs
+unfolding start-state sizes-of classes symbols
+start-environment bs cs = rw (count-byte bs 1 (omega arith), count-byte bs 2 (omega arith), count-four bs)
 
-pub begin-finals : (bs cs : List ℕ) → begin-record (take 8 (drop 24 bs)) (length cs) .finals ≡ four bs 28
-unfolding begin-record
-begin-finals bs cs = count-four bs
+-- that environment fits the machine
+pub environment-fitted : (bs cs : List ℕ) → Fitted (machine bs cs) (environment-of bs cs)
+unfolding machine sizes-of accepting
+environment-fitted bs cs =
+    record { places-are = refl; symbols-are = refl; accepts-as = λ p i. refl }
 
-symbols-kept : (bs cs : List ℕ) → sizes-of bs cs .symbols ≡ symbols bs
-unfolding sizes-of
-symbols-kept bs cs = refl
+-- THE CHAIN'S REGISTERS AND CELLS, by steps; the environment stays as it is at the start
+unfoldable pub registers-at : (bs cs : List ℕ) → (n : ℕ) → Program-state Registers
+registers-at bs cs n =
+    with-cells (reached chain bs cs n .state .registers) (reached chain bs cs n .notes) (reached chain bs cs n .work)
 
-head-test : (i n : ℕ) → eqb (i + 1) (n + 2) ≡ eqb i (n + 1)
-head-test i n = rw (add-one i, add-two n, eqb·suc-suc, add-one n)
+pub environment-at : (bs cs : List ℕ) (n : ℕ) → reached chain bs cs n .state .environment ≡ environment-of bs cs
+unfolding reached started stepped chain
+environment-at bs cs zero = start-environment bs cs
+environment-at bs cs (suc n) = environment-at bs cs n
 
-accepts-same :
-    (bs cs : List ℕ) (r : Record) → r .finals ≡ four bs 28 → r .sizes .places ≡ length cs + 2 → (p i : ℕ) → accepts r p i ≡ accepting bs cs p i
-unfolding accepts accepting final
-accepts-same bs cs r e f p i = rw (e, f, head-test i (length cs))
+registers-step :
+    (bs cs : List ℕ) (n : ℕ) →
+    registers-at bs cs (suc n) ≡ judge-step (machine bs cs) (reached chain bs cs n .state .environment) (registers-at bs cs n)
+unfolding registers-at reached stepped chain
+registers-step bs cs n = refl
 
-begin-starts : (bs cs : List ℕ) → Starts (machine bs cs) (begin-record (take 8 (drop 24 bs)) (length cs))
-unfolding machine begin-record
-begin-starts bs cs =
-    record {
-      fitted =
-          record {
-            places-are = refl;
-            symbols-are = ap (λ (s : Sizes). s .symbols) (begin-sizes bs cs) ∙ symbols-kept bs cs;
-            accepts-as = accepts-same bs cs (begin-record (take 8 (drop 24 bs)) (length cs)) (begin-finals bs cs) refl;
-          };
-      looks = refl;
-      at-start = refl;
-      is-pushed = refl;
-      no-top = refl;
-      none-read = refl;
-    }
+pub registers-go :
+    (bs cs : List ℕ) (n : ℕ) → registers-at bs cs (suc n) ≡ judge-step (machine bs cs) (environment-of bs cs) (registers-at bs cs n)
+registers-go bs cs n =
+    registers-step bs cs n ∙ ap (λ (e : Environment). judge-step (machine bs cs) e (registers-at bs cs n)) (environment-at bs cs n)
 
--- the chain's standings
-unfoldable pub standing-at : (bs cs : List ℕ) → (n : ℕ) → Standing
-standing-at bs cs n = standing (reached chain bs cs n .now-at) (reached chain bs cs n .notes) (reached chain bs cs n .work)
+starts : (bs cs : List ℕ) → Starts (registers-at bs cs 0 .state)
+unfolding registers-at reached started chain start-state
+starts bs cs = record { looks = refl; at-start = refl; is-pushed = refl; no-top = refl; none-read = refl }
 
-pub standing-goes : (bs cs : List ℕ) (n : ℕ) → standing-at bs cs (suc n) ≡ turn (machine bs cs) (standing-at bs cs n)
-unfolding standing-at reached turned chain
-standing-goes bs cs n = refl
+begins : (bs cs : List ℕ) → Unrefused bs cs → Chain-invariant (machine bs cs) 0 (registers-at bs cs 0)
+unfolding registers-at reached started chain start-state
+begins bs cs u = begin-holds (inside bs cs u) (starts bs cs)
 
-begun-sizes : (bs cs : List ℕ) → standing-at bs cs 0 .now-at .sizes ≡ sizes-of bs cs
-unfolding standing-at reached begun chain
-begun-sizes bs cs = begin-sizes bs cs
+pub finished : (bs cs : List ℕ) → Unrefused bs cs → Finished (machine bs cs) (registers-at bs cs)
+finished bs cs u = finish (environment-fitted bs cs) (inside bs cs u) (registers-at bs cs) (registers-go bs cs) (begins bs cs u)
 
-begins : (bs cs : List ℕ) → Unrefused bs cs → Holds (machine bs cs) 0 (standing-at bs cs 0)
-unfolding standing-at reached begun chain
-begins bs cs u = begin-holds (inside bs cs u) (begin-starts bs cs)
+start-reads : (bs cs : List ℕ) → chain .readings (started chain bs cs .state) ≡ 0
+unfolding chain started start-state
+start-reads bs cs = refl
 
-pub finished : (bs cs : List ℕ) → Unrefused bs cs → Finished (machine bs cs) (standing-at bs cs)
-finished bs cs u = finish (inside bs cs u) (standing-at bs cs) (standing-goes bs cs) (begins bs cs u)
-
-begin-reads : (bs cs : List ℕ) → chain .readings (begun chain bs cs .now-at) ≡ 0
-unfolding chain begun begin-record
-begin-reads bs cs = refl
-
--- each standing up to the verdict is one that a step may take
-sizes-at : (bs cs : List ℕ) (n : ℕ) → standing-at bs cs n .now-at .sizes ≡ sizes-of bs cs
-sizes-at bs cs zero = begun-sizes bs cs
-sizes-at bs cs (suc n) =
-    ap (λ (x : Standing). x .now-at .sizes) (standing-goes bs cs n) ∙ turn-sizes (machine bs cs) (standing-at bs cs n) ∙ sizes-at bs cs n
-
+-- each state up to the verdict is one that a step may take
 pub ready-at :
     (bs cs : List ℕ) (u : Unrefused bs cs) (n : ℕ) → n ≤ finished bs cs u .steps →
-    Ready bs cs (standing-at bs cs n .now-at) (standing-at bs cs n .notes) (standing-at bs cs n .work)
-ready-at bs cs u n l = holds-ready bs cs u (finished bs cs u .holds n l) (sizes-at bs cs n)
+    Ready bs cs (environment-of bs cs) (registers-at bs cs n .state) (registers-at bs cs n .notes) (registers-at bs cs n .work)
+ready-at bs cs u n l = holds-ready bs cs u (finished bs cs u .holds n l) refl
 
 one-reading :
     (bs cs : List ℕ) (u : Unrefused bs cs) (n : ℕ) → n ≤ finished bs cs u .steps →
-    standing-at bs cs (suc n) .now-at .readings ≤ suc (standing-at bs cs n .now-at .readings)
-unfolding turn
+    registers-at bs cs (suc n) .state .readings ≤ suc (registers-at bs cs n .state .readings)
+unfolding judge-step
 one-reading bs cs u n l =
     let ready = ready-at bs cs u n l in
-    rw (standing-goes bs cs n) (turn-adds ready (standing-at bs cs n .now-at .mode) (ready .open-one) .one-more)
+    rw (registers-go bs cs n) (step-adds ready (registers-at bs cs n .state .mode) (ready .open-one) .one-more)
 
-one-turned-at :
+one-noted-at :
     (bs cs : List ℕ) (u : Unrefused bs cs) (n : ℕ) → n ≤ finished bs cs u .steps →
-    Turns (standing-at bs cs n .now-at .readings) (standing-at bs cs (suc n) .now-at .readings) (standing-at bs cs n .notes) (standing-at bs cs (suc n) .notes)
-unfolding turn
-one-turned-at bs cs u n l =
+    Newly-noted (registers-at bs cs n .state .readings) (registers-at bs cs (suc n) .state .readings) (registers-at bs cs n .notes)
+    (registers-at bs cs (suc n) .notes)
+unfolding judge-step
+one-noted-at bs cs u n l =
     let ready = ready-at bs cs u n l in
-    rw (standing-goes bs cs n) (turn-adds ready (standing-at bs cs n .now-at .mode) (ready .open-one) .turns)
+    rw (registers-go bs cs n) (step-adds ready (registers-at bs cs n .state .mode) (ready .open-one) .newly-noted)
 
-pub chain-judges : (bs cs : List ℕ) → Unrefused bs cs → Judges Record chain bs cs
-unfolding chain standing-at
+pub chain-judges : (bs cs : List ℕ) → Unrefused bs cs → Chain-correct JudgeState chain bs cs
+unfolding chain registers-at
 chain-judges bs cs u =
     let f = finished bs cs u in
     let last = f .holds (f .steps) (omega arith) in
     let settled = settled-at last (f .answers) in
+    let listed = all-entered (machine bs cs) (registers-at bs cs (f .steps) .notes) (settled .noted) (entered-there (inside bs cs u)) in
     record {
       steps = f .steps;
       verdict = f .verdict;
@@ -135,10 +123,10 @@ chain-judges bs cs u =
       noted = settled .noted;
       cleared = work-zero last settled;
       few = few-steps last;
-      none-read = begin-reads bs cs;
+      none-read = start-reads bs cs;
       not-before = f .not-before;
       one-more = λ n l. one-reading bs cs u n (omega arith);
-      turns = λ n l. one-turned-at bs cs u n (omega arith);
+      newly-noted = λ n l. one-noted-at bs cs u n (omega arith);
       counted = λ n l. f .holds n l .shared .counted;
-      entered = subst (All-entered (machine bs cs)) (sym (last .shared .counted)) (all-entered (machine bs cs) (standing-at bs cs (f .steps) .notes) (settled .noted) (entered-there (inside bs cs u)));
+      entered = subst (All-entered (machine bs cs)) (sym (last .shared .counted)) listed;
     }

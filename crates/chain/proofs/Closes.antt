@@ -13,10 +13,12 @@ use Rattle.machine.proofs.Numbers.{number-below}
 use Rattle.machine.proofs.Ends.{Ends, ends-map, ends-pops}
 use Rattle.chain.specs.declared.Mode.{Mode}
 use Rattle.chain.specs.declared.Mode.the-variants.{Look, Unwind}
-use Rattle.chain.specs.Turn.{Standing, standing, with-now, resumed}
+use Rattle.chain.specs.declared.Environment.{Environment}
+use Rattle.chain.specs.declared.Registers.{Registers}
+use Rattle.chain.specs.Step.{Program-state, with-cells, registers-of, resumed}
 use Rattle.chain.proofs.Path.{Open, here, Path, begin, on, path-map, leads-ends}
 use Rattle.chain.proofs.Cells.{Seen, seen-set, top-of, Linked, a-link, Running, running-close, among-seen}
-use Rattle.chain.proofs.Invariant.{Shared, bit, pushes, Phase, unwinding, Holds}
+use Rattle.chain.proofs.Invariant.{Fitted, Shared, bit, pushes, Phase, unwinding, Chain-invariant}
 use Rattle.chain.proofs.Shares.{newest-fresh, taken-shared}
 use Rattle.chain.proofs.Resumes.{resumed-holds}
 
@@ -28,9 +30,9 @@ path-pushes (on p l) = let h = path-pushes p in omega arith
 
 -- a terminator is known for a configuration that its predecessor leads to at the same height
 pub unwinding-next :
-    {M : Machine} (n : ℕ) (x : Standing) {os : List Open} {c : Config} → Running M os (x .notes) (x .work) → Linked M (x .work) os →
-    Path M (Seen M (x .notes)) os c false → Ends M (Seen M (x .notes)) c (x .now-at .at) →
-    n + length os + pushes os ≤ 4 * x .now-at .readings + 2 → Phase M n x os Unwind
+    {M : Machine} (n : ℕ) (x : Program-state Registers) {os : List Open} {c : Config} → Running M os (x .notes) (x .work) → Linked M (x .work) os →
+    Path M (Seen M (x .notes)) os c false → Ends M (Seen M (x .notes)) c (x .state .at) →
+    n + length os + pushes os ≤ 4 * x .state .readings + 2 → Phase M n x os Unwind
 unfolding pushes
 unwinding-next n x running links (on {c = e} path l) ends few =
     unwinding running path (leads-ends (among-seen running links e here) l ends) (omega arith)
@@ -39,15 +41,15 @@ pub newest-there : {M : Machine} {work : List ℕ} {o : Open} {os : List Open} �
 newest-there (a-link t e l) = t
 
 -- THE NEWEST OPEN CONFIGURATION IS CLOSED
-module _ {M : Machine} (inside : Inside M) (n : ℕ) (x : Standing) {o : Open} {os : List Open} (s : Shared M (o ∷ os) x)
-    (running : Running M (o ∷ os) (x .notes) (x .work)) (ends : Ends M (Seen M (x .notes)) (o .config) (x .now-at .at)) where
+module _ {M : Machine} {E : Environment} (fitted : Fitted M E) (inside : Inside M) (n : ℕ) (x : Program-state Registers) {o : Open} {os : List Open} (s : Shared M (o ∷ os) x)
+    (running : Running M (o ∷ os) (x .notes) (x .work)) (ends : Ends M (Seen M (x .notes)) (o .config) (x .state .at)) where
   pub closed-by :
-      (b : Bool) → Path M (Seen M (x .notes)) os (o .config) b → n + length os + (bit b + pushes os) ≤ 4 * x .now-at .readings + 1 →
-      Holds M (suc n)
-      (standing
-      (cond (cond b false true) (with-now (x .now-at) Unwind (x .now-at .at) false (top-of M os) (x .now-at .readings))
-      (resumed (x .now-at) (x .now-at .at) (M .action (x .now-at .at)) (o .config .head) (top-of M os)))
-      (set (x .notes) (number M (o .config)) (number M (x .now-at .at) + 2))
+      (b : Bool) → Path M (Seen M (x .notes)) os (o .config) b → n + length os + (bit b + pushes os) ≤ 4 * x .state .readings + 1 →
+      Chain-invariant M (suc n)
+      (with-cells
+      (cond (cond b false true) (registers-of Unwind (x .state .at) false (top-of M os) (x .state .readings))
+      (resumed E (x .state) (x .state .at) (M .action (x .state .at)) (o .config .head) (top-of M os)))
+      (set (x .notes) (number M (o .config)) (number M (x .state .at) + 2))
       (set (x .work) (number M (o .config)) 0))
   closed-by b path few = go b path few
     where
@@ -55,7 +57,7 @@ module _ {M : Machine} (inside : Inside M) (n : ℕ) (x : Standing) {o : Open} {
       k = number M (o .config)
 
       v : ℕ
-      v = number M (x .now-at .at) + 2
+      v = number M (x .state .at) + 2
 
       there : There M (o .config)
       there = newest-there (s .links)
@@ -73,37 +75,41 @@ module _ {M : Machine} (inside : Inside M) (n : ℕ) (x : Standing) {o : Open} {
       mono = seen-set M (x .notes) k v long (λ z. omega arith)
 
       now : Running M os (set (x .notes) k v) (set (x .work) k 0)
-      now = running-close (o .config) (x .now-at .at) (o .pushed) there (s .at-there) long wide (newest-fresh s) ends running
+      now = running-close (o .config) (x .state .at) (o .pushed) there (s .at-there) long wide (newest-fresh s) ends running
 
       seen : getD (x .notes) k 0 ≡ 0 → ⊥
       seen = among-seen running (s .links) (o .config) here
 
       shared-now :
           (m : Mode) (c : Config) (f : Bool) → There M c →
-          Shared M os (standing (with-now (x .now-at) m c f (top-of M os) (x .now-at .readings)) (set (x .notes) k v) (set (x .work) k 0))
+          Shared M os (with-cells (registers-of m c f (top-of M os) (x .state .readings)) (set (x .notes) k v) (set (x .work) k 0))
       shared-now =
           taken-shared s (set (x .notes) k v) (length-set (x .notes) k v ∙ s .notes-long)
           (s .counted ∙ sym (nonzero-set-old (how-many M) (x .notes) k v seen (λ z. omega arith)))
 
       links-now : Linked M (set (x .work) k 0) os
-      links-now = shared-now Look (x .now-at .at) false (s .at-there) .links
+      links-now = shared-now Look (x .state .at) false (s .at-there) .links
+
+      unwinding-on : Program-state Registers
+      unwinding-on =
+          with-cells (registers-of Unwind (x .state .at) false (top-of M os) (x .state .readings)) (set (x .notes) k v) (set (x .work) k 0)
 
       go :
-          (b : Bool) → Path M (Seen M (x .notes)) os (o .config) b → n + length os + (bit b + pushes os) ≤ 4 * x .now-at .readings + 1 →
-          Holds M (suc n)
-          (standing
-          (cond (cond b false true) (with-now (x .now-at) Unwind (x .now-at .at) false (top-of M os) (x .now-at .readings))
-          (resumed (x .now-at) (x .now-at .at) (M .action (x .now-at .at)) (o .config .head) (top-of M os)))
+          (b : Bool) → Path M (Seen M (x .notes)) os (o .config) b → n + length os + (bit b + pushes os) ≤ 4 * x .state .readings + 1 →
+          Chain-invariant M (suc n)
+          (with-cells
+          (cond (cond b false true) (registers-of Unwind (x .state .at) false (top-of M os) (x .state .readings))
+          (resumed E (x .state) (x .state .at) (M .action (x .state .at)) (o .config .head) (top-of M os)))
           (set (x .notes) k v)
           (set (x .work) k 0))
       go false path few =
           record {
             opens = os;
-            shared = shared-now Unwind (x .now-at .at) false (s .at-there);
+            shared = shared-now Unwind (x .state .at) false (s .at-there);
             phase =
-                unwinding-next (suc n) (standing (with-now (x .now-at) Unwind (x .now-at .at) false (top-of M os) (x .now-at .readings)) (set (x .notes) k v) (set (x .work) k 0)) now links-now (path-map mono path) (ends-map mono ends) (omega arith);
+                unwinding-next (suc n) unwinding-on now links-now (path-map mono path) (ends-map mono ends) (omega arith);
           }
       go true path few =
           let (p, b, pop) = ends-pops ends in
           rw pop
-          (resumed-holds n (s .fitted) inside shared-now links-now now (path-map mono path) (ends-map mono ends) there (s .at-there) pop (omega arith))
+          (resumed-holds (x .state) n fitted inside shared-now links-now now (path-map mono path) (ends-map mono ends) there (s .at-there) pop (omega arith))

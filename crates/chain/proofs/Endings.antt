@@ -7,10 +7,13 @@ use Prim.Native.Nat.{ℕ, suc, _-_, _<_, _≤_}
 use native.Mathlib.Omega.{arith}
 use native.Mathlib.Decide.{decLt, decLe, ℕ-discrete}
 use Rattle.machine.specs.declared.Config.{Config}
+use Rattle.machine.specs.declared.Reason.{Reason}
+use Rattle.machine.specs.declared.Halt.the-variants.{Over, Stopped}
 use Rattle.machine.specs.declared.Action.the-variants.{Stop, Pop}
-use Rattle.machine.specs.Run.{Machine, Entry, Outcome, stuck, over, step, after, start, returned, config, config-of}
-use Rattle.machine.specs.Verdicts.{over-base, Entered, No-end, Over, Stuck-at, Goes-on}
-use Rattle.machine.proofs.Runs.{some-same, not-none, config-over, step-stop, step-pop-last, halted-stuck, halted-over, halts-once, halted-no-more}
+use Rattle.machine.specs.Run.{Machine, Entry, Outcome, stopped, over, step, after, start, returned, config, config-of}
+use Rattle.machine.specs.Verdicts.{over-base, Entered, No-end, Halts-at, Goes-on}
+use Rattle.machine.proofs.Halts.{halt-stopped, halt-over}
+use Rattle.machine.proofs.Runs.{some-same, not-none, config-over, step-stop, step-pop-last, halted-stopped, halted-over, halts-once, halted-no-more}
 use Rattle.machine.proofs.Ends.{Ends, count, ends-reach, ends-inside}
 use Rattle.chain.proofs.Travel.{Visit, Arrival, Travels, travels-none, visit-later, forever}
 use Rattle.chain.proofs.Path.{Open, open-as, Among, here, later, Path, path-steps, path-travels, path-along, Along}
@@ -29,10 +32,11 @@ module _ {M : Machine} {P : Config → Type 0} where
       record { steps = path-steps p; place = over-base c (to .pointer) (to .ground); reached = to .reached; is = config-over c (to .pointer) (to .ground) }
 
   -- OVER: the start's entry is removed from d
-  pub over-at : {d : Config} {p : ℕ} {r : Bool} → Ends M P (config 0 0 0) d → M .action d ≡ Pop p r → Over M d p (returned r 0 (d .head))
+  pub over-at : {d : Config} {p : ℕ} {r : Bool} → Ends M P (config 0 0 0) d → M .action d ≡ Pop p r → (t : Bool) → M .accepting p (returned r 0 (d .head)) ≡ t →
+      Halts-at M d (Over t)
   unfolding start
-  over-at {d} x a =
-      record { steps = count x; place = over-base d 0 []; reached = ends-reach x 0 []; is = config-over d 0 []; last = step-pop-last M d 0 a }
+  over-at {d} x a t e =
+      record { steps = count x; place = over-base d 0 []; reached = ends-reach x 0 []; is = config-over d 0 []; last = halt-over M (over-base d 0 []) (step-pop-last M d 0 a) e }
 
   pub over-complete : {c d : Config} {p : ℕ} {r : Bool} → Ends M P (config 0 0 0) d → M .action d ≡ Pop p r → Entered M c → P c
   unfolding start
@@ -47,7 +51,8 @@ module _ {M : Machine} {P : Config → Type 0} where
           absurd (not-none (after (e .steps) M start) (e .reached) (halted-no-more M (count x) (e .steps) start (ends-reach x 0 []) halts (omega arith)))
 
   -- STUCK
-  pub stuck-at : {os : List Open} {c : Config} {f : Bool} (p : Path M P os c f) → ((d : Config) → Among d os → P d) → M .action c ≡ Stop → Stuck-at M c
+  pub stuck-at :
+      {os : List Open} {c : Config} {f : Bool} {r : Reason} (p : Path M P os c f) → ((d : Config) → Among d os → P d) → M .action c ≡ Stop r → Halts-at M c (Stopped r)
   unfolding start
   stuck-at {c = c} p h a =
       let to = path-travels p h 0 [] in
@@ -56,11 +61,12 @@ module _ {M : Machine} {P : Config → Type 0} where
         place = over-base c (to .pointer) (to .ground);
         reached = to .reached;
         is = config-over c (to .pointer) (to .ground);
-        last = step-stop M c (to .pointer) (to .ground) a;
+        last = halt-stopped M (over-base c (to .pointer) (to .ground)) (step-stop M c (to .pointer) (to .ground) a);
       }
 
   pub stuck-complete :
-      {os : List Open} {c d : Config} {f : Bool} (p : Path M P os c f) → ((d : Config) → Among d os → P d) → P c → M .action c ≡ Stop → Entered M d → P d
+      {os : List Open} {c d : Config} {f : Bool} {r : Reason} (p : Path M P os c f) → ((d : Config) → Among d os → P d) → P c →
+      M .action c ≡ Stop r → Entered M d → P d
   unfolding start
   stuck-complete {c = c} {d = d} p h holds a e = go (decLt (e .steps) (path-steps p)) (ℕ-discrete (e .steps) (path-steps p))
     where
@@ -70,25 +76,27 @@ module _ {M : Machine} {P : Config → Type 0} where
       go : Dec (e .steps < path-steps p) → Dec (e .steps ≡ path-steps p) → P d
       go (yes l) q = visited e (to .visits (e .steps) l)
       go (no l) (yes q) =
-          let same : over-base c (to .pointer) (to .ground) ≡ e .place = some-same (after (path-steps p) M start) (to .reached) (subst (λ (n : ℕ). after n M start ≡ some (e .place)) q (e .reached)) in
+          let same : over-base c (to .pointer) (to .ground) ≡ e .place =
+          some-same (after (path-steps p) M start) (to .reached) (subst (λ (n : ℕ). after n M start ≡ some (e .place)) q (e .reached)) in
           subst P (sym (config-over c (to .pointer) (to .ground)) ∙ ap config-of same ∙ e .is) holds
       go (no l) (no q) =
-          let halts = halted-stuck M (over-base c (to .pointer) (to .ground)) (step-stop M c (to .pointer) (to .ground) a) in
+          let halts = halted-stopped M (over-base c (to .pointer) (to .ground)) (step-stop M c (to .pointer) (to .ground) a) in
           absurd (not-none (after (e .steps) M start) (e .reached) (halted-no-more M (path-steps p) (e .steps) start (to .reached) halts (omega arith)))
 
-  stuck-from : {c e : Config} (n : ℕ) → Travels M P n c e → M .action e ≡ Stop → No-end M c
-  stuck-from {c} {e} n t a d x =
+  stuck-from : {c e : Config} {r : Reason} (n : ℕ) → Travels M P n c e → M .action e ≡ Stop r → No-end M c
+  stuck-from {c} {e} {r} n t a d x =
       let to = t 0 [] in
       let stops = step-stop M e (to .pointer) (to .ground) a in
       let (p, i, ends) = x .gone in
       let (same-steps, same) =
-      halts-once M n (x .steps) (over-base c 0 []) (to .reached) (halted-stuck M (over-base e (to .pointer) (to .ground)) stops) (x .reached) (halted-over M (x .place) ends) in
-      let clash : _≡_ {A = Outcome} stuck (over p i) = sym stops ∙ ap (step M) same ∙ ends in
+      halts-once M n (x .steps) (over-base c 0 []) (to .reached) (halted-stopped M (over-base e (to .pointer) (to .ground)) stops) (x .reached) (halted-over M (x .place) ends) in
+      let clash : _≡_ {A = Outcome} (stopped r) (over p i) = sym stops ∙ ap (step M) same ∙ ends in
       let z : _≡_ {A = ℕ} 0 1 = cc in
       omega arith
 
   pub stuck-no-end :
-      {os : List Open} {c d : Config} {f : Bool} (p : Path M P os c f) → ((d : Config) → Among d os → P d) → M .action c ≡ Stop → Among d (open-as c f ∷ os) →
+      {os : List Open} {c d : Config} {f : Bool} {r : Reason} (p : Path M P os c f) → ((d : Config) → Among d os → P d) →
+      M .action c ≡ Stop r → Among d (open-as c f ∷ os) →
       No-end M d
   stuck-no-end p h a here = stuck-from 0 travels-none a
   stuck-no-end p h a (later i) = let way = path-along p h i in stuck-from (way .more) (way .from) a

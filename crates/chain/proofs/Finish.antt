@@ -1,4 +1,4 @@
--- A sequence of standings that starts empty and goes on by the judge's step: what holds at each of them, and that it comes to a verdict within the bound. Assumes nothing.
+-- A sequence of states that starts empty and goes on by the judge's step: what holds at each of them, and that it comes to a verdict within the bound. Assumes nothing.
 use mathlib.Core.Path.{_≡_, refl, sym, subst, _∙_}
 use mathlib.Core.Bool.{true}
 use mathlib.Core.List.{List, []}
@@ -12,28 +12,29 @@ use lib.Seq.{ext-getD}
 use Rattle.machine.specs.declared.Config.{Config}
 use Rattle.machine.specs.declared.Verdict.{Verdict}
 use Rattle.machine.specs.Run.{Machine, There, config, number, how-many}
+use Rattle.machine.specs.Verdicts.{note-of}
 use Rattle.machine.proofs.Inside.{Inside}
 use Rattle.machine.proofs.Numbers.{number-below, config-at, config-at-there, number-config-at}
 use Rattle.machine.proofs.Nonzero.{nonzero-zeros, nonzero-most}
 use Rattle.chain.specs.declared.Mode.{Mode}
 use Rattle.chain.specs.declared.Mode.the-variants.{Look}
-use Rattle.chain.specs.declared.Record.{Record}
-use Rattle.chain.specs.Turn.{Standing, standing, turn, turn-by}
+use Rattle.chain.specs.declared.Environment.{Environment}
+use Rattle.chain.specs.declared.Registers.{Registers}
+use Rattle.chain.specs.Step.{Program-state, with-cells, judge-step, step-by-mode}
 use Rattle.chain.specs.Chain.{verdict-of}
 use Rattle.chain.proofs.Path.{Open, Among, Path, begin}
 use Rattle.chain.proofs.Again.{none-open}
 use Rattle.chain.proofs.Cells.{Seen, top-of, no-link, unseen, Running}
-use Rattle.chain.proofs.Invariant.{Fitted, Shared, pushes, Settled, Phase, looking, unwinding, clearing, done, Holds}
+use Rattle.chain.proofs.Invariant.{Fitted, Shared, pushes, Settled, Phase, looking, unwinding, clearing, done, Chain-invariant}
 use Rattle.chain.proofs.Resumes.{not-among-none}
 use Rattle.chain.proofs.LookKeeps.{look-keeps}
 use Rattle.chain.proofs.UnwindKeeps.{unwind-keeps, clear-keeps}
 
 -- THE START
-abbrev pub Empty : Machine → Record → Standing
-Empty M r = standing r (replicate (how-many M) 0) (replicate (how-many M) 0)
+abbrev pub Empty : Machine → Registers → Program-state Registers
+Empty M r = with-cells r (replicate (how-many M) 0) (replicate (how-many M) 0)
 
-pub record Starts (M : Machine) (r : Record) : Type 0 where
-  pub fitted : Fitted M r
+pub record Starts (r : Registers) : Type 0 where
   pub looks : r .mode ≡ Look
   pub at-start : r .at ≡ config 0 0 0
   pub is-pushed : r .pushed ≡ true
@@ -44,20 +45,20 @@ zero-cell : (M : Machine) (c : Config) → There M c → _≡_ {A = ℕ} (getD (
 zero-cell M c t = getD-replicate (how-many M) (number M c) 0 0 (number-below t)
 
 running-none : (M : Machine) → Running M [] (replicate (how-many M) 0) (replicate (how-many M) 0)
+unfolding note-of
 running-none M =
     record {
       cells = λ c t. rw (zero-cell M c t) (unseen (λ a. not-among-none a));
       entered = λ c t seen. absurd (seen (zero-cell M c t));
     }
 
-pub begin-holds : {M : Machine} {r : Record} → Inside M → Starts M r → Holds M 0 (Empty M r)
+pub begin-holds : {M : Machine} {r : Registers} → Inside M → Starts r → Chain-invariant M 0 (Empty M r)
 unfolding top-of pushes
 begin-holds {M} {r} inside s =
     record {
       opens = [];
       shared =
           record {
-            fitted = s .fitted;
             at-there = subst (There M) (sym (s .at-start)) (inside .starts);
             notes-long = length-replicate (how-many M) 0;
             work-long = length-replicate (how-many M) 0;
@@ -74,34 +75,36 @@ begin-holds {M} {r} inside s =
 
 -- ONE STEP MORE
 keeps-by :
-    {M : Machine} → Inside M → (n : ℕ) (x : Standing) {os : List Open} (m : Mode) → Shared M os x → Phase M n x os m → verdict-of m ≡ none →
-    Holds M (suc n) (turn-by m M (x .now-at) (x .notes) (x .work))
+    {M : Machine} {E : Environment} → Fitted M E → Inside M → (n : ℕ) (x : Program-state Registers) {os : List Open} (m : Mode) →
+    Shared M os x → Phase M n x os m → verdict-of m ≡ none → Chain-invariant M (suc n) (step-by-mode m M E (x .state) (x .notes) (x .work))
 unfolding verdict-of
-keeps-by inside n x m s (looking running path few) e = look-keeps inside n x s running path few
-keeps-by inside n x m s (unwinding running path ends few) e = unwind-keeps inside n x s running path ends few
-keeps-by inside n x m s (clearing settled few) e = clear-keeps n x s settled few
-keeps-by inside n x m s (done settled few) e = let z : _≡_ {A = ℕ} 0 1 = cc in absurd (omega arith)
+keeps-by fitted inside n x m s (looking running path few) e = look-keeps fitted inside n x s running path few
+keeps-by fitted inside n x m s (unwinding running path ends few) e = unwind-keeps fitted inside n x s running path ends few
+keeps-by fitted inside n x m s (clearing settled few) e = clear-keeps _ n x s settled few
+keeps-by fitted inside n x m s (done settled few) e = let z : _≡_ {A = ℕ} 0 1 = cc in absurd (omega arith)
 
-pub keeps : {M : Machine} → Inside M → (n : ℕ) (x : Standing) → Holds M n x → verdict-of (x .now-at .mode) ≡ none → Holds M (suc n) (turn M x)
-unfolding turn
-keeps inside n x h e = keeps-by inside n x (x .now-at .mode) (h .shared) (h .phase) e
+pub keeps :
+    {M : Machine} {E : Environment} → Fitted M E → Inside M → (n : ℕ) (x : Program-state Registers) → Chain-invariant M n x →
+    verdict-of (x .state .mode) ≡ none → Chain-invariant M (suc n) (judge-step M E x)
+unfolding judge-step
+keeps fitted inside n x h e = keeps-by fitted inside n x (x .state .mode) (h .shared) (h .phase) e
 
 -- THE BOUND, in every phase
-few-by : {M : Machine} {n : ℕ} {x : Standing} {os : List Open} {m : Mode} → Phase M n x os m → n ≤ 4 * x .now-at .readings + 1
+few-by : {M : Machine} {n : ℕ} {x : Program-state Registers} {os : List Open} {m : Mode} → Phase M n x os m → n ≤ 4 * x .state .readings + 1
 few-by (looking running path few) = omega arith
 few-by (unwinding running path ends few) = omega arith
 few-by (clearing settled few) = omega arith
 few-by (done settled few) = few
 
-pub few-steps : {M : Machine} {n : ℕ} {x : Standing} → Holds M n x → n ≤ 4 * x .now-at .readings + 1
+pub few-steps : {M : Machine} {n : ℕ} {x : Program-state Registers} → Chain-invariant M n x → n ≤ 4 * x .state .readings + 1
 few-steps h = few-by (h .phase)
 
-pub readings-most : {M : Machine} {n : ℕ} {x : Standing} → Holds M n x → x .now-at .readings ≤ how-many M
+pub readings-most : {M : Machine} {n : ℕ} {x : Program-state Registers} → Chain-invariant M n x → x .state .readings ≤ how-many M
 readings-most {M} {x = x} h = let e = h .shared .counted in let l = nonzero-most (how-many M) (x .notes) in omega arith
 
 -- THE END
 settled-by :
-    {M : Machine} {n : ℕ} {x : Standing} {os : List Open} {m : Mode} → Phase M n x os m → {v : Verdict} → verdict-of m ≡ some v →
+    {M : Machine} {n : ℕ} {x : Program-state Registers} {os : List Open} {m : Mode} → Phase M n x os m → {v : Verdict} → verdict-of m ≡ some v →
     Settled M [] v x
 unfolding verdict-of
 settled-by (looking running path few) e = let z : _≡_ {A = ℕ} 0 1 = cc in absurd (omega arith)
@@ -109,10 +112,10 @@ settled-by (unwinding running path ends few) e = let z : _≡_ {A = ℕ} 0 1 = c
 settled-by (clearing settled few) e = let z : _≡_ {A = ℕ} 0 1 = cc in absurd (omega arith)
 settled-by {M} {x = x} (done {v = w} settled few) {v} e = let same : w ≡ v = cc in subst (λ (u : Verdict). Settled M [] u x) same settled
 
-pub settled-at : {M : Machine} {n : ℕ} {x : Standing} {v : Verdict} → Holds M n x → verdict-of (x .now-at .mode) ≡ some v → Settled M [] v x
+pub settled-at : {M : Machine} {n : ℕ} {x : Program-state Registers} {v : Verdict} → Chain-invariant M n x → verdict-of (x .state .mode) ≡ some v → Settled M [] v x
 settled-at h e = settled-by (h .phase) e
 
-pub work-zero : {M : Machine} {n : ℕ} {x : Standing} {v : Verdict} → Holds M n x → Settled M [] v x → x .work ≡ replicate (how-many M) 0
+pub work-zero : {M : Machine} {n : ℕ} {x : Program-state Registers} {v : Verdict} → Chain-invariant M n x → Settled M [] v x → x .work ≡ replicate (how-many M) 0
 work-zero {M} {x = x} h s =
     ext-getD 0 (x .work) (replicate (how-many M) 0) (h .shared .work-long ∙ sym (length-replicate (how-many M) 0)) (λ k l. at k (omega (arith, h .shared .work-long)))
   where
@@ -126,33 +129,34 @@ work-zero {M} {x = x} h s =
         ∙ sym (getD-replicate (how-many M) k 0 0 l)
 
 -- A SEQUENCE OF STEPS
-pub record Finished (M : Machine) (at : ℕ → Standing) : Type 0 where
+pub record Finished (M : Machine) (at : ℕ → Program-state Registers) : Type 0 where
   pub steps : ℕ
   pub verdict : Verdict
-  pub answers : verdict-of (at steps .now-at .mode) ≡ some verdict
-  pub not-before : (n : ℕ) → n < steps → verdict-of (at n .now-at .mode) ≡ none
-  pub holds : (n : ℕ) → n ≤ steps → Holds M n (at n)
+  pub answers : verdict-of (at steps .state .mode) ≡ some verdict
+  pub not-before : (n : ℕ) → n < steps → verdict-of (at n .state .mode) ≡ none
+  pub holds : (n : ℕ) → n ≤ steps → Chain-invariant M n (at n)
 
-module _ {M : Machine} (inside : Inside M) (at : ℕ → Standing) (goes : (n : ℕ) → at (suc n) ≡ turn M (at n)) (begins : Holds M 0 (at 0)) where
-  holds-until : (n : ℕ) → ((k : ℕ) → k < n → verdict-of (at k .now-at .mode) ≡ none) → Holds M n (at n)
+module _ {M : Machine} {E : Environment} (fitted : Fitted M E) (inside : Inside M) (at : ℕ → Program-state Registers)
+    (goes : (n : ℕ) → at (suc n) ≡ judge-step M E (at n)) (begins : Chain-invariant M 0 (at 0)) where
+  holds-until : (n : ℕ) → ((k : ℕ) → k < n → verdict-of (at k .state .mode) ≡ none) → Chain-invariant M n (at n)
   holds-until zero e = begins
   holds-until (suc n) e =
-      subst (Holds M (suc n)) (sym (goes n)) (keeps inside n (at n) (holds-until n (λ k l. e k (omega arith))) (e n (omega arith)))
+      subst (Chain-invariant M (suc n)) (sym (goes n)) (keeps fitted inside n (at n) (holds-until n (λ k l. e k (omega arith))) (e n (omega arith)))
 
   finish-by :
-      (left n : ℕ) → left + n ≡ 4 * how-many M + 2 → ((k : ℕ) → k < n → verdict-of (at k .now-at .mode) ≡ none) → Finished M at
+      (left n : ℕ) → left + n ≡ 4 * how-many M + 2 → ((k : ℕ) → k < n → verdict-of (at k .state .mode) ≡ none) → Finished M at
   finish-by zero n e none-yet =
       let h = holds-until n none-yet in
       absurd (omega (arith, few-steps h, readings-most h))
-  finish-by (suc left) n e none-yet = go (verdict-of (at n .now-at .mode)) refl (finish-by left (suc n) (omega arith))
+  finish-by (suc left) n e none-yet = go (verdict-of (at n .state .mode)) refl (finish-by left (suc n) (omega arith))
     where
-      before : verdict-of (at n .now-at .mode) ≡ none → (k : ℕ) → k < suc n → Dec (k < n) → verdict-of (at k .now-at .mode) ≡ none
+      before : verdict-of (at n .state .mode) ≡ none → (k : ℕ) → k < suc n → Dec (k < n) → verdict-of (at k .state .mode) ≡ none
       before f k l (yes a) = none-yet k a
-      before f k l (no a) = let same : n ≡ k = omega arith in subst (λ (j : ℕ). verdict-of (at j .now-at .mode) ≡ none) same f
+      before f k l (no a) = let same : n ≡ k = omega arith in subst (λ (j : ℕ). verdict-of (at j .state .mode) ≡ none) same f
 
       go :
-          (o : Option Verdict) → verdict-of (at n .now-at .mode) ≡ o →
-          (((k : ℕ) → k < suc n → verdict-of (at k .now-at .mode) ≡ none) → Finished M at) → Finished M at
+          (o : Option Verdict) → verdict-of (at n .state .mode) ≡ o →
+          (((k : ℕ) → k < suc n → verdict-of (at k .state .mode) ≡ none) → Finished M at) → Finished M at
       go none f more = more (λ k l. before f k l (decLt k n))
       go (some v) f more =
           record {

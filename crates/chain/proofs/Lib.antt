@@ -1,6 +1,7 @@
 -- What is proved of the chain: that a step is safe and what it adds; from paths of open configurations to the verdict.
 pub mod StepSafe
 pub mod OwnTerminator
+pub mod LookBy
 pub mod StepAdds
 pub mod Travel
 pub mod Path
@@ -14,7 +15,6 @@ pub mod Closes
 pub mod LookKeeps
 pub mod UnwindKeeps
 pub mod Finish
-pub mod SizesKept
 pub mod Readies
 pub mod ChainJudges
 pub mod Interface

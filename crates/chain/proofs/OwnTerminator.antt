@@ -1,21 +1,33 @@
 -- A configuration that pops is its own terminator: its head is its entry's pointer, so that a return changes nothing. Assumes nothing.
 use mathlib.Core.Path.{_≡_}
 use mathlib.Core.Bool.{Bool, true, false}
+use mathlib.Core.List.{List}
 use Prim.Native.Nat.{ℕ, _+_}
+use Rattle.machine.specs.declared.Action.{Action}
 use Rattle.machine.specs.declared.Action.the-variants.{Pop}
 use Rattle.chain.specs.declared.Mode.the-variants.{Unwind}
-use Rattle.chain.specs.declared.Record.{Record}
-use Rattle.chain.specs.Turn.{with-now, accepts, popped, resumed, counted, closed}
+use Rattle.chain.specs.declared.Environment.{Environment}
+use Rattle.chain.specs.declared.Registers.{Registers}
+use Rattle.chain.specs.Step.{registers-of, after-pop, resumed, with-reading, closed, first-look}
+use Rattle.chain.specs.StepParts.{Pops, First-looks}
 
-module _ (r : Record) (p : ℕ) where
+module _ (E : Environment) (r : Registers) (p : ℕ) where
   pub pops-pushed :
       r .pushed ≡ true → (b : Bool) →
-      popped (with-now r (r .mode) (r .at) true (r .top) (r .readings + 1)) (r .at) p (r .at .head) (r .top) ≡ closed (counted r) (r .at) (Pop p b)
-  unfolding closed resumed accepts
+      after-pop E (r .at) p (r .at .head) (r .top) (r .readings + 1) ≡ closed E (with-reading r) (r .at) (Pop p b)
+  unfolding closed resumed
   pops-pushed e true = simp e
   pops-pushed e false = simp e
 
   pub pops-changed :
-      r .pushed ≡ false → (b : Bool) → with-now r Unwind (r .at) false (r .top) (r .readings + 1) ≡ closed (counted r) (r .at) (Pop p b)
+      r .pushed ≡ false → (b : Bool) →
+      registers-of Unwind (r .at) false (r .top) (r .readings + 1) ≡ closed E (with-reading r) (r .at) (Pop p b)
   unfolding closed
   pops-changed e b = simp e
+
+-- so a first look at it, whether its pop returns or not
+pub first-pops :
+    {E : Environment} {r x : Registers} {k p : ℕ} {ns ns′ ws : List ℕ} {b : Bool} {a : Action} → Pops E r x k p ns ns′ → a ≡ Pop p b →
+    First-looks E r k a x ns ns′ ws ws
+unfolding first-look
+first-pops {b = b} s e = record { is = rw (e, s .closes b, s .notes-are) }

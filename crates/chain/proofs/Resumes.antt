@@ -8,25 +8,27 @@ use lib.ListN.{length}
 use borrow.Author.Tests.{ne-eqb}
 use Rattle.machine.specs.declared.Config.{Config}
 use Rattle.machine.specs.declared.Action.the-variants.{Push, Pop}
-use Rattle.machine.specs.declared.Verdict.the-variants.{Accepted, Ended}
-use Rattle.machine.specs.Run.{Machine, There, config, returned, number}
-use Rattle.machine.specs.Verdicts.{Says}
+use Rattle.machine.specs.declared.Halt.the-variants.{Over}
+use Rattle.machine.specs.Halting.{halt-verdict}
+use Rattle.machine.specs.Run.{Machine, There, config, returned, number-by, number}
+use Rattle.machine.specs.Verdicts.{Says, halts}
 use Rattle.machine.proofs.Inside.{Inside}
 use Rattle.machine.proofs.Digits.{low-digit}
 use Rattle.machine.proofs.Ends.{Ends, resume}
 use Rattle.chain.specs.declared.Mode.{Mode}
 use Rattle.chain.specs.declared.Mode.the-variants.{Look, Done}
-use Rattle.chain.specs.declared.Record.{Record}
-use Rattle.chain.specs.Turn.{standing, with-now, resumed}
+use Rattle.chain.specs.declared.Environment.{Environment}
+use Rattle.chain.specs.declared.Registers.{Registers}
+use Rattle.chain.specs.Step.{with-cells, registers-of, resumed}
 use Rattle.chain.proofs.Path.{Open, open-as, Among, here, later, by-push, by-return, Path, begin, on}
 use Rattle.chain.proofs.Endings.{over-at, over-complete}
 use Rattle.chain.proofs.Cells.{Seen, top-of, Linked, a-link, Running, settle, zero-else}
-use Rattle.chain.proofs.Invariant.{Fitted, Shared, bit, pushes, looking, done, Holds}
+use Rattle.chain.proofs.Invariant.{Fitted, Shared, bit, pushes, looking, done, Chain-invariant}
 
 -- the symbol of a configuration from one more than its number
-symbol-kept : {M : Machine} {r : Record} (c : Config) → Fitted M r → There M c → (number M c + 1 - 1) % r .sizes .symbols ≡ c .symbol
-unfolding number
-symbol-kept {M} {r} c f t =
+symbol-kept : {M : Machine} {E : Environment} (c : Config) → Fitted M E → There M c → (number M c + 1 - 1) % E .sizes .symbols ≡ c .symbol
+unfolding number-by number
+symbol-kept {M} {E} c f t =
     let back : number M c + 1 - 1 ≡ number M c = omega arith in
     rw (back, f .symbols-are) (low-digit (c .state) (c .head) (M .places) (t .symbol-below))
 
@@ -34,16 +36,15 @@ returned-below : {n : ℕ} (r : Bool) (i j : ℕ) → i < n → j < n → return
 returned-below true i j a b = a
 returned-below false i j a b = b
 
--- a record and cells whose open configurations are os, whatever the record says otherwise
-abbrev pub Shared-as : Machine → List Open → Record → (ns ws : List ℕ) → Type 0
-Shared-as M os r ns ws =
-    (m : Mode) (c : Config) (b : Bool) → There M c → Shared M os (standing (with-now r m c b (top-of M os) (r .readings)) ns ws)
+-- cells whose open configurations are os, whatever the registers say otherwise
+abbrev pub Shared-as : Machine → List Open → (readings : ℕ) → (ns ws : List ℕ) → Type 0
+Shared-as M os reads ns ws =
+    (m : Mode) (c : Config) (b : Bool) → There M c → Shared M os (with-cells (registers-of m c b (top-of M os) reads) ns ws)
 
 over-says :
     {M : Machine} {P : Config → Type 0} {d : Config} {p : ℕ} {b : Bool} → Ends M P (config 0 0 0) d → M .action d ≡ Pop p b → (t : Bool) →
-    M .accepting p (returned b 0 (d .head)) ≡ t → Says M (cond t Accepted Ended) d
-over-says {d = d} {p = p} {b = b} x a true e = (p, returned b 0 (d .head), over-at x a, e)
-over-says {d = d} {p = p} {b = b} x a false e = (p, returned b 0 (d .head), over-at x a, e)
+    M .accepting p (returned b 0 (d .head)) ≡ t → Says M (halt-verdict (Over t)) d
+over-says x a t e = halts (over-at x a t e) refl
 
 pub not-among-none : {c : Config} → Among c [] → ⊥
 not-among-none a = go a refl
@@ -52,16 +53,16 @@ not-among-none a = go a refl
     go here e = let z : _≡_ {A = ℕ} 0 1 = cc in omega arith
     go (later a) e = let z : _≡_ {A = ℕ} 0 1 = cc in omega arith
 
-module _ {M : Machine} {r : Record} {ns ws : List ℕ} (n : ℕ) (fitted : Fitted M r) where
+module _ {M : Machine} {E : Environment} (r : Registers) {ns ws : List ℕ} (n : ℕ) (fitted : Fitted M E) where
   over-holds :
-      {d : Config} {p : ℕ} {b : Bool} → Shared-as M [] r ns ws → Running M [] ns ws → Ends M (Seen M ns) (config 0 0 0) d → There M d → M .action d ≡ Pop p b →
+      {d : Config} {p : ℕ} {b : Bool} → Shared-as M [] (r .readings) ns ws → Running M [] ns ws → Ends M (Seen M ns) (config 0 0 0) d → There M d → M .action d ≡ Pop p b →
       suc n ≤ 4 * r .readings + 1 → (t : Bool) → M .accepting p (returned b 0 (d .head)) ≡ t →
-      Holds M (suc n) (standing (with-now r (Done (cond t Accepted Ended)) d false 0 (r .readings)) ns ws)
+      Chain-invariant M (suc n) (with-cells (registers-of (Done (halt-verdict (Over t))) d false 0 (r .readings)) ns ws)
   unfolding top-of
   over-holds {d} {p} {b} shared running x there a few t e =
       record {
         opens = [];
-        shared = shared (Done (cond t Accepted Ended)) d false there;
+        shared = shared (Done (halt-verdict (Over t))) d false there;
         phase =
             done
             (record {
@@ -73,18 +74,18 @@ module _ {M : Machine} {r : Record} {ns ws : List ℕ} (n : ℕ) (fitted : Fitte
       }
 
   returns-holds :
-      {os : List Open} {c e d : Config} {f : Bool} {p : ℕ} {b : Bool} → Inside M → Shared-as M (open-as c f ∷ os) r ns ws → Running M (open-as c f ∷ os) ns ws →
+      {os : List Open} {c e d : Config} {f : Bool} {p : ℕ} {b : Bool} → Inside M → Shared-as M (open-as c f ∷ os) (r .readings) ns ws → Running M (open-as c f ∷ os) ns ws →
       Path M (Seen M ns) os c f → M .action c ≡ Push e → Ends M (Seen M ns) e d → There M c → There M e → There M d → M .action d ≡ Pop p b →
       suc n + suc (length os) + (bit f + pushes os) ≤ 4 * r .readings + 1 →
-      Holds M (suc n)
-      (standing
-      (with-now r Look (config p (returned b (e .head) (d .head)) ((number M c + 1 - 1) % r .sizes .symbols)) false (number M c + 1) (r .readings))
+      Chain-invariant M (suc n)
+      (with-cells
+      (registers-of Look (config p (returned b (e .head) (d .head)) ((number M c + 1 - 1) % E .sizes .symbols)) false (number M c + 1) (r .readings))
       ns
       ws)
   unfolding top-of pushes
   returns-holds {os} {c} {e} {d} {f} {p} {b} inside shared running path pushing x there-c there-e there-d a few =
       subst
-      (λ (k : ℕ). Holds M (suc n) (standing (with-now r Look (config p (returned b (e .head) (d .head)) k) false (number M c + 1) (r .readings)) ns ws))
+      (λ (k : ℕ). Chain-invariant M (suc n) (with-cells (registers-of Look (config p (returned b (e .head) (d .head)) k) false (number M c + 1) (r .readings)) ns ws))
       (sym (symbol-kept c fitted there-c))
       (record {
         opens = open-as c f ∷ os;
@@ -102,13 +103,13 @@ module _ {M : Machine} {r : Record} {ns ws : List ℕ} (n : ℕ) (fitted : Fitte
 
   -- the entry that c was pushed with is removed from d
   pub resumed-holds :
-      {os : List Open} {c d : Config} {p : ℕ} {b : Bool} → Inside M → Shared-as M os r ns ws → Linked M ws os → Running M os ns ws →
+      {os : List Open} {c d : Config} {p : ℕ} {b : Bool} → Inside M → Shared-as M os (r .readings) ns ws → Linked M ws os → Running M os ns ws →
       Path M (Seen M ns) os c true → Ends M (Seen M ns) c d → There M c → There M d → M .action d ≡ Pop p b →
       suc n + length os + pushes os ≤ 4 * r .readings + 1 →
-      Holds M (suc n) (standing (resumed r d (Pop p b) (c .head) (top-of M os)) ns ws)
+      Chain-invariant M (suc n) (with-cells (resumed E r d (Pop p b) (c .head) (top-of M os)) ns ws)
   unfolding resumed top-of pushes
   resumed-holds {d = d} {p = p} {b = b} inside shared links running begin x there-c there-d a few =
-      subst (λ (t : Bool). Holds M (suc n) (standing (with-now r (Done (cond t Accepted Ended)) d false 0 (r .readings)) ns ws))
+      subst (λ (t : Bool). Chain-invariant M (suc n) (with-cells (registers-of (Done (halt-verdict (Over t))) d false 0 (r .readings)) ns ws))
       (sym (fitted .accepts-as p (returned b 0 (d .head))))
       (over-holds shared running x there-d a (omega arith) (M .accepting p (returned b 0 (d .head))) refl)
   resumed-holds {d = d} {p = p} {b = b} inside shared (a-link there l links) running (on {c = e} path (by-push pushing)) x there-c there-d a few =

@@ -12,18 +12,19 @@ use lib.Seq.{getD-set-same, getD-set-other}
 use borrow.Author.Tests.{eq-eqb, ne-eqb}
 use Rattle.machine.specs.declared.Config.{Config}
 use Rattle.machine.specs.declared.Verdict.{Verdict}
-use Rattle.machine.specs.Run.{Machine, There, number}
+use Rattle.machine.specs.Run.{Machine, There, number-by, number}
 use Rattle.machine.proofs.Inside.{Inside}
 use Rattle.machine.proofs.Digits.{middle-digit}
 use Rattle.machine.proofs.Numbers.{number-below}
 use Rattle.machine.proofs.Ends.{Ends}
 use Rattle.chain.specs.declared.Mode.{Mode}
 use Rattle.chain.specs.declared.Mode.the-variants.{Unwind, Clear, Done}
-use Rattle.chain.specs.declared.Record.{Record}
-use Rattle.chain.specs.Turn.{Standing, standing, with-now, link, unwound, unwind, cleared, turn-by}
+use Rattle.chain.specs.declared.Environment.{Environment}
+use Rattle.chain.specs.declared.Registers.{Registers}
+use Rattle.chain.specs.Step.{Program-state, with-cells, registers-of, link, unwound, unwind, cleared, step-by-mode}
 use Rattle.chain.proofs.Path.{Open, Among, Path}
 use Rattle.chain.proofs.Cells.{Seen, top-of, Linked, a-link, Running, among-other}
-use Rattle.chain.proofs.Invariant.{Fitted, Shared, bit, pushes, Settled, clearing, done, Holds}
+use Rattle.chain.proofs.Invariant.{Fitted, Shared, bit, pushes, Settled, clearing, done, Chain-invariant}
 use Rattle.chain.proofs.Shares.{taken-shared, number-kept}
 use Rattle.chain.proofs.Closes.{newest-there, closed-by}
 
@@ -41,35 +42,43 @@ link-even t false = eq-eqb (2 * t % 2) 0 (omega arith)
 link-of : {M : Machine} {work : List ℕ} {o : Open} {os : List Open} → Linked M work (o ∷ os) → getD work (number M (o .config)) 0 ≡ link (top-of M os) (o .pushed)
 link-of (a-link t e l) = e
 
--- the newest open configuration's number, by the record's link
-newest-number : {M : Machine} {o : Open} {os : List Open} {x : Standing} → Shared M (o ∷ os) x → x .now-at .top - 1 ≡ number M (o .config)
+-- the newest open configuration's number, by the registers' link
+newest-number : {M : Machine} {o : Open} {os : List Open} {x : Program-state Registers} → Shared M (o ∷ os) x → x .state .top - 1 ≡ number M (o .config)
 unfolding top-of
 newest-number s = let e = s .top-is in omega arith
 
 -- its head, from its number
-head-kept : {M : Machine} {r : Record} (c : Config) → Fitted M r → There M c → number M c / r .sizes .symbols % r .sizes .places ≡ c .head
-unfolding number
-head-kept {M} {r} c f t = rw (f .places-are, f .symbols-are) (middle-digit (c .state) (t .head-below) (t .symbol-below))
+head-kept : {M : Machine} {E : Environment} (c : Config) → Fitted M E → There M c → number M c / E .sizes .symbols % E .sizes .places ≡ c .head
+unfolding number-by number
+head-kept {M} {E} c f t = rw (f .places-are, f .symbols-are) (middle-digit (c .state) (t .head-below) (t .symbol-below))
 
 -- UNWIND
 pub unwind-keeps :
-    {M : Machine} → Inside M → (n : ℕ) (x : Standing) {o : Open} {os : List Open} → Shared M (o ∷ os) x → Running M (o ∷ os) (x .notes) (x .work) →
-    Path M (Seen M (x .notes)) os (o .config) (o .pushed) → Ends M (Seen M (x .notes)) (o .config) (x .now-at .at) →
-    n + length os + (bit (o .pushed) + pushes os) ≤ 4 * x .now-at .readings + 1 →
-    Holds M (suc n) (turn-by Unwind M (x .now-at) (x .notes) (x .work))
-unfolding turn-by unwind unwound
-unwind-keeps {M} inside n x {o} {os} s running path ends few =
-    rw (newest-number s, number-kept (x .now-at .at) (s .fitted), link-of (s .links), link-half (top-of M os) (o .pushed), link-even (top-of M os) (o .pushed), head-kept (o .config) (s .fitted) (newest-there (s .links)))
-    (closed-by inside n x s running ends (o .pushed) path few)
+    {M : Machine} {E : Environment} → Fitted M E → Inside M → (n : ℕ) (x : Program-state Registers) {o : Open} {os : List Open} →
+    Shared M (o ∷ os) x → Running M (o ∷ os) (x .notes) (x .work) →
+    Path M (Seen M (x .notes)) os (o .config) (o .pushed) → Ends M (Seen M (x .notes)) (o .config) (x .state .at) →
+    n + length os + (bit (o .pushed) + pushes os) ≤ 4 * x .state .readings + 1 →
+    Chain-invariant M (suc n) (step-by-mode Unwind M E (x .state) (x .notes) (x .work))
+unfolding step-by-mode unwind unwound
+unwind-keeps {M} fitted inside n x {o} {os} s running path ends few =
+    rw (
+      newest-number s,
+      number-kept (x .state .at) fitted,
+      link-of (s .links),
+      link-half (top-of M os) (o .pushed),
+      link-even (top-of M os) (o .pushed),
+      head-kept (o .config) fitted (newest-there (s .links)),
+    )
+    (closed-by fitted inside n x s running ends (o .pushed) path few)
 
 -- CLEAR
-module _ {M : Machine} (n : ℕ) (x : Standing) {o : Open} {os : List Open} {v : Verdict} (s : Shared M (o ∷ os) x) (settled : Settled M (o ∷ os) v x)
-    (few : n + suc (length os) ≤ 4 * x .now-at .readings + 1) where
+module _ {M : Machine} (n : ℕ) (x : Program-state Registers) {o : Open} {os : List Open} {v : Verdict} (s : Shared M (o ∷ os) x) (settled : Settled M (o ∷ os) v x)
+    (few : n + suc (length os) ≤ 4 * x .state .readings + 1) where
   cleared-by :
-      Holds M (suc n)
-      (standing
-      (cond (eqb (top-of M os) 0) (with-now (x .now-at) (Done v) (x .now-at .at) false 0 (x .now-at .readings))
-      (with-now (x .now-at) (Clear v) (x .now-at .at) false (top-of M os) (x .now-at .readings)))
+      Chain-invariant M (suc n)
+      (with-cells
+      (cond (eqb (top-of M os) 0) (registers-of (Done v) (x .state .at) false 0 (x .state .readings))
+      (registers-of (Clear v) (x .state .at) false (top-of M os) (x .state .readings)))
       (x .notes)
       (set (x .work) (number M (o .config)) 0))
   unfolding top-of
@@ -93,31 +102,31 @@ module _ {M : Machine} (n : ℕ) (x : Standing) {o : Open} {os : List Open} {v :
 
       go :
           (ps : List Open) → ((c : Config) → There M c → Among c ps ⊎ (getD (set (x .work) k 0) (number M c) 0 ≡ 0)) →
-          ((m : Mode) (c : Config) (b : Bool) → There M c → Shared M ps (standing (with-now (x .now-at) m c b (top-of M ps) (x .now-at .readings)) (x .notes) (set (x .work) k 0))) →
-          n + suc (length ps) ≤ 4 * x .now-at .readings + 1 →
-          Holds M (suc n)
-          (standing
-          (cond (eqb (top-of M ps) 0) (with-now (x .now-at) (Done v) (x .now-at .at) false 0 (x .now-at .readings))
-          (with-now (x .now-at) (Clear v) (x .now-at .at) false (top-of M ps) (x .now-at .readings)))
+          ((m : Mode) (c : Config) (b : Bool) → There M c → Shared M ps (with-cells (registers-of m c b (top-of M ps) (x .state .readings)) (x .notes) (set (x .work) k 0))) →
+          n + suc (length ps) ≤ 4 * x .state .readings + 1 →
+          Chain-invariant M (suc n)
+          (with-cells
+          (cond (eqb (top-of M ps) 0) (registers-of (Done v) (x .state .at) false 0 (x .state .readings))
+          (registers-of (Clear v) (x .state .at) false (top-of M ps) (x .state .readings)))
           (x .notes)
           (set (x .work) k 0))
       go [] zero shared l =
           record {
             opens = [];
-            shared = shared (Done v) (x .now-at .at) false (s .at-there);
+            shared = shared (Done v) (x .state .at) false (s .at-there);
             phase = done (record { says = settled .says; noted = settled .noted; zero-work = zero }) (omega arith);
           }
       go (p ∷ ps) zero shared l =
           rw (ne-eqb (number M (p .config) + 1) 0 (λ z. omega arith))
           (record {
             opens = p ∷ ps;
-            shared = shared (Clear v) (x .now-at .at) false (s .at-there);
+            shared = shared (Clear v) (x .state .at) false (s .at-there);
             phase = clearing (record { says = settled .says; noted = settled .noted; zero-work = zero }) (omega arith);
           })
 
 pub clear-keeps :
-    {M : Machine} (n : ℕ) (x : Standing) {o : Open} {os : List Open} {v : Verdict} → Shared M (o ∷ os) x → Settled M (o ∷ os) v x →
-    n + suc (length os) ≤ 4 * x .now-at .readings + 1 → Holds M (suc n) (turn-by (Clear v) M (x .now-at) (x .notes) (x .work))
-unfolding turn-by cleared
-clear-keeps {M} n x {o} {os} s settled few =
+    {M : Machine} (E : Environment) (n : ℕ) (x : Program-state Registers) {o : Open} {os : List Open} {v : Verdict} → Shared M (o ∷ os) x → Settled M (o ∷ os) v x →
+    n + suc (length os) ≤ 4 * x .state .readings + 1 → Chain-invariant M (suc n) (step-by-mode (Clear v) M E (x .state) (x .notes) (x .work))
+unfolding step-by-mode cleared
+clear-keeps {M} E n x {o} {os} s settled few =
     rw (newest-number s, link-of (s .links), link-half (top-of M os) (o .pushed)) (cleared-by n x s settled few)

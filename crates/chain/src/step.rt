@@ -1,32 +1,33 @@
 // One step of the judge. No function here has a loop or calls itself, and a step reads at most one rule.
+use crate::Environment;
 use crate::Mode;
-use crate::Record;
+use crate::Registers;
 use machine::Action;
 use machine::Config;
+use machine::Halt;
+use machine::Note;
 use machine::Sizes;
 use machine::Verdict;
+use machine::halting::halt_verdict;
+use machine::halting::stop_verdict;
 use machine::lookup;
+use machine::notes::note_of;
 ghost use mathlib.Core.Path.{_≡_};
-ghost use mathlib.Core.Bool.{Bool};
-ghost use Prim.Native.Nat.{ℕ, _+_, _-_, _/_, _%_, _<_, _≤_};
-ghost use lib.ListN.{length, getD, set};
-ghost use Rattle.machine.specs.declared.Action.the-variants.{Pop};
+ghost use Prim.Native.Nat.{_+_, _*_, _/_, _%_, _<_, _≤_};
+ghost use lib.ListN.{length};
+ghost use Rattle.machine.specs.Format.{max-states, max-places};
 ghost use Rattle.machine.specs.Run.{returned};
 ghost use Rattle.machine.specs.Image.{machine};
-ghost use Rattle.machine.specs.Lookup.{Lookup-ready};
+ghost use Rattle.machine.specs.code.Lookup.{Lookup-ready};
 ghost use Rattle.chain.specs.declared.Mode.the-variants.{Look, Unwind};
-ghost use Rattle.chain.specs.Ready.{Ready, Openable, Step-says};
-ghost use Rattle.chain.specs.Turn;
+ghost use Rattle.chain.specs.Step;
+ghost use Rattle.chain.specs.Ready.{Ready, Step-says};
+ghost use Rattle.chain.specs.StepParts.{u32-end, Resumable, Openable, First-ready, Poppable, Pops, Closable, Opens, First-looks, Steps-by, Unwindable, Clears};
 
-// The record with another mode, configuration, link and count.
-fn with_now(r: Record, mode: Mode, at: Config, pushed: bool, top: u32, readings: u32) -> Record
-    ensures { λ x. ⌜ x ≡ Turn.with-now r mode at pushed top readings ⌝ }
+fn registers_of(mode: Mode, at: Config, pushed: bool, top: u32, readings: u32) -> Registers
+    ensures { λ x. ⌜ x ≡ Step.registers-of mode at pushed top readings ⌝ }
 {
-    let sizes = r.sizes;
-    let finals = r.finals;
-    Record {
-        sizes,
-        finals,
+    Registers {
         mode,
         at,
         pushed,
@@ -37,40 +38,39 @@ fn with_now(r: Record, mode: Mode, at: Config, pushed: bool, top: u32, readings:
 
 // A work cell: twice the link, and one more for a configuration that a push entered.
 fn link(top: u32, pushed: bool) -> u32
-    requires { ⌜ top < 2147483648 ⌝ }
-    ensures { λ x. ⌜ x ≡ Turn.link top pushed ⌝ }
+    requires { ⌜ 2 * top + 1 < u32-end ⌝ }
+    ensures { λ x. ⌜ x ≡ Step.link top pushed ⌝ }
 {
     if pushed { 2 * top + 1 } else { 2 * top }
 }
 
 // After the last open configuration is cleared the verdict stands.
-fn cleared(r: Record, verdict: Verdict, cell: u32) -> Record
-    ensures { λ x. ⌜ x ≡ Turn.cleared r verdict cell ⌝ }
+fn cleared(r: Registers, verdict: Verdict, cell: u32) -> Registers
+    ensures { λ x. ⌜ x ≡ Step.cleared r verdict cell ⌝ }
 {
     let at = r.at;
     let top = cell / 2;
     let readings = r.readings;
     if top == 0 {
-        return with_now(r, Mode::Done(verdict), at, false, 0, readings);
+        return registers_of(Mode::Done(verdict), at, false, 0, readings);
     }
-    with_now(r, Mode::Clear(verdict), at, false, top, readings)
+    registers_of(Mode::Clear(verdict), at, false, top, readings)
 }
 
 // The terminator d popped an entry: the newest open configuration resumes; with none open the run is over.
-fn popped(r: Record, d: Config, state: u32, head: u32, top: u32) -> Record
-    requires { ⌜ (state < 32) × (0 < r .sizes .symbols) × (head < 65537) ⌝ }
-    ensures { λ x. ⌜ x ≡ Turn.popped r d state head top ⌝ }
+fn after_pop(e: Environment, d: Config, state: u32, head: u32, top: u32, readings: u32) -> Registers
+    requires { ⌜ (state < max-states) × (0 < e .sizes .symbols) × (head < max-places) ⌝ }
+    ensures { λ x. ⌜ x ≡ Step.after-pop e d state head top readings ⌝ }
 {
-    let sizes = r.sizes;
+    let sizes = e.sizes;
     let symbols = sizes.symbols;
-    let readings = r.readings;
     if top == 0 {
-        let verdict = lookup::verdict_over(r.finals, sizes.places, state, head);
-        return with_now(r, Mode::Done(verdict), d, false, 0, readings);
+        let accepting = lookup::accepts(e.finals, sizes.places, state, head);
+        let verdict = halt_verdict(Halt::Over { accepting });
+        return registers_of(Mode::Done(verdict), d, false, 0, readings);
     }
     let symbol = (top - 1) % symbols;
-    with_now(
-        r,
+    registers_of(
         Mode::Look,
         Config {
             state,
@@ -83,18 +83,25 @@ fn popped(r: Record, d: Config, state: u32, head: u32, top: u32) -> Record
     )
 }
 
-// What the terminator d's rule makes of the record, of an entry with this pointer: a terminator's rule is a pop.
-fn resumed(r: Record, d: Config, action: Action, pointer: u32, top: u32) -> Record
-    requires { ⌜ (0 < r .sizes .symbols) × (pointer < 65537) × (d .head < 65537) × ((p : ℕ) (b : Bool) → action ≡ Pop p b → p < 32) ⌝ }
-    ensures { λ x. ⌜ x ≡ Turn.resumed r d action pointer top ⌝ }
+// What the terminator d's rule makes of the registers, of an entry with this pointer: a terminator's rule is a pop.
+fn resumed(
+    e: Environment,
+    r: Registers,
+    d: Config,
+    action: Action,
+    pointer: u32,
+    top: u32,
+) -> Registers
+    requires { ⌜ Resumable e action pointer (d .head) ⌝ }
+    ensures { λ x. ⌜ x ≡ Step.resumed e r d action pointer top ⌝ }
 {
     match action {
-        Action::Stop => r,
+        Action::Stop(_) => r,
         Action::Change(_) => r,
         Action::Push(_) => r,
         Action::Pop { state, returns } => {
             let head = lookup::returned(returns, pointer, d.head);
-            popped(r, d, state, head, top)
+            after_pop(e, d, state, head, top, r.readings)
         }
     }
 }
@@ -114,137 +121,172 @@ fn head_after(sizes: Sizes, k: u32, returns: bool, head: u32) -> u32
 
 // Configuration number k is open now: its note says so, and its work cell links the one that was newest.
 fn opened(
-    r: Record,
+    r: Registers,
     k: u32,
     mode: Mode,
     c: Config,
     pushed: bool,
     notes: &mut [u32],
     work: &mut [u32],
-) -> Record
+) -> Registers
     requires { ⌜ Openable r k (now notes) (now work) ⌝ }
-    ensures { λ x. ⌜ Turn.standing x (now (notes .exit)) (now (work .exit)) ≡ Turn.opened r k mode c pushed (now (notes .entry)) (now (work .entry)) ⌝ }
+    ensures { λ x. ⌜ Opens r k mode c pushed x (now (notes .entry)) (now (notes .exit)) (now (work .entry)) (now (work .exit)) ⌝ }
 {
     let i = k as usize;
     notes[i] = 1;
     work[i] = link(r.top, r.pushed);
     let top = k + 1;
     let readings = r.readings + 1;
-    with_now(r, mode, c, pushed, top, readings)
+    registers_of(mode, c, pushed, top, readings)
 }
 
 // Configuration number k pops: it is its own terminator. Where it was pushed, its head is the entry's pointer, so a return changes nothing.
-fn popping(r: Record, k: u32, state: u32, notes: &mut [u32]) -> Record
-    requires { ⌜ (state < 32) × (0 < r .sizes .symbols) × (r .at .head < 65537) × (r .readings < 4294967295) × (k < 4294967293) × (k < length (now notes)) ⌝ }
-    ensures { λ x. ⌜ ((b : Bool) → x ≡ Turn.closed (Turn.counted r) (r .at) (Pop state b)) × (now (notes .exit) ≡ set (now (notes .entry)) k (k + 2)) ⌝ }
+fn popping(e: Environment, r: Registers, k: u32, state: u32, notes: &mut [u32]) -> Registers
+    requires { ⌜ Poppable e r k state (now notes) ⌝ }
+    ensures { λ x. ⌜ Pops e r x k state (now (notes .entry)) (now (notes .exit)) ⌝ }
 {
     let at = r.at;
-    let mode = r.mode;
     let top = r.top;
     let count = r.readings + 1;
     let i = k as usize;
     notes[i] = k + 2;
     if r.pushed {
-        let counted = with_now(r, mode, at, true, top, count);
-        return popped(counted, at, state, at.head, top);
+        return after_pop(e, at, state, at.head, top, count);
     }
-    with_now(r, Mode::Unwind, at, false, top, count)
+    registers_of(Mode::Unwind, at, false, top, count)
 }
 
 // Configuration number k is looked at for the first time: its rule says how to go on.
-fn first_look(r: Record, k: u32, action: Action, notes: &mut [u32], work: &mut [u32]) -> Record
-    requires { ⌜ Openable r k (now notes) (now work) × (0 < r .sizes .symbols) × (r .at .head < 65537) × ((p : ℕ) (b : Bool) → action ≡ Pop p b → p < 32) ⌝ }
-    ensures { λ x. ⌜ Turn.standing x (now (notes .exit)) (now (work .exit)) ≡ Turn.first-look r k action (now (notes .entry)) (now (work .entry)) ⌝ }
+fn first_look(
+    e: Environment,
+    r: Registers,
+    k: u32,
+    action: Action,
+    notes: &mut [u32],
+    work: &mut [u32],
+) -> Registers
+    requires { ⌜ First-ready e r k action (now notes) (now work) ⌝ }
+    ensures { λ x. ⌜ First-looks e r k action x (now (notes .entry)) (now (notes .exit)) (now (work .entry)) (now (work .exit)) ⌝ }
 {
     let at = r.at;
     let pushed = r.pushed;
     match action {
-        Action::Stop => opened(r, k, Mode::Clear(Verdict::Stuck), at, pushed, notes, work),
+        Action::Stop(reason) => {
+            let verdict = stop_verdict(reason);
+            opened(r, k, Mode::Clear(verdict), at, pushed, notes, work)
+        }
         Action::Change(c) => opened(r, k, Mode::Look, c, false, notes, work),
         Action::Push(c) => opened(r, k, Mode::Look, c, true, notes, work),
-        Action::Pop { state, returns: _ } => popping(r, k, state, notes),
+        Action::Pop { state, returns: _ } => popping(e, r, k, state, notes),
     }
+}
+
+// A configuration whose terminator d is known: an entry that was pushed is popped, else the newest open configuration gets this terminator too.
+fn closed(image: &[u8], capture: &[u8], e: Environment, r: Registers, d: Config) -> Registers
+    requires { ⌜ Closable (now image) (now capture) e r d ⌝ }
+    ensures { λ x. ⌜ x ≡ Step.closed e r d (machine (now (image .entry)) (now (capture .entry)) .action d) ⌝ }
+{
+    let at = r.at;
+    let top = r.top;
+    if r.pushed {
+        let action = lookup::action_of(image, capture, e.sizes, d);
+        return resumed(e, r, d, action, at.head, top);
+    }
+    registers_of(Mode::Unwind, d, false, top, r.readings)
 }
 
 // Look at a configuration: new, open, or closed. One rule is read at most: its own where it is new, its terminator's where it is closed.
-fn look(image: &[u8], capture: &[u8], r: Record, notes: &mut [u32], work: &mut [u32]) -> Record
-    requires { ⌜ Ready (now image) (now capture) r (now notes) (now work) ⌝ }
-    ensures { λ x. ⌜ Turn.standing x (now (notes .exit)) (now (work .exit)) ≡ Turn.turn-by Look (machine (now (image .entry)) (now (capture .entry))) r (now (notes .entry)) (now (work .entry)) ⌝ }
+fn look(
+    image: &[u8],
+    capture: &[u8],
+    e: Environment,
+    r: Registers,
+    notes: &mut [u32],
+    work: &mut [u32],
+) -> Registers
+    requires { ⌜ Ready (now image) (now capture) e r (now notes) (now work) ⌝ }
+    ensures { λ x. ⌜ Steps-by Look (now (image .entry)) (now (capture .entry)) e r x (now (notes .entry)) (now (notes .exit)) (now (work .entry)) (now (work .exit)) ⌝ }
 {
     let at = r.at;
-    let sizes = r.sizes;
-    let top = r.top;
-    let pushed = r.pushed;
-    let k = lookup::number(sizes, at);
+    let k = lookup::number(e.sizes, at);
     let i = k as usize;
-    let note = notes[i];
-    if note == 0 {
-        let action = lookup::action_of(image, capture, sizes, at);
-        return first_look(r, k, action, notes, work);
-    }
-    if note == 1 {
-        return with_now(
-            r,
+    let note = note_of(notes[i]);
+    match note {
+        Note::Unseen => {
+            let action = lookup::action_of(image, capture, e.sizes, at);
+            first_look(e, r, k, action, notes, work)
+        }
+        Note::Open => registers_of(
             Mode::Clear(Verdict::Looping),
             at,
-            pushed,
-            top,
+            r.pushed,
+            r.top,
             r.readings,
-        );
+        ),
+        Note::Closed(terminator) => {
+            let d = lookup::config_from(e.sizes, terminator);
+            closed(image, capture, e, r, d)
+        }
     }
-    let d = lookup::config_from(sizes, note - 2);
-    if pushed {
-        let action = lookup::action_of(image, capture, sizes, d);
-        return resumed(r, d, action, at.head, top);
-    }
-    with_now(r, Mode::Unwind, d, false, top, r.readings)
 }
 
-// What the newest open configuration's work cell makes of the record. One rule is read at most, the terminator's.
-fn unwound(image: &[u8], capture: &[u8], r: Record, k: u32, cell: u32) -> Record
-    requires { ⌜ Lookup-ready (now image) (now capture) (r .sizes) (r .at) ⌝ }
-    ensures { λ x. ⌜ x ≡ Turn.unwound (machine (now (image .entry)) (now (capture .entry))) r k cell ⌝ }
+// What the newest open configuration's work cell makes of the registers. One rule is read at most, the terminator's.
+fn unwound(
+    image: &[u8],
+    capture: &[u8],
+    e: Environment,
+    r: Registers,
+    k: u32,
+    cell: u32,
+) -> Registers
+    requires { ⌜ Lookup-ready (now image) (now capture) (e .sizes) (r .at) ⌝ }
+    ensures { λ x. ⌜ x ≡ Step.unwound (machine (now (image .entry)) (now (capture .entry))) e r k cell ⌝ }
 {
     let at = r.at;
-    let sizes = r.sizes;
     let top = cell / 2;
     let odd = cell % 2;
     if odd == 0 {
-        return with_now(r, Mode::Unwind, at, false, top, r.readings);
+        return registers_of(Mode::Unwind, at, false, top, r.readings);
     }
-    let action = lookup::action_of(image, capture, sizes, at);
+    let action = lookup::action_of(image, capture, e.sizes, at);
     match action {
-        Action::Stop => r,
+        Action::Stop(_) => r,
         Action::Change(_) => r,
         Action::Push(_) => r,
         Action::Pop { state, returns } => {
-            let head = head_after(sizes, k, returns, at.head);
-            popped(r, at, state, head, top)
+            let head = head_after(e.sizes, k, returns, at.head);
+            after_pop(e, at, state, head, top, r.readings)
         }
     }
 }
 
 // Unwind: the newest open configuration gets its terminator.
-fn unwind(image: &[u8], capture: &[u8], r: Record, notes: &mut [u32], work: &mut [u32]) -> Record
-    requires { ⌜ Ready (now image) (now capture) r (now notes) (now work) × (0 < r .top) ⌝ }
-    ensures { λ x. ⌜ Turn.standing x (now (notes .exit)) (now (work .exit)) ≡ Turn.turn-by Unwind (machine (now (image .entry)) (now (capture .entry))) r (now (notes .entry)) (now (work .entry)) ⌝ }
+fn unwind(
+    image: &[u8],
+    capture: &[u8],
+    e: Environment,
+    r: Registers,
+    notes: &mut [u32],
+    work: &mut [u32],
+) -> Registers
+    requires { ⌜ Unwindable (now image) (now capture) e r (now notes) (now work) ⌝ }
+    ensures { λ x. ⌜ Steps-by Unwind (now (image .entry)) (now (capture .entry)) e r x (now (notes .entry)) (now (notes .exit)) (now (work .entry)) (now (work .exit)) ⌝ }
 {
     let at = r.at;
-    let sizes = r.sizes;
     let k = r.top - 1;
     let i = k as usize;
     let cell = work[i];
-    let terminator = lookup::number(sizes, at);
+    let terminator = lookup::number(e.sizes, at);
     let note = terminator + 2;
     notes[i] = note;
     work[i] = 0;
-    unwound(image, capture, r, k, cell)
+    unwound(image, capture, e, r, k, cell)
 }
 
 // Clear the newest open configuration's work cell.
-fn clear(r: Record, verdict: Verdict, work: &mut [u32]) -> Record
+fn clear(r: Registers, verdict: Verdict, work: &mut [u32]) -> Registers
     requires { ⌜ (0 < r .top) × (r .top ≤ length (now work)) ⌝ }
-    ensures { λ x. ⌜ (x ≡ Turn.cleared r verdict (getD (now (work .entry)) (r .top - 1) 0)) × (now (work .exit) ≡ set (now (work .entry)) (r .top - 1) 0) ⌝ }
+    ensures { λ x. ⌜ Clears r x verdict (now (work .entry)) (now (work .exit)) ⌝ }
 {
     let k = r.top - 1;
     let i = k as usize;
@@ -253,15 +295,22 @@ fn clear(r: Record, verdict: Verdict, work: &mut [u32]) -> Record
     cleared(r, verdict, cell)
 }
 
-// One step: no loop, no recursion, at most one rule read.
-pub fn step(image: &[u8], capture: &[u8], r: Record, notes: &mut [u32], work: &mut [u32]) -> Record
-    requires { ⌜ Ready (now image) (now capture) r (now notes) (now work) ⌝ }
-    ensures { λ x. ⌜ Step-says (now (image .entry)) (now (capture .entry)) r x (now (notes .entry)) (now (notes .exit)) (now (work .entry)) (now (work .exit)) ⌝ }
+// One step of the judge in its environment, which stays: no loop, no recursion, at most one rule read.
+pub fn step(
+    image: &[u8],
+    capture: &[u8],
+    e: Environment,
+    r: Registers,
+    notes: &mut [u32],
+    work: &mut [u32],
+) -> Registers
+    requires { ⌜ Ready (now image) (now capture) e r (now notes) (now work) ⌝ }
+    ensures { λ x. ⌜ Step-says (now (image .entry)) (now (capture .entry)) e r x (now (notes .entry)) (now (notes .exit)) (now (work .entry)) (now (work .exit)) ⌝ }
 {
     let mode = r.mode;
     match mode {
-        Mode::Look => look(image, capture, r, notes, work),
-        Mode::Unwind => unwind(image, capture, r, notes, work),
+        Mode::Look => look(image, capture, e, r, notes, work),
+        Mode::Unwind => unwind(image, capture, e, r, notes, work),
         Mode::Clear(verdict) => clear(r, verdict, work),
         Mode::Done(_) => r,
     }

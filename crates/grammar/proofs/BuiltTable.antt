@@ -1,4 +1,4 @@
--- The machine of a grammar's image has the table's rules, and accepts in state 4 on the right marker. Assumes nothing.
+-- The machine of a grammar's image has the table's rules, and accepts in state done on the right marker. Assumes nothing.
 use mathlib.Core.Path.{_≡_, refl, sym, ap, _∙_}
 use mathlib.Core.Bool.{Bool, true, false, _&&_, cond}
 use mathlib.Core.List.{List}
@@ -8,13 +8,35 @@ use native.Mathlib.Omega.{arith}
 use lib.Dec.{ltb, eqb}
 use lib.ListN.{length}
 use borrow.Author.Tests.{lt-ltb, le-ltb, eq-eqb, ne-eqb}
+use Rattle.machine.specs.declared.Reason.the-variants.{Missing}
 use Rattle.machine.specs.declared.Action.the-variants.{Stop, Push, Pop}
 use Rattle.machine.specs.Run.{config}
-use Rattle.machine.specs.Image.{byte, Rule, final, rule-at, class-under, moved, action-by, action, accepting, machine}
-use Rattle.grammar.specs.Grammar.{rules, expression, grammar-refusal}
+use Rattle.machine.specs.Format.{finals-offset}
+use Rattle.machine.specs.Halting.{accepts-by}
+use Rattle.codec.specs.Bytes.{byte}
+use Rattle.codec.specs.Numbers.{u32-at}
+use Rattle.machine.specs.Image.{Rule, rule-at, class-under, moved, action-by, action, accepting, machine}
+use Rattle.grammar.specs.Grammar.{rules, expression, grammar-refusal, range-of}
 use Rattle.grammar.specs.Classes.{class-of, class-count}
-use Rattle.grammar.specs.Image.{first, second, row-first, row-second, row-zero, class-inside, made, symbols-of, built}
-use Rattle.grammar.proofs.Table.{Table, matches}
+use Rattle.grammar.specs.Table.{
+  state-start,
+  state-work,
+  state-ok,
+  state-fail,
+  state-done,
+  state-count,
+  finals,
+  first,
+  symbol,
+  rows,
+  select,
+  row-zero,
+  class-inside,
+  rows-at,
+  made,
+}
+use Rattle.grammar.specs.Image.{symbols-of, built}
+use Rattle.grammar.proofs.Table.{Table, matches, passes}
 use Rattle.grammar.proofs.GrammarGood.{Good-grammar, good-grammar}
 use Rattle.grammar.proofs.Classes.{byte-class-below, inside-byte, inside-marker}
 use Rattle.grammar.proofs.BuiltImage.{built-states, built-classes, built-symbols, built-finals, built-map, built-rule-at}
@@ -32,31 +54,28 @@ half-odd k = omega arith
 rest-odd : (k : ℕ) → suc (2 * k) % 2 ≡ 1
 rest-odd k = omega arith
 
-module _ (gs : List ℕ) (p class k : ℕ) where
-  made-first : made gs p class (first k) ≡ row-first (expression gs k) p k (class-inside gs (expression gs k) class)
-  unfolding made
-  made-first = rw (half-even k, rest-even k)
+made-symbol :
+    (gs : List ℕ) (s : Bool) (p class k : ℕ) →
+    made gs p class (symbol s k) ≡ select (rows-at gs k class) s p
+unfolding made
+made-symbol gs false p class k = rw (half-even k, rest-even k)
+made-symbol gs true p class k = rw (half-odd k, rest-odd k)
 
-  made-second : made gs p class (second k) ≡ row-second (expression gs k) p
-  unfolding made
-  made-second = rw (half-odd k, rest-odd k)
-
--- FINALS: of 16 only bit 4 is 1
-bit-four : (p : ℕ) → eqb (16 / 2 ^ p % 2) 1 ≡ eqb p 4
-bit-four zero = refl
-bit-four (suc zero) = refl
-bit-four (suc (suc zero)) = refl
-bit-four (suc (suc (suc zero))) = refl
-bit-four (suc (suc (suc (suc zero)))) = refl
-bit-four (suc (suc (suc (suc (suc p))))) =
+-- FINALS: of their number only the bit of done is 1
+done-bit : (p : ℕ) → eqb (finals / 2 ^ p % 2) 1 ≡ eqb p state-done
+done-bit zero = refl
+done-bit (suc zero) = refl
+done-bit (suc (suc zero)) = refl
+done-bit (suc (suc (suc zero))) = refl
+done-bit (suc (suc (suc (suc zero)))) = refl
+done-bit (suc (suc (suc (suc (suc p))))) =
     let n : ℕ = suc (suc (suc (suc (suc p)))) in
     let h : 1 ≤ 2 ^ p = one-le-pow p 2 (omega arith) in
-    let l : 16 < 2 ^ n = omega arith in
-    ap (λ (x : ℕ). eqb (x % 2) 1) (div-eq-of-lt l) ∙ sym (ne-eqb n 4 (λ e. omega arith))
+    let l : finals < 2 ^ n = omega arith in
+    ap (λ (x : ℕ). eqb (x % 2) 1) (div-eq-of-lt l) ∙ sym (ne-eqb n state-done (λ e. omega arith))
 
-built-final : (gs : List ℕ) (p : ℕ) → final (built gs) p ≡ eqb p 4
-unfolding final
-built-final gs p = ap (λ (x : ℕ). eqb (x / 2 ^ p % 2) 1) (built-finals gs) ∙ bit-four p
+built-final : (gs : List ℕ) (p : ℕ) → eqb (u32-at (built gs) finals-offset / 2 ^ p % 2) 1 ≡ eqb p state-done
+built-final gs p = ap (λ (x : ℕ). eqb (x / 2 ^ p % 2) 1) (built-finals gs) ∙ done-bit p
 
 module _ (gs cs : List ℕ) (good : Good-grammar gs) (bytes : (i : ℕ) → byte cs i < 256) where
   -- the class under head suc i
@@ -80,7 +99,7 @@ module _ (gs cs : List ℕ) (good : Good-grammar gs) (bytes : (i : ℕ) → byte
 
   -- what a rule of the image does
   action-is :
-      (p i a k : ℕ) → p < 5 → k < class-count gs + 2 → a < symbols-of gs → class-under (built gs) cs i ≡ k →
+      (p i a k : ℕ) → p < state-count → k < class-count gs + 2 → a < symbols-of gs → class-under (built gs) cs i ≡ k →
       machine (built gs) cs .action (config p i a) ≡ action-by (made gs p k a) i
   unfolding machine action
   action-is p i a k hp hk ha e =
@@ -90,53 +109,42 @@ module _ (gs cs : List ℕ) (good : Good-grammar gs) (bytes : (i : ℕ) → byte
   unfolding symbols-of
   zero-below = omega arith
 
-  first-below : (k : ℕ) → k < rules gs → first k < symbols-of gs
+  symbol-below : (s : Bool) (k : ℕ) → k < rules gs → symbol s k < symbols-of gs
   unfolding symbols-of
-  first-below k h = omega arith
+  symbol-below false k h = omega arith
+  symbol-below true k h = omega arith
 
-  second-below : (k : ℕ) → k < rules gs → second k < symbols-of gs
-  unfolding symbols-of
-  second-below k h = omega arith
-
-  inside-at :
-      (k i : ℕ) → k < rules gs →
-      class-inside gs (expression gs k) (class-at i) ≡ (ltb i (length cs) && matches (expression gs k) (byte cs i))
+  inside-at : (k i : ℕ) → k < rules gs → class-inside gs (range-of (expression gs k)) (class-at i) ≡ passes (expression gs) cs k i
   inside-at k i h = go (ltb i (length cs))
     where
       go :
           (t : Bool) →
-          class-inside gs (expression gs k) (cond t (class-of gs (byte cs i)) (class-count gs + 1))
-          ≡ (t && matches (expression gs k) (byte cs i))
+          class-inside gs (range-of (expression gs k)) (cond t (class-of gs (byte cs i)) (class-count gs + 1))
+          ≡ (t && matches (range-of (expression gs k)) (byte cs i))
       go true = inside-byte gs k (byte cs i) h (good .ordered k h) (bytes i)
-      go false = inside-marker gs (expression gs k) (class-count gs + 1) (omega arith)
+      go false = inside-marker gs (range-of (expression gs k)) (class-count gs + 1) (omega arith)
 
-  at-first :
-      (p k i : ℕ) → p < 5 → k < rules gs →
-      machine (built gs) cs .action (config p (suc i) (first k))
-      ≡ action-by (row-first (expression gs k) p k (ltb i (length cs) && matches (expression gs k) (byte cs i))) (suc i)
-  at-first p k i hp h =
-      action-is p (suc i) (first k) (class-at i) hp (class-at-below i) (first-below k h) (under i)
+  at-symbol :
+      (s : Bool) (p k i : ℕ) → p < state-count → k < rules gs →
+      machine (built gs) cs .action (config p (suc i) (symbol s k))
+      ≡ action-by (select (rows (expression gs k) k (passes (expression gs) cs k i)) s p) (suc i)
+  unfolding rows-at
+  at-symbol s p k i hp h =
+      action-is p (suc i) (symbol s k) (class-at i) hp (class-at-below i) (symbol-below s k h) (under i)
       ∙ ap (λ (r : Rule). action-by r (suc i))
-      (made-first gs p (class-at i) k ∙ ap (λ (t : Bool). row-first (expression gs k) p k t) (inside-at k i h))
-
-  at-second :
-      (p k i : ℕ) → p < 5 → k < rules gs →
-      machine (built gs) cs .action (config p (suc i) (second k)) ≡ action-by (row-second (expression gs k) p) (suc i)
-  at-second p k i hp h =
-      action-is p (suc i) (second k) (class-at i) hp (class-at-below i) (second-below k h) (under i)
-      ∙ ap (λ (r : Rule). action-by r (suc i)) (made-second gs p (class-at i) k)
+      (made-symbol gs s p (class-at i) k ∙ ap (λ (t : Bool). select (rows (expression gs k) k t) s p) (inside-at k i h))
 
   at-zero :
-      (p i k : ℕ) → p < 5 → k < class-count gs + 2 → class-under (built gs) cs i ≡ k →
+      (p i k : ℕ) → p < state-count → k < class-count gs + 2 → class-under (built gs) cs i ≡ k →
       machine (built gs) cs .action (config p i 0) ≡ action-by (row-zero (class-count gs) p k) i
   unfolding made
   at-zero p i k hp hk e = action-is p i 0 k hp hk zero-below e
 
   -- the rows of symbol 0
-  table-starts : machine (built gs) cs .action (config 0 0 0) ≡ Push (config 1 1 (first 0))
+  table-starts : machine (built gs) cs .action (config state-start 0 0) ≡ Push (config state-work 1 (first 0))
   unfolding row-zero action-by moved
   table-starts =
-      at-zero 0 0 (class-count gs) (omega arith) (omega arith) under-left
+      at-zero state-start 0 (class-count gs) (omega arith) (omega arith) under-left
       ∙ rw (eq-eqb (class-count gs) (class-count gs) refl)
 
   under-byte : (i : ℕ) → i < length cs → class-under (built gs) cs (suc i) ≡ class-of gs (byte cs i)
@@ -147,33 +155,33 @@ module _ (gs cs : List ℕ) (good : Good-grammar gs) (bytes : (i : ℕ) → byte
       under (length cs)
       ∙ ap (λ (t : Bool). cond t (class-of gs (byte cs (length cs))) (class-count gs + 1)) (le-ltb (length cs) (length cs) (omega arith))
 
-  table-ends : machine (built gs) cs .action (config 2 (suc (length cs)) 0) ≡ Pop 4 false
+  table-ends : machine (built gs) cs .action (config state-ok (suc (length cs)) 0) ≡ Pop state-done false
   unfolding row-zero action-by
   table-ends =
-      at-zero 2 (suc (length cs)) (class-count gs + 1) (omega arith) (omega arith) under-right
+      at-zero state-ok (suc (length cs)) (class-count gs + 1) (omega arith) (omega arith) under-right
       ∙ rw (eq-eqb (class-count gs + 1) (class-count gs + 1) refl)
 
-  table-ok-stops : (i : ℕ) → i < length cs → machine (built gs) cs .action (config 2 (suc i) 0) ≡ Stop
+  table-ok-stops : (i : ℕ) → i < length cs → machine (built gs) cs .action (config state-ok (suc i) 0) ≡ Stop Missing
   unfolding row-zero action-by
   table-ok-stops i h =
       let l : class-of gs (byte cs i) < class-count gs = byte-class-below gs (byte cs i) (bytes i) in
-      at-zero 2 (suc i) (class-of gs (byte cs i)) (omega arith) (omega arith) (under-byte i h)
+      at-zero state-ok (suc i) (class-of gs (byte cs i)) (omega arith) (omega arith) (under-byte i h)
       ∙ rw (ne-eqb (class-of gs (byte cs i)) (class-count gs + 1) (λ e. omega arith))
 
-  table-fail-stops : (i : ℕ) → machine (built gs) cs .action (config 3 (suc i) 0) ≡ Stop
+  table-fail-stops : (i : ℕ) → machine (built gs) cs .action (config state-fail (suc i) 0) ≡ Stop Missing
   unfolding row-zero action-by
-  table-fail-stops i = at-zero 3 (suc i) (class-at i) (omega arith) (class-at-below i) (under i)
+  table-fail-stops i = at-zero state-fail (suc i) (class-at i) (omega arith) (class-at-below i) (under i)
 
   table-symbols : machine (built gs) cs .symbols ≡ suc (2 * rules gs)
   unfolding machine symbols-of
   table-symbols = built-symbols gs
 
-  table-accepting : (p i : ℕ) → machine (built gs) cs .accepting p i ≡ (eqb p 4 && eqb i (length cs + 1))
-  unfolding machine accepting
-  table-accepting p i = ap (λ (t : Bool). t && eqb i (length cs + 1)) (built-final gs p)
+  table-accepting : (p i : ℕ) → machine (built gs) cs .accepting p i ≡ (eqb p state-done && eqb (i + 1) (length cs + 2))
+  unfolding machine accepting accepts-by
+  table-accepting p i = ap (λ (t : Bool). t && eqb (i + 1) (length cs + 2)) (built-final gs p)
 
   table-of : Table (machine (built gs) cs) (expression gs) (rules gs) cs
-  unfolding machine row-first row-second
+  unfolding machine
   table-of =
       record {
         some-rule = good .rules-least;
@@ -186,12 +194,7 @@ module _ (gs cs : List ℕ) (good : Good-grammar gs) (bytes : (i : ℕ) → byte
         ends = table-ends;
         ok-stops = table-ok-stops;
         fail-stops = λ i h. table-fail-stops i;
-        at-work-first = λ k i h l. at-first 1 k i (omega arith) h;
-        at-ok-first = λ k i h l. at-first 2 k i (omega arith) h;
-        at-fail-first = λ k i h l. at-first 3 k i (omega arith) h;
-        at-work-second = λ k i h l. at-second 1 k i (omega arith) h;
-        at-ok-second = λ k i h l. at-second 2 k i (omega arith) h;
-        at-fail-second = λ k i h l. at-second 3 k i (omega arith) h;
+        selects = λ s p k i l h b. at-symbol s p k i l h;
       }
 
 pub table :

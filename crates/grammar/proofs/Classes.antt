@@ -7,34 +7,34 @@ use native.Mathlib.Nat.{zero-add, le-of-eq, le-trans}
 use native.Mathlib.Omega.{arith}
 use lib.Dec.{leb, eqb}
 use borrow.Author.Tests.{ltb-true, leb-true, leb-false, le-leb, lt-leb, lt-ltb, le-ltb, eq-eqb}
-use Rattle.grammar.specs.declared.Expression.{Expression}
-use Rattle.grammar.specs.declared.Expression.the-variants.{Sequence, Choice, Not, Empty, Range}
-use Rattle.grammar.specs.Grammar.{rules, expression}
+use Rattle.grammar.specs.declared.ByteRange.{ByteRange}
+use Rattle.grammar.specs.declared.ByteRange.the-variants.{Between, Nothing}
+use Rattle.grammar.specs.Grammar.{rules, expression, range-of}
 use Rattle.grammar.specs.Parsing.{in-range}
 use Rattle.grammar.specs.Classes.{cuts-at, cut-from, cut, class-of, class-count, class-in}
-use Rattle.grammar.specs.Image.{class-inside}
+use Rattle.grammar.specs.Table.{class-inside}
 use Rattle.grammar.proofs.Bools.{both-true, first-holds, second-holds}
 use Rattle.grammar.proofs.Table.{matches}
 use Rattle.grammar.proofs.GrammarGood.{Ordered}
 
 -- CUTS: where a rule cuts, the grammar does
-cut-there : (n k j m v : ℕ) (gs : List ℕ) → k + j ≡ m → j < n → cuts-at (expression gs m) v ≡ true → cut-from n k gs v ≡ true
+cut-there : (n k j m v : ℕ) (gs : List ℕ) → k + j ≡ m → j < n → cuts-at (range-of (expression gs m)) v ≡ true → cut-from n k gs v ≡ true
 unfolding cut-from
 cut-there zero k j m v gs e h q = absurd (omega arith)
 cut-there (suc n) k zero m v gs e h q =
-    first-holds (cuts-at (expression gs k) v) (cut-from n (suc k) gs v) (subst (λ (l : ℕ). cuts-at (expression gs l) v ≡ true) (omega arith) q)
+    first-holds (cuts-at (range-of (expression gs k)) v) (cut-from n (suc k) gs v) (subst (λ (l : ℕ). cuts-at (range-of (expression gs l)) v ≡ true) (omega arith) q)
 cut-there (suc n) k (suc j) m v gs e h q =
-    second-holds (cuts-at (expression gs k) v) (cut-from n (suc k) gs v) (cut-there n (suc k) j m v gs (omega arith) (omega arith) q)
+    second-holds (cuts-at (range-of (expression gs k)) v) (cut-from n (suc k) gs v) (cut-there n (suc k) j m v gs (omega arith) (omega arith) q)
 
-pub cut-of-rule : (gs : List ℕ) (k v : ℕ) → k < rules gs → cuts-at (expression gs k) v ≡ true → cut gs v ≡ true
+pub cut-of-rule : (gs : List ℕ) (k v : ℕ) → k < rules gs → cuts-at (range-of (expression gs k)) v ≡ true → cut gs v ≡ true
 unfolding cut
 cut-of-rule gs k v h q = cut-there (rules gs) 0 k k v gs (zero-add k) h q
 
-cuts-low : (b c : ℕ) → cuts-at (Range b c) b ≡ true
+cuts-low : (b c : ℕ) → cuts-at (Between b c) b ≡ true
 unfolding cuts-at
 cuts-low b c = first-holds (eqb b b) (eqb (c + 1) b) (eq-eqb b b refl)
 
-cuts-high : (b c : ℕ) → cuts-at (Range b c) (c + 1) ≡ true
+cuts-high : (b c : ℕ) → cuts-at (Between b c) (c + 1) ≡ true
 unfolding cuts-at
 cuts-high b c = second-holds (eqb b (c + 1)) (eqb (c + 1) (c + 1)) (eq-eqb (c + 1) (c + 1) refl)
 
@@ -69,7 +69,7 @@ byte-class-below gs v h =
     omega arith
 
 -- A RANGE by classes
-module _ (gs : List ℕ) (k b c : ℕ) (there : k < rules gs) (is : expression gs k ≡ Range b c) where
+module _ (gs : List ℕ) (k b c : ℕ) (there : k < rules gs) (is : range-of (expression gs k) ≡ Between b c) where
   low-end : (v : ℕ) → leb (class-of gs b) (class-of gs v) ≡ leb b v
   low-end v = go (leb b v) refl
     where
@@ -78,7 +78,7 @@ module _ (gs : List ℕ) (k b c : ℕ) (there : k < rules gs) (is : expression g
       go false e =
           lt-leb _ _
           (class-apart gs v b (leb-false b v e)
-          (cut-of-rule gs k b there (subst (λ (x : Expression). cuts-at x b ≡ true) (sym is) (cuts-low b c))))
+          (cut-of-rule gs k b there (subst (λ (x : ByteRange). cuts-at x b ≡ true) (sym is) (cuts-low b c))))
 
   high-end : (v : ℕ) → leb (class-of gs v) (class-of gs c) ≡ leb v c
   high-end v = go (leb v c) refl
@@ -86,7 +86,7 @@ module _ (gs : List ℕ) (k b c : ℕ) (there : k < rules gs) (is : expression g
       over : class-of gs c < class-of gs (c + 1)
       over =
           class-apart gs c (c + 1) (omega arith)
-          (cut-of-rule gs k (c + 1) there (subst (λ (x : Expression). cuts-at x (c + 1) ≡ true) (sym is) (cuts-high b c)))
+          (cut-of-rule gs k (c + 1) there (subst (λ (x : ByteRange). cuts-at x (c + 1) ≡ true) (sym is) (cuts-high b c)))
 
       go : (t : Bool) → leb v c ≡ t → leb (class-of gs v) (class-of gs c) ≡ t
       go true e = le-leb _ _ (class-monotone gs v c (leb-true v c e))
@@ -100,30 +100,21 @@ module _ (gs : List ℕ) (k b c : ℕ) (there : k < rules gs) (is : expression g
 
 -- WHETHER A RULE HAS THE CLASS: a byte's class exactly if the rule matches the byte, and no marker's
 pub inside-byte :
-    (gs : List ℕ) (k v : ℕ) → k < rules gs → Ordered (expression gs k) → v < 256 →
-    class-inside gs (expression gs k) (class-of gs v) ≡ matches (expression gs k) v
+    (gs : List ℕ) (k v : ℕ) → k < rules gs → Ordered (range-of (expression gs k)) → v < 256 →
+    class-inside gs (range-of (expression gs k)) (class-of gs v) ≡ matches (range-of (expression gs k)) v
 unfolding class-inside matches Ordered
-inside-byte gs k v there o h = go (expression gs k) refl o
+inside-byte gs k v there o h = go (range-of (expression gs k)) refl o
   where
-    go : (x : Expression) → expression gs k ≡ x → Ordered x → class-inside gs x (class-of gs v) ≡ matches x v
-    go (Sequence b c) e l = refl
-    go (Choice b c) e l = refl
-    go (Not b) e l = refl
-    go Empty e l = refl
-    go (Range b c) e l = rw (lt-ltb _ _ (byte-class-below gs v h)) (class-in-range gs k b c there e l v)
+    go : (x : ByteRange) → range-of (expression gs k) ≡ x → Ordered x → class-inside gs x (class-of gs v) ≡ matches x v
+    go Nothing e l = refl
+    go (Between b c) e l = rw (lt-ltb _ _ (byte-class-below gs v h)) (class-in-range gs k b c there e l v)
 
-pub inside-below : (gs : List ℕ) (x : Expression) (k : ℕ) → class-inside gs x k ≡ true → k < class-count gs
+pub inside-below : (gs : List ℕ) (x : ByteRange) (k : ℕ) → class-inside gs x k ≡ true → k < class-count gs
 unfolding class-inside
-inside-below gs (Sequence b c) k e = absurd (let z : _≡_ {A = ℕ} 0 1 = cc in omega arith)
-inside-below gs (Choice b c) k e = absurd (let z : _≡_ {A = ℕ} 0 1 = cc in omega arith)
-inside-below gs (Not b) k e = absurd (let z : _≡_ {A = ℕ} 0 1 = cc in omega arith)
-inside-below gs Empty k e = absurd (let z : _≡_ {A = ℕ} 0 1 = cc in omega arith)
-inside-below gs (Range b c) k e = ltb-true k (class-count gs) (both-true _ (class-in gs b c k) e .0)
+inside-below gs Nothing k e = absurd (let z : _≡_ {A = ℕ} 0 1 = cc in omega arith)
+inside-below gs (Between b c) k e = ltb-true k (class-count gs) (both-true _ (class-in gs b c k) e .0)
 
-pub inside-marker : (gs : List ℕ) (x : Expression) (k : ℕ) → class-count gs ≤ k → class-inside gs x k ≡ false
+pub inside-marker : (gs : List ℕ) (x : ByteRange) (k : ℕ) → class-count gs ≤ k → class-inside gs x k ≡ false
 unfolding class-inside
-inside-marker gs (Sequence b c) k h = refl
-inside-marker gs (Choice b c) k h = refl
-inside-marker gs (Not b) k h = refl
-inside-marker gs Empty k h = refl
-inside-marker gs (Range b c) k h = ap (λ (t : Bool). t && class-in gs b c k) (le-ltb k (class-count gs) h)
+inside-marker gs Nothing k h = refl
+inside-marker gs (Between b c) k h = ap (λ (t : Bool). t && class-in gs b c k) (le-ltb k (class-count gs) h)

@@ -6,9 +6,9 @@ use Prim.Native.Nat.{ℕ, zero, suc, _+_, _*_, _<_, _≤_}
 use native.Mathlib.Omega.{arith}
 use lib.Dec.{eqb}
 use borrow.Author.Tests.{eqb-true, ne-eqb}
-use Rattle.grammar.specs.declared.Expression.{Expression}
-use Rattle.grammar.specs.declared.Expression.the-variants.{Sequence, Choice, Not, Empty, Range}
-use Rattle.grammar.specs.Grammar.{rules, expression}
+use Rattle.grammar.specs.declared.ByteRange.{ByteRange}
+use Rattle.grammar.specs.declared.ByteRange.the-variants.{Between, Nothing}
+use Rattle.grammar.specs.Grammar.{max-rules, rules, expression, range-of}
 use Rattle.grammar.specs.Classes.{cuts-at, cut-from, cut, class-of, class-count}
 
 abbrev bit : Bool → ℕ
@@ -67,15 +67,12 @@ counted-once b (suc v) = go (eqb b (suc v)) refl (counted-once b v)
 none-most : (f : ℕ → Bool) (n : ℕ) → ((u : ℕ) → f u ≡ false) → (v : ℕ) → counted f v ≤ n
 none-most f n e v = omega (arith, counted-none f e v)
 
-cuts-most : (x : Expression) (v : ℕ) → counted (cuts-at x) v ≤ 2
+cuts-most : (x : ByteRange) (v : ℕ) → counted (cuts-at x) v ≤ 2
 unfolding cuts-at
-cuts-most (Sequence b c) v = none-most (cuts-at (Sequence b c)) 2 (λ u. refl) v
-cuts-most (Choice b c) v = none-most (cuts-at (Choice b c)) 2 (λ u. refl) v
-cuts-most (Not b) v = none-most (cuts-at (Not b)) 2 (λ u. refl) v
-cuts-most Empty v = none-most (cuts-at Empty) 2 (λ u. refl) v
-cuts-most (Range b c) v =
-    let l : counted (cuts-at (Range b c)) v ≤ counted (eqb b) v + counted (eqb (c + 1)) v =
-    counted-or (eqb b) (eqb (c + 1)) (cuts-at (Range b c)) (λ u. refl) v
+cuts-most Nothing v = none-most (cuts-at Nothing) 2 (λ u. refl) v
+cuts-most (Between b c) v =
+    let l : counted (cuts-at (Between b c)) v ≤ counted (eqb b) v + counted (eqb (c + 1)) v =
+    counted-or (eqb b) (eqb (c + 1)) (cuts-at (Between b c)) (λ u. refl) v
     in
     omega (arith, counted-once b v, counted-once (c + 1) v)
 
@@ -83,10 +80,11 @@ cut-most : (n k : ℕ) (gs : List ℕ) (v : ℕ) → counted (cut-from n k gs) v
 unfolding cut-from
 cut-most zero k gs v = none-most (cut-from zero k gs) 0 (λ u. refl) v
 cut-most (suc n) k gs v =
-    let l : counted (cut-from (suc n) k gs) v ≤ counted (cuts-at (expression gs k)) v + counted (cut-from n (suc k) gs) v =
-    counted-or (cuts-at (expression gs k)) (cut-from n (suc k) gs) (cut-from (suc n) k gs) (λ u. refl) v
+    let x : ByteRange = range-of (expression gs k) in
+    let l : counted (cut-from (suc n) k gs) v ≤ counted (cuts-at x) v + counted (cut-from n (suc k) gs) v =
+    counted-or (cuts-at x) (cut-from n (suc k) gs) (cut-from (suc n) k gs) (λ u. refl) v
     in
-    let m : counted (cuts-at (expression gs k)) v ≤ 2 = cuts-most (expression gs k) v in
+    let m : counted (cuts-at x) v ≤ 2 = cuts-most x v in
     let o : counted (cut-from n (suc k) gs) v ≤ 2 * n = cut-most n (suc k) gs v in
     omega arith
 
@@ -101,6 +99,6 @@ class-most gs v =
     let l : counted (cut gs) v ≤ 2 * rules gs = cut-most (rules gs) 0 gs v in
     omega (arith, class-counted gs v)
 
-pub class-count-most : (gs : List ℕ) → rules gs ≤ 31 → class-count gs ≤ 63
+pub class-count-most : (gs : List ℕ) → rules gs ≤ max-rules → class-count gs ≤ 63
 unfolding class-count
 class-count-most gs h = omega (arith, class-most gs 255)

@@ -8,16 +8,17 @@ use lib.Seq.{length-take-le}
 use lib.Dec.{ltb}
 use borrow.Author.Tests.{eq-eqb, ne-eqb, le-ltb, ltb-false}
 use Rattle.machine.specs.declared.Refusal.{Refusal}
+use Rattle.machine.specs.Format
 use Rattle.machine.specs.Refusals.{refusal, fine, or-else, refuse-if}
 use Rattle.machine.proofs.Refused.{not-refused as room-there}
 use Rattle.grammar.specs.declared.Built.{Built}
 use Rattle.grammar.specs.declared.Built.the-variants.{Refused, Image}
 use Rattle.grammar.specs.Grammar.{grammar-refusal}
-use Rattle.grammar.specs.Classes.{class-count}
-use Rattle.grammar.specs.Image.{built, built-rules, built-length}
+use Rattle.grammar.specs.declared.Plan.{Plan}
+use Rattle.grammar.specs.Image.{built, built-length}
+use Rattle.grammar.specs.Building.{plan-of, Buffer-ready}
 use Rattle.grammar.specs.Calls.{build-refusal, Build-as, Build-says}
 use Rattle.grammar.specs.Writing.{Write-ready}
-use Rattle.grammar.proofs.CodeRules.{length-is}
 
 refused-as : (gs a : List ℕ) (f : Refusal) (n : ℕ) → (n ≡ 0 → ⊥) → Build-as n f gs (Refused f) a a
 unfolding Build-as
@@ -38,9 +39,10 @@ refusal-none : (gs : List ℕ) (n : ℕ) → grammar-refusal gs .number ≡ 0 �
 unfolding build-refusal or-else refuse-if
 refusal-none gs n good enough = simp (eq-eqb _ _ good, le-ltb n (built-length gs) enough)
 
--- the image's length, by the count of its rules
-pub long-is : (gs : List ℕ) {size long : ℕ} → size ≡ built-rules gs → long ≡ 288 + 4 * size → long ≡ built-length gs
-long-is gs is e = e ∙ ap (λ (n : ℕ). 288 + 4 * n) is ∙ sym (length-is gs)
+-- the image's length, by its plan
+pub long-is : (gs : List ℕ) (p : Plan) → p ≡ plan-of gs → p .long ≡ built-length gs
+unfolding plan-of
+long-is gs p e = ap (λ (q : Plan). q .long) e
 
 built-as :
     (gs a c : List ℕ) (r : Built) → r ≡ Image (built-length gs) → c ≡ built gs ++ drop (built-length gs) a → Build-as 0 fine gs r a c
@@ -82,7 +84,17 @@ module _
         (built-as gs a c (Image long) (ap Image l)
         (k ∙ ap (λ (x : List ℕ). x ++ drop long a) q ∙ ap (λ (n : ℕ). built gs ++ drop n a) l))
 
-    -- what is lent to the writers
-    pub ready-to-write : (n size : ℕ) → n ≡ class-count gs → size ≡ built-rules gs → Write-ready gs (take long a) n size
-    ready-to-write n size en is =
-        record { good = good; long = length-take-le long a fits ∙ l; classes-are = en; count-is = is }
+    -- what is lent for the image
+    pub buffer-ready : (p : Plan) → p ≡ plan-of gs → Buffer-ready gs p (take long a)
+    buffer-ready p e = record { planned = record { good = good; is = e }; long = length-take-le long a fits ∙ l }
+
+-- what the writers take of the plan
+pub ready-to-write : (gs a : List ℕ) (p : Plan) → Buffer-ready gs p a → Write-ready gs a (p .classes) (p .count)
+unfolding plan-of
+ready-to-write gs a p w =
+    record {
+      good = w .planned .good;
+      long = w .long;
+      classes-are = ap (λ (q : Plan). q .classes) (w .planned .is);
+      count-is = ap (λ (q : Plan). q .count) (w .planned .is);
+    }

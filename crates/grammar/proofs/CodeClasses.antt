@@ -7,11 +7,17 @@ use native.Mathlib.Nat.{mul-le-mul}
 use native.Mathlib.Numerals.{add-one}
 use native.Mathlib.Omega.{arith}
 use lib.ListN.{length}
-use Rattle.grammar.specs.Grammar.{grammar-refusal}
+use Rattle.machine.specs.Format
+use Rattle.machine.specs.Run.{how-many}
+use Rattle.machine.specs.Image.{machine}
+use Rattle.grammar.specs.Grammar.{max-rules, grammar-refusal}
 use Rattle.grammar.specs.Classes.{cut, class-of, class-count}
-use Rattle.grammar.specs.Image.{symbols-of, built-rules}
+use Rattle.grammar.specs.Table.{state-count}
+use Rattle.grammar.specs.Image.{symbols-of, built-rules, built-length}
+use Rattle.grammar.specs.Building.{plan-of, Short, Cells-are}
 use Rattle.grammar.proofs.GrammarGood.{good-grammar}
 use Rattle.grammar.proofs.ClassesFew.{class-count-most}
+use Rattle.grammar.proofs.BuiltImage.{built-states, built-symbols}
 
 one-or-none : (t : Bool) → cond t 1 0 ≤ 1
 one-or-none true = omega arith
@@ -50,7 +56,7 @@ symbols-some gs = omega arith
 
 -- AN IMAGE IS SHORT: K is at most 63, and so is G
 module _ (gs : List ℕ) (good : grammar-refusal gs .number ≡ 0) where
-  pub grammar-short : length gs ≤ 124
+  pub grammar-short : length gs ≤ 4 * max-rules
   grammar-short = let w = good-grammar gs good in omega (arith, w .length-is, w .rules-most)
 
   pub classes-most : class-count gs ≤ 63
@@ -60,18 +66,36 @@ module _ (gs : List ℕ) (good : grammar-refusal gs .number ≡ 0) where
   unfolding symbols-of
   symbols-most = omega (arith, good-grammar gs good .rules-most)
 
-  pub columns-most : (n : ℕ) → n ≡ class-count gs → 5 * (n + 2) ≤ 325
+  pub columns-most : (n : ℕ) → n ≡ class-count gs → state-count * (n + 2) ≤ 325
   columns-most n e = omega (arith, classes-most)
 
-  pub product-most : (n g : ℕ) → n ≡ class-count gs → g ≡ symbols-of gs → 5 * (n + 2) * g ≤ 20475
+  pub product-most : (n g : ℕ) → n ≡ class-count gs → g ≡ symbols-of gs → state-count * (n + 2) * g ≤ 20475
   product-most n g e f =
       let symbols : g ≤ 63 = omega (arith, symbols-most) in
       mul-le-mul (columns-most n e) symbols
 
-pub count-is : (gs : List ℕ) (n g : ℕ) → n ≡ class-count gs → g ≡ symbols-of gs → 5 * (n + 2) * g ≡ built-rules gs
+pub count-is : (gs : List ℕ) (n g : ℕ) → n ≡ class-count gs → g ≡ symbols-of gs → state-count * (n + 2) * g ≡ built-rules gs
 unfolding built-rules
 count-is gs n g e f = simp (e, f)
 
 pub count-most : (gs : List ℕ) → grammar-refusal gs .number ≡ 0 → built-rules gs ≤ 20475
 unfolding built-rules
 count-most gs good = product-most gs good (class-count gs) (symbols-of gs) refl refl
+
+-- THE CELLS of the grammar's machine, and that they are few
+cells-most : (places g : ℕ) → places ≤ Format.max-places → g ≤ 63 → state-count * places * g ≤ state-count * Format.max-places * 63
+cells-most places g h l = let p : state-count * places ≤ state-count * Format.max-places = omega arith in mul-le-mul p l
+
+pub cells-fit : (gs : List ℕ) (n g : ℕ) → Short gs n → g ≡ symbols-of gs → state-count * (n + 2) * g ≤ 20644155
+cells-fit gs n g w e = cells-most (n + 2) g (omega (arith, w .fits)) (omega (arith, symbols-most gs (w .good)))
+
+pub cells-told : (gs : List ℕ) (n g : ℕ) → g ≡ symbols-of gs → Cells-are gs n (state-count * (n + 2) * g)
+unfolding Cells-are how-many machine
+cells-told gs n g e cs l = rw (built-states gs, built-symbols gs, e, l)
+
+-- THE PLAN, from its parts
+pub planned :
+    (gs : List ℕ) (n size long : ℕ) → n ≡ class-count gs → size ≡ built-rules gs → long ≡ Format.rules-offset + 4 * size →
+    record { classes = n; count = size; long = long } ≡ plan-of gs
+unfolding plan-of built-length
+planned gs n size long e f g = rw (e, g, f)

@@ -8,17 +8,16 @@ use native.Mathlib.Omega.{arith}
 use lib.Dec.{ltb, eqb}
 use borrow.Author.Tests.{ltb-false}
 use Rattle.machine.specs.Refusals.{refusal, fine}
-use Rattle.grammar.specs.declared.Expression.{Expression}
-use Rattle.grammar.specs.Grammar.{rules, expression, rules-from}
+use Rattle.grammar.specs.Grammar.{max-rules, rules, expression, range-of, rules-from}
 use Rattle.grammar.specs.Classes.{cuts-at, cut-from, cut}
 use Rattle.grammar.proofs.GrammarGood.{right-at}
 
--- a length that passes has at most 31 rules
-pub length-passes : (long : ℕ) → false ≡ (eqb long 0 || (ltb 124 long || not (eqb (long % 4) 0))) → long ≤ 124
-length-passes long e = go (eqb long 0) (ltb 124 long) refl e
+-- a length that passes is that of few rules
+pub length-passes : (long : ℕ) → false ≡ (eqb long 0 || (ltb (4 * max-rules) long || not (eqb (long % 4) 0))) → long ≤ 4 * max-rules
+length-passes long e = go (eqb long 0) (ltb (4 * max-rules) long) refl e
   where
-    go : (s u : Bool) → ltb 124 long ≡ u → false ≡ (s || (u || not (eqb (long % 4) 0))) → long ≤ 124
-    go false false q e = ltb-false 124 long q
+    go : (s u : Bool) → ltb (4 * max-rules) long ≡ u → false ≡ (s || (u || not (eqb (long % 4) 0))) → long ≤ 4 * max-rules
+    go false false q e = ltb-false (4 * max-rules) long q
     go false true q e = let z : _≡_ {A = ℕ} 0 1 = cc in omega arith
     go true u q e = let z : _≡_ {A = ℕ} 0 1 = cc in omega arith
 
@@ -60,11 +59,11 @@ module _ (gs : List ℕ) (k : ℕ) (left : Rules-left gs k) where
         ∙ ap (λ (i : ℕ). rules-from (rules gs - (k + 1)) i gs) (omega arith)
 
 -- THE CUTS at v, with the rules from k on still to be looked at
-from-cut : (n k : ℕ) (gs : List ℕ) (v : ℕ) → cuts-at (expression gs k) v ≡ true → cut-from (suc n) k gs v ≡ true
+from-cut : (n k : ℕ) (gs : List ℕ) (v : ℕ) → cuts-at (range-of (expression gs k)) v ≡ true → cut-from (suc n) k gs v ≡ true
 unfolding cut-from
 from-cut n k gs v e = simp e
 
-from-uncut : (n k : ℕ) (gs : List ℕ) (v : ℕ) → cuts-at (expression gs k) v ≡ false → cut-from (suc n) k gs v ≡ cut-from n (suc k) gs v
+from-uncut : (n k : ℕ) (gs : List ℕ) (v : ℕ) → cuts-at (range-of (expression gs k)) v ≡ false → cut-from (suc n) k gs v ≡ cut-from n (suc k) gs v
 unfolding cut-from
 from-uncut n k gs v e = simp e
 
@@ -89,15 +88,11 @@ module _ (gs : List ℕ) (v k : ℕ) (left : Cuts-left gs v k) where
     cut-more : rules gs - k ≡ suc (rules gs - (k + 1))
     cut-more = omega arith
 
-    -- what the turn saw of rule k
-    seen : (e : Expression) (t b : Bool) → e ≡ expression gs k → t ≡ cuts-at e v → t ≡ b → cuts-at (expression gs k) v ≡ b
-    seen e t b is says q = ap (λ (x : Expression). cuts-at x v) (sym is) ∙ sym says ∙ q
+    pub cuts-stop : (t : Bool) → t ≡ cuts-at (range-of (expression gs k)) v → t ≡ true → true ≡ cut gs v
+    cuts-stop t says q =
+        sym (left ∙ ap (λ (n : ℕ). cut-from n k gs v) cut-more ∙ from-cut _ k gs v (sym says ∙ q))
 
-    pub cuts-stop : (e : Expression) (t : Bool) → e ≡ expression gs k → t ≡ cuts-at e v → t ≡ true → true ≡ cut gs v
-    cuts-stop e t is says q =
-        sym (left ∙ ap (λ (n : ℕ). cut-from n k gs v) cut-more ∙ from-cut _ k gs v (seen e t true is says q))
-
-    pub cuts-next : (e : Expression) (t : Bool) → e ≡ expression gs k → t ≡ cuts-at e v → t ≡ false → Cuts-left gs v (k + 1)
-    cuts-next e t is says q =
-        left ∙ ap (λ (n : ℕ). cut-from n k gs v) cut-more ∙ from-uncut _ k gs v (seen e t false is says q)
+    pub cuts-next : (t : Bool) → t ≡ cuts-at (range-of (expression gs k)) v → t ≡ false → Cuts-left gs v (k + 1)
+    cuts-next t says q =
+        left ∙ ap (λ (n : ℕ). cut-from n k gs v) cut-more ∙ from-uncut _ k gs v (sym says ∙ q)
         ∙ ap (λ (i : ℕ). cut-from (rules gs - (k + 1)) i gs v) (omega arith)

@@ -7,41 +7,49 @@ use native.Mathlib.Numerals.{add-one}
 use native.Mathlib.Omega.{arith}
 use lib.ListN.{length, take, getD}
 use lib.Seq.{take-all, take-take, take-append-le, length-take-le, getD-take}
+use Rattle.codec.specs.Bytes.{written}
+use Rattle.codec.proofs.Writes.{written-front}
 use Rattle.machine.specs.declared.Selector.{Selector}
-use Rattle.machine.specs.Counting.{Selects}
+use Rattle.machine.specs.Format
+use Rattle.machine.specs.Encoding.{header, rule-bytes, rules-bytes, encode}
+use Rattle.machine.proofs.Encoded.{header-length}
+use Rattle.machine.specs.code.Counting.{Selects}
 use Rattle.machine.proofs.CountingOn.{state-of, class-of, symbol-of}
 use Rattle.grammar.specs.declared.RuleBytes.{RuleBytes}
 use Rattle.grammar.specs.Grammar.{grammar-refusal}
 use Rattle.grammar.specs.Classes.{class-count}
-use Rattle.grammar.specs.Image.{made, rule-bytes, symbols-of, built-rules, built-length, rules-made, map-made, header, built}
-use Rattle.grammar.specs.Writing.{rule-of, header-of, Rows-ready}
+use Rattle.grammar.specs.Table.{made}
+use Rattle.grammar.specs.Image.{symbols-of, built-rules, built-length, rules-made, map-made, parts, built}
+use Rattle.grammar.specs.Writing.{rule-of, Rows-ready, with-rules}
+use Rattle.grammar.proofs.PartsMade.{made-at, rules-length}
 use Rattle.grammar.proofs.CodeWriting.{map-read}
 
-rules-step :
-    (n i : ℕ) (gs : List ℕ) →
-    rules-made (suc n) i gs
-    ≡ rule-bytes (made gs (i / symbols-of gs / (class-count gs + 2)) (i / symbols-of gs % (class-count gs + 2)) (i % symbols-of gs)) ++ rules-made n (suc i) gs
-unfolding rules-made
+-- the bytes of the rules from index i on
+abbrev pub made-bytes : (left i : ℕ) → List ℕ → List ℕ
+made-bytes n i gs = rules-bytes (rules-made n i gs)
+
+rules-step : (n i : ℕ) (gs : List ℕ) → made-bytes (suc n) i gs ≡ rule-bytes (made-at gs i) ++ made-bytes n (suc i) gs
+unfolding rules-made rules-bytes
 rules-step n i gs = refl
 
-rules-none : (i : ℕ) (gs : List ℕ) → rules-made 0 i gs ≡ []
-unfolding rules-made
+rules-none : (i : ℕ) (gs : List ℕ) → made-bytes 0 i gs ≡ []
+unfolding rules-made rules-bytes
 rules-none i gs = refl
 
 bytes-are : (r : RuleBytes) → rule-bytes (rule-of r) ≡ r .kind ∷ r .state ∷ r .symbol ∷ r .direction ∷ []
 unfolding rule-bytes
 bytes-are r = refl
 
-pub length-is : (gs : List ℕ) → built-length gs ≡ 288 + 4 * built-rules gs
+pub length-is : (gs : List ℕ) → built-length gs ≡ Format.rules-offset + Format.rule-length * built-rules gs
 unfolding built-length
 length-is gs = refl
 
 pub record Rules-written (gs before now : List ℕ) (i : ℕ) : Type 0 where
   pub within : i ≤ built-rules gs
-  pub long : length now ≡ 288 + 4 * built-rules gs
-  pub kept : take 288 now ≡ take 288 before
+  pub long : length now ≡ Format.rules-offset + Format.rule-length * built-rules gs
+  pub kept : take Format.rules-offset now ≡ take Format.rules-offset before
   pub written :
-      take (288 + 4 * i) now ++ rules-made (built-rules gs - i) i gs ≡ take 288 before ++ rules-made (built-rules gs) 0 gs
+      take (Format.rules-offset + Format.rule-length * i) now ++ made-bytes (built-rules gs - i) i gs ≡ take Format.rules-offset before ++ made-bytes (built-rules gs) 0 gs
 
 pub rules-start : (gs a : List ℕ) → length a ≡ built-length gs → Rules-written gs a a 0
 rules-start gs a e =
@@ -49,58 +57,59 @@ rules-start gs a e =
       within = omega arith;
       long = e ∙ length-is gs;
       kept = refl;
-      written = ap (λ (n : ℕ). take 288 a ++ rules-made n 0 gs) (sub-zero (built-rules gs));
+      written = ap (λ (n : ℕ). take Format.rules-offset a ++ made-bytes n 0 gs) (sub-zero (built-rules gs));
     }
 
 pub rules-end :
-    (gs a b : List ℕ) (i : ℕ) → Rules-written gs a b i → built-rules gs ≤ i → b ≡ take 288 a ++ rules-made (built-rules gs) 0 gs
+    (gs a b : List ℕ) (i : ℕ) → Rules-written gs a b i → built-rules gs ≤ i → b ≡ take Format.rules-offset a ++ made-bytes (built-rules gs) 0 gs
 rules-end gs a b i w h =
     let nothing : built-rules gs - i ≡ 0 = omega arith in
-    let whole : length b ≤ 288 + 4 * i = omega (arith, w .long) in
+    let whole : length b ≤ Format.rules-offset + Format.rule-length * i = omega (arith, w .long) in
     sym
-    (ap (λ (r : List ℕ). take (288 + 4 * i) b ++ r) (ap (λ (n : ℕ). rules-made n i gs) nothing ∙ rules-none i gs)
-    ∙ append-nil (take (288 + 4 * i) b)
-    ∙ take-all (288 + 4 * i) b whole)
+    (ap (λ (r : List ℕ). take (Format.rules-offset + Format.rule-length * i) b ++ r) (ap (λ (n : ℕ). made-bytes n i gs) nothing ∙ rules-none i gs)
+    ∙ append-nil (take (Format.rules-offset + Format.rule-length * i) b)
+    ∙ take-all (Format.rules-offset + Format.rule-length * i) b whole)
     ∙ w .written
 
 -- a part before what is written stays
 front-kept :
-    (a b bytes : List ℕ) (o : ℕ) → 288 ≤ o → o ≤ length a → take (o + 4) b ≡ take o a ++ bytes → take 288 b ≡ take 288 a
+    (a b bytes : List ℕ) (o : ℕ) → Format.rules-offset ≤ o → o ≤ length a → take (o + 4) b ≡ take o a ++ bytes → take Format.rules-offset b ≡ take Format.rules-offset a
 front-kept a b bytes o h l e =
-    let inside : 288 ≤ length (take o a) = rw (length-take-le o a l) h in
-    let further : 288 ≤ o + 4 = omega arith in
-    sym (take-take 288 (o + 4) b further) ∙ ap (take 288) e ∙ take-append-le 288 (take o a) bytes inside
-    ∙ take-take 288 o a h
+    let inside : Format.rules-offset ≤ length (take o a) = rw (length-take-le o a l) h in
+    let further : Format.rules-offset ≤ o + 4 = omega arith in
+    sym (take-take Format.rules-offset (o + 4) b further) ∙ ap (take Format.rules-offset) e ∙ take-append-le Format.rules-offset (take o a) bytes inside
+    ∙ take-take Format.rules-offset o a h
 
 pub rules-next :
     (gs a b c : List ℕ) (i n g : ℕ) (r : RuleBytes) → Rules-written gs a b i → i < built-rules gs → n ≡ class-count gs → g ≡ symbols-of gs →
     length c ≡ length b →
-    take (288 + 4 * i + 4) c ≡ take (288 + 4 * i) b ++ (r .kind ∷ r .state ∷ r .symbol ∷ r .direction ∷ []) →
+    c ≡ written b (Format.rules-offset + Format.rule-length * i) (r .kind ∷ r .state ∷ r .symbol ∷ r .direction ∷ []) →
     rule-of r ≡ made gs (i / g / (n + 2)) (i / g % (n + 2)) (i % g) → Rules-written gs a c (i + 1)
-rules-next gs a b c i n g r w more en eg same e q =
-    let o : ℕ = 288 + 4 * i in
-    let place : 288 + 4 * (i + 1) ≡ o + 4 = omega arith in
+rules-next gs a b c i n g r w more en eg same put q =
+    let o : ℕ = Format.rules-offset + Format.rule-length * i in
+    let place : Format.rules-offset + Format.rule-length * (i + 1) ≡ o + 4 = omega arith in
     let one-more : built-rules gs - i ≡ suc (built-rules gs - (i + 1)) = omega arith in
-    let least : 288 ≤ o = omega arith in
+    let least : Format.rules-offset ≤ o = omega arith in
     let room : o ≤ length b = omega (arith, w .long) in
-    let rest : List ℕ = rules-made (built-rules gs - (i + 1)) (suc i) gs in
+    let rest : List ℕ = made-bytes (built-rules gs - (i + 1)) (suc i) gs in
     let four : List ℕ = r .kind ∷ r .state ∷ r .symbol ∷ r .direction ∷ [] in
-    let here : four ++ rest ≡ rules-made (built-rules gs - i) i gs =
+    let e : take (o + 4) c ≡ take o b ++ four = ap (take (o + 4)) put ∙ written-front b o four (omega (arith, w .long)) in
+    let here : four ++ rest ≡ made-bytes (built-rules gs - i) i gs =
     ap (λ (l : List ℕ). l ++ rest)
     (sym (bytes-are r)
     ∙ ap rule-bytes
     (q ∙ ap (λ (m : ℕ). made gs (i / m / (n + 2)) (i / m % (n + 2)) (i % m)) eg
     ∙ ap (λ (m : ℕ). made gs (i / symbols-of gs / (m + 2)) (i / symbols-of gs % (m + 2)) (i % symbols-of gs)) en))
     ∙ sym (rules-step (built-rules gs - (i + 1)) i gs)
-    ∙ ap (λ (m : ℕ). rules-made m i gs) (sym one-more)
+    ∙ ap (λ (m : ℕ). made-bytes m i gs) (sym one-more)
     in
     record {
       within = omega arith;
       long = same ∙ w .long;
       kept = front-kept b c four o least room e ∙ w .kept;
       written =
-          ap (λ (m : ℕ). take m c ++ rules-made (built-rules gs - (i + 1)) (i + 1) gs) place
-          ∙ ap (λ (m : ℕ). take (o + 4) c ++ rules-made (built-rules gs - (i + 1)) m gs) (add-one i)
+          ap (λ (m : ℕ). take m c ++ made-bytes (built-rules gs - (i + 1)) (i + 1) gs) place
+          ∙ ap (λ (m : ℕ). take (o + 4) c ++ made-bytes (built-rules gs - (i + 1)) m gs) (add-one i)
           ∙ ap (λ (l : List ℕ). l ++ rest) e
           ∙ append-assoc (take o b) four rest
           ∙ ap (λ (l : List ℕ). take o b ++ l) here
@@ -122,32 +131,34 @@ ready-kept gs a b n i w r =
       classes-are = w .classes-are;
       map =
           λ v h.
-          sym (getD-take 288 b (32 + v) 0 (omega arith)) ∙ ap (λ (l : List ℕ). getD l (32 + v) 0) (r .kept)
-          ∙ getD-take 288 a (32 + v) 0 (omega arith)
+          sym (getD-take Format.rules-offset b (Format.map-offset + v) 0 (omega arith)) ∙ ap (λ (l : List ℕ). getD l (Format.map-offset + v) 0) (r .kept)
+          ∙ getD-take Format.rules-offset a (Format.map-offset + v) 0 (omega arith)
           ∙ w .map v h;
     }
 
 -- THE WHOLE IMAGE: the header, the class map, the rules
 pub ready-after :
-    (gs a b : List ℕ) (n : ℕ) → grammar-refusal gs .number ≡ 0 → n ≡ class-count gs → 288 ≤ length a → length b ≡ length a →
-    take 288 b ≡ take 32 a ++ map-made 256 0 gs → Rows-ready gs b n
+    (gs a b : List ℕ) (n : ℕ) → grammar-refusal gs .number ≡ 0 → n ≡ class-count gs → Format.rules-offset ≤ length a → length b ≡ length a →
+    take Format.rules-offset b ≡ take Format.map-offset a ++ map-made Format.map-length 0 gs → Rows-ready gs b n
 ready-after gs a b n good e h same q =
     record { good = good; long = omega arith; classes-are = e; map = map-read gs a b (omega arith) q }
 
-header-is : (gs : List ℕ) → header gs ≡ header-of (4 * built-rules gs) (class-count gs) (symbols-of gs)
-unfolding header header-of
-header-is gs = refl
-
 pub image-whole :
-    (gs a b c : List ℕ) (size n g : ℕ) → size ≡ built-rules gs → n ≡ class-count gs → g ≡ symbols-of gs → take 32 a ≡ header-of (4 * size) n g →
-    take 288 b ≡ take 32 a ++ map-made 256 0 gs → c ≡ take 288 b ++ rules-made (built-rules gs) 0 gs → c ≡ built gs
-unfolding built
-image-whole gs a b c size n g es en eg h m r =
-    let rest : List ℕ = rules-made (built-rules gs) 0 gs in
-    let head : take 32 a ≡ header gs =
-    h ∙ ap (λ (x : ℕ). header-of (4 * x) n g) es ∙ ap (λ (x : ℕ). header-of (4 * built-rules gs) x g) en
-    ∙ ap (header-of (4 * built-rules gs) (class-count gs)) eg
-    ∙ sym (header-is gs)
+    (gs a b c d : List ℕ) (n k g : ℕ) → n ≡ built-rules gs → k ≡ class-count gs → g ≡ symbols-of gs → Format.map-offset ≤ length a →
+    b ≡ written a 0 (header 5 k g 16 n) → take Format.rules-offset c ≡ take Format.map-offset b ++ map-made Format.map-length 0 gs →
+    d ≡ with-rules gs c → d ≡ built gs
+unfolding built parts encode
+image-whole gs a b c d n k g en ek eg room h m r =
+    let front : List ℕ = header 5 k g 16 n in
+    let map : List ℕ = map-made Format.map-length 0 gs in
+    let rest : List ℕ = made-bytes (built-rules gs) 0 gs in
+    let long : length front ≡ Format.map-offset = header-length 5 k g 16 n in
+    let place : Format.map-offset ≡ 0 + length front = omega arith in
+    let head : take Format.map-offset b ≡ front =
+    ap (take Format.map-offset) h ∙ ap (λ (x : ℕ). take x (written a 0 front)) place ∙ written-front a 0 front (omega arith)
     in
-    r ∙ ap (λ (l : List ℕ). l ++ rest) (m ∙ ap (λ (l : List ℕ). l ++ map-made 256 0 gs) head)
-    ∙ append-assoc (header gs) (map-made 256 0 gs) rest
+    let same : front ≡ header 5 (class-count gs) (symbols-of gs) 16 (length (rules-made (built-rules gs) 0 gs)) =
+    rw (en, ek, eg, rules-length (built-rules gs) 0 gs)
+    in
+    r ∙ ap (λ (l : List ℕ). l ++ rest) (m ∙ ap (λ (l : List ℕ). l ++ map) (head ∙ same))
+    ∙ append-assoc (header 5 (class-count gs) (symbols-of gs) 16 (length (rules-made (built-rules gs) 0 gs))) map rest

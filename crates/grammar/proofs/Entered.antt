@@ -30,6 +30,7 @@ use Rattle.machine.specs.Run.{
 use Rattle.machine.specs.Verdicts.{Entered, over-base}
 use Rattle.machine.proofs.Runs.{after-zero, after-last, some-same, step-push, Halted, halts-once}
 use Rattle.grammar.specs.Parsing.{Rules}
+use Rattle.grammar.specs.Table.{state-start, state-work, state-ok, state-fail}
 use Rattle.grammar.proofs.Table.{Table}
 use Rattle.grammar.proofs.Leads.{In-box, At-bottom, Leads, box-leads, bottom-halts}
 
@@ -58,7 +59,7 @@ next-same e = cc
 
 -- a pop in the box leads to the entry below
 popped-to :
-    {m n : ℕ} (p i : ℕ) {es : List Entry} → 2 ≤ p → p ≤ 3 → 0 < i → i ≤ suc n → Entries m n es → Running m n (instant p i es)
+    {m n : ℕ} (p i : ℕ) {es : List Entry} → state-ok ≤ p → p ≤ state-fail → 0 < i → i ≤ suc n → Entries m n es → Running m n (instant p i es)
 popped-to p i least most head-least head-most bottom =
     halting (record { state-least = least; state-most = most; head-least = head-least; head-most = head-most; symbol-is = refl })
 popped-to p i least most head-least head-most (above {a = a} a-least a-most j-least j-most rest) =
@@ -77,7 +78,7 @@ boxed-next :
     {m n : ℕ} (c : Config) → In-box m n c → (a : Action) → Leads m n a → (j : ℕ) → 0 < j → j ≤ suc n → (es : List Entry) →
     Entries m n es → (y : Instant) → step-by a (c .head) (entry (c .symbol) j) es ≡ next y → Running m n y
 unfolding step-by Leads
-boxed-next c b Stop leads j least most es w y e = let z : _≡_ {A = ℕ} 0 1 = cc in absurd (omega arith)
+boxed-next c b (Stop r) leads j least most es w y e = let z : _≡_ {A = ℕ} 0 1 = cc in absurd (omega arith)
 boxed-next {m} {n} c b (Change d) leads j least most es w y e = subst (Running m n) (next-same e) (boxed leads least most w)
 boxed-next {m} {n} c b (Push d) leads j least most es w y e =
     subst (Running m n) (next-same e)
@@ -98,9 +99,9 @@ module _ {M : Machine} {E : Rules} {m : ℕ} {cs : List ℕ} (table : Table M E 
   start-next : (y : Instant) → step M start ≡ next y → Running m (length cs) y
   unfolding start
   start-next y e =
-      let goes : step M start ≡ next (over-base (config 1 1 1) 1 (entry 0 0 ∷ [])) = step-push M (config 0 0 0) 0 [] (table .starts) in
+      let goes : step M start ≡ next (over-base (config state-work 1 1) 1 (entry 0 0 ∷ [])) = step-push M (config state-start 0 0) 0 [] (table .starts) in
       let least = table .some-rule in
-      let b : In-box m (length cs) (config 1 1 1) = omega arith in
+      let b : In-box m (length cs) (config state-work 1 1) = omega arith in
       subst (Running m (length cs)) (next-same (sym goes ∙ e)) (boxed b (omega arith) (omega arith) bottom)
 
   step-running : {x : Instant} → Running m (length cs) x → (y : Instant) → step M x ≡ next y → Running m (length cs) y
@@ -118,7 +119,7 @@ module _ {M : Machine} {E : Rules} {m : ℕ} {cs : List ℕ} (table : Table M E 
 
 -- THE SHAPE of a configuration entered
 pub data Shape (M : Machine) (m n : ℕ) (c : Config) : Type 0 where
-  the-start : c ≡ config 0 0 0 → Shape M m n c
+  the-start : c ≡ config state-start 0 0 → Shape M m n c
   in-box : In-box m n c → Shape M m n c
   the-last : At-bottom n c → (steps : ℕ) (x : Instant) → after steps M start ≡ some x → Halted M x → config-of x ≡ c → Shape M m n c
 

@@ -12,6 +12,7 @@ use Rattle.machine.specs.Verdicts.{Noted, nonzero, All-entered}
 use Rattle.machine.proofs.Digits.{digits-below, low-digit, middle-digit, high-digit}
 use Rattle.machine.proofs.Listing.{all-entered}
 use Rattle.grammar.specs.Parsing.{Rules}
+use Rattle.grammar.specs.Table.{state-start, state-ok, state-count}
 use Rattle.grammar.proofs.Table.{Table}
 use Rattle.grammar.proofs.Leads.{In-box, At-bottom}
 use Rattle.grammar.proofs.Entered.{Shape, the-start, in-box, the-last, entered-shape, last-same}
@@ -48,7 +49,7 @@ config-same : (c d : Config) → c .state ≡ d .state → c .head ≡ d .head �
 config-same c d p q r = λ i. record { state = p i; head = q i; symbol = r i }
 
 module _ (m n : ℕ) where
-  start-number : {c : Config} → c ≡ config 0 0 0 → entered-number m n c ≡ 0
+  start-number : {c : Config} → c ≡ config state-start 0 0 → entered-number m n c ≡ 0
   unfolding entered-number entered-number-by
   start-number e = ap (entered-number m n) e
 
@@ -56,7 +57,7 @@ module _ (m n : ℕ) where
   unfolding entered-number entered-number-by
   last-number {c} b = go (c .state) (c .symbol) (b .state-least) (b .symbol-is)
     where
-      go : (p a : ℕ) → 2 ≤ p → a ≡ 0 → entered-number-by (box-number m n c) p a ≡ 1
+      go : (p a : ℕ) → state-ok ≤ p → a ≡ 0 → entered-number-by (box-number m n c) p a ≡ 1
       go zero a l e = absurd (omega arith)
       go (suc p) zero l e = refl
       go (suc p) (suc a) l e = absurd (omega arith)
@@ -108,7 +109,7 @@ shape-there {M} {m = m} {cs = cs} table c shape =
     let symbols = table .symbols-are in
     go shape (omega arith) (omega arith) (omega arith)
   where
-    go : Shape M m (length cs) c → 5 ≤ M .states → length cs + 2 ≤ M .places → suc (2 * m) ≤ M .symbols → There M c
+    go : Shape M m (length cs) c → state-count ≤ M .states → length cs + 2 ≤ M .places → suc (2 * m) ≤ M .symbols → There M c
     go (the-start e) p i a =
         subst (There M) (sym e) (record { state-below = omega arith; head-below = omega arith; symbol-below = omega arith })
     go (in-box b) p i a = record { state-below = omega arith; head-below = omega arith; symbol-below = omega arith }

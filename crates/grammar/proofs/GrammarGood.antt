@@ -4,31 +4,27 @@ use mathlib.Core.List.{List}
 use Prim.Native.Nat.{ℕ, _*_, _<_, _≤_}
 use native.Mathlib.Omega.{arith}
 use lib.ListN.{length}
-use Rattle.grammar.specs.declared.Expression.{Expression}
-use Rattle.grammar.specs.declared.Expression.the-variants.{Sequence, Choice, Not, Empty, Range}
-use Rattle.grammar.specs.Grammar.{rules, expression-by, expression, grammar-refusal}
+use Rattle.grammar.specs.declared.ByteRange.{ByteRange}
+use Rattle.grammar.specs.declared.ByteRange.the-variants.{Between, Nothing}
+use Rattle.grammar.specs.Grammar.{max-rules, rules, expression-by, expression, range-of, Parts-below, grammar-refusal}
 use Rattle.grammar.specs.Conditions.{Grammar-rule-right, sequence-right, choice-right, not-right, empty-right, range-right}
-use Rattle.grammar.proofs.Table.{Parts-below}
 pub use Rattle.grammar.proofs.ConditionsMet.{right-at}
 use Rattle.grammar.proofs.ConditionsMet.{grammar-right}
 
 -- a range's first byte is not above its last
-unfoldable pub Ordered : Expression → Type 0
-Ordered (Sequence b c) = Unit {0}
-Ordered (Choice b c) = Unit {0}
-Ordered (Not b) = Unit {0}
-Ordered Empty = Unit {0}
-Ordered (Range b c) = b ≤ c
+unfoldable pub Ordered : ByteRange → Type 0
+Ordered Nothing = Unit {0}
+Ordered (Between b c) = b ≤ c
 
 pub record Good-grammar (gs : List ℕ) : Type 0 where
   pub rules-least : 1 ≤ rules gs
-  pub rules-most : rules gs ≤ 31
+  pub rules-most : rules gs ≤ max-rules
   pub length-is : length gs ≡ 4 * rules gs
   pub parts : (k : ℕ) → k < rules gs → Parts-below (rules gs) (expression gs k)
-  pub ordered : (k : ℕ) → k < rules gs → Ordered (expression gs k)
+  pub ordered : (k : ℕ) → k < rules gs → Ordered (range-of (expression gs k))
 
-by-kind : (gs : List ℕ) (k : ℕ) → Grammar-rule-right gs k → Parts-below (rules gs) (expression gs k) × Ordered (expression gs k)
-unfolding expression expression-by Parts-below Ordered
+by-kind : (gs : List ℕ) (k : ℕ) → Grammar-rule-right gs k → Parts-below (rules gs) (expression gs k) × Ordered (range-of (expression gs k))
+unfolding expression expression-by range-of Parts-below Ordered
 by-kind gs k (sequence-right e b c z) = rw e ((b, c), tt)
 by-kind gs k (choice-right e b c z) = rw e ((b, c), tt)
 by-kind gs k (not-right e b c z) = rw e (b, tt)

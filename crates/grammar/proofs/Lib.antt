@@ -5,7 +5,7 @@ pub mod GrammarGood
 pub mod Classes
 pub mod ClassesFew
 pub mod RangeClasses
-pub mod Bytes
+pub mod PartsMade
 pub mod BuiltImage
 pub mod BuiltRules
 pub mod BuiltGood

@@ -4,7 +4,7 @@ use mathlib.Core.List.{List, [], _∷_}
 use Prim.Native.Nat.{ℕ, zero, suc, _+_, _≤_}
 use native.Mathlib.Omega.{arith}
 use lib.ListN.{length}
-use Rattle.grammar.specs.Grammar.{rules, kind-of, b-of, c-of, expression-by, expression, rule-right, rules-from, grammar-refusal}
+use Rattle.grammar.specs.Grammar.{rules, kind-of, b-of, c-of, kind-range, expression-by, expression, range-of, rule-right, rules-from, grammar-refusal}
 use Rattle.grammar.specs.Classes.{cuts-at, cut-from, cut, class-of, class-count}
 use Rattle.grammar.specs.Image.{symbols-of, built-rules, built, built-length}
 use Rattle.grammar.proofs.BuiltImage.{built-length-is}
@@ -17,7 +17,7 @@ longest-image gs good = omega (arith, built-length-is gs, count-most gs good)
 -- so many rules, each a range of one byte: b, b + 2, b + 4, .. They cut at b, b + 1, b + 2, b + 3, ..
 single-bytes : (count b : ℕ) → List ℕ
 single-bytes zero b = []
-single-bytes (suc n) b = 5 ∷ b ∷ b ∷ 0 ∷ single-bytes n (b + 2)
+single-bytes (suc n) b = kind-range ∷ b ∷ b ∷ 0 ∷ single-bytes n (b + 2)
 
 -- 31 rules that cut at 1 to 62: refused by nothing, and as long as can be
 longest : List ℕ
@@ -28,7 +28,7 @@ unfolding longest single-bytes grammar-refusal rules kind-of b-of c-of rule-righ
 longest-good = refl
 
 longest-length : built-length longest ≡ 82188
-unfolding longest single-bytes rules kind-of b-of c-of expression-by expression cuts-at cut-from cut class-of class-count symbols-of built-rules built-length
+unfolding longest single-bytes rules kind-of b-of c-of expression-by expression range-of cuts-at cut-from cut class-of class-count symbols-of built-rules built-length
 longest-length = refl
 
 pub longest-there : (gs : List ℕ) × (grammar-refusal gs .number ≡ 0) × (length (built gs) ≡ 82188)

@@ -12,7 +12,7 @@ use borrow.Author.Tests.{lt-ltb}
 use Rattle.machine.specs.declared.Action.the-variants.{Push}
 use Rattle.machine.specs.Run.{Machine, Entry, entry, Instant, instant, next, step, after, config}
 use Rattle.machine.specs.Verdicts.{over-base}
-use Rattle.machine.specs.Image.{byte}
+use Rattle.codec.specs.Bytes.{byte}
 use Rattle.machine.proofs.Runs.{after-zero, after-then, after-front, after-next, step-change, step-push, step-pop}
 use Rattle.grammar.specs.declared.Expression.the-variants.{Sequence, Choice, Not, Empty, Range}
 use Rattle.grammar.specs.Parsing.{
@@ -29,7 +29,7 @@ use Rattle.grammar.specs.Parsing.{
   range,
   range-fails,
 }
-use Rattle.grammar.specs.Image.{first, second}
+use Rattle.grammar.specs.Table.{state-work, state-ok, state-fail, first, second}
 use Rattle.grammar.proofs.Table.{Table}
 use Rattle.grammar.proofs.Bools.{both-hold}
 use Rattle.grammar.proofs.TableRows.{
@@ -59,16 +59,16 @@ use Rattle.grammar.proofs.TableRows.{
 
 -- work on rule k begins at capture place i
 abbrev pub working : (k i : ℕ) → List Entry → Instant
-working k i es = over-base (config 1 (suc i) (first k)) (suc i) es
+working k i es = over-base (config state-work (suc i) (first k)) (suc i) es
 
 -- work on a rule's other part begins at place j
 abbrev pub working-second : (k i j : ℕ) → List Entry → Instant
-working-second k i j es = over-base (config 1 (suc j) (second k)) (suc i) es
+working-second k i j es = over-base (config state-work (suc j) (second k)) (suc i) es
 
 -- the entry is removed: ok where the result ends, or fail where the work began
 abbrev pub popped : (i : ℕ) → Option ℕ → List Entry → Instant
-popped i none es = instant 3 (suc i) es
-popped i (some j) es = instant 2 (suc j) es
+popped i none es = instant state-fail (suc i) es
+popped i (some j) es = instant state-ok (suc j) es
 
 -- a result ends in the capture, not before its beginning
 abbrev pub Ends-inside : (size i : ℕ) → Option ℕ → Type 0
@@ -83,7 +83,7 @@ pub record Came (M : Machine) (cs : List ℕ) (k i : ℕ) (o : Option ℕ) : Typ
 
 -- what a rule's entry does first, and what its next step is once a part's entry is removed
 abbrev pub Pushes : Machine → (i a b : ℕ) → Type 0
-Pushes M i a b = M .action (config 1 (suc i) a) ≡ Push (config 1 (suc i) (first b))
+Pushes M i a b = M .action (config state-work (suc i) a) ≡ Push (config state-work (suc i) (first b))
 
 abbrev pub Goes-to : Machine → (a i j : ℕ) → Option ℕ → (List Entry → Instant) → Type 0
 Goes-to M a i j o x = (f : Entry) (es : List Entry) → step M (popped j o (entry a (suc i) ∷ f ∷ es)) ≡ next (x (f ∷ es))
@@ -95,7 +95,7 @@ module _ {M : Machine} {cs : List ℕ} (k i : ℕ) where
       {b : ℕ} {o : Option ℕ} → Pushes M i (first k) b → (w : Came M cs b i o) → (f : Entry) (es : List Entry) →
       after (suc (w .steps)) M (working k i (f ∷ es)) ≡ some (popped i o (entry (first k) (suc i) ∷ f ∷ es))
   first-back push w f es =
-      after-front M (w .steps) (working k i (f ∷ es)) (step-push M (config 1 (suc i) (first k)) (suc i) (f ∷ es) push)
+      after-front M (w .steps) (working k i (f ∷ es)) (step-push M (config state-work (suc i) (first k)) (suc i) (f ∷ es) push)
       ∙ w .comes (entry (first k) (suc i)) (f ∷ es)
 
   -- then the rule turns to its second symbol, and pushes the other part
@@ -107,7 +107,7 @@ module _ {M : Machine} {cs : List ℕ} (k i : ℕ) where
       let count : 3 + w .steps ≡ suc (suc (suc (w .steps))) = omega arith in
       let turned = after-next M (suc (w .steps)) (working k i (f ∷ es)) (first-back push w f es) (turn f es) in
       rw count (after-next M (suc (suc (w .steps))) (working k i (f ∷ es)) turned
-      (step-push M (config 1 (suc j) (second k)) (suc i) (f ∷ es) again))
+      (step-push M (config state-work (suc j) (second k)) (suc i) (f ∷ es) again))
 
 module _ {M : Machine} {cs : List ℕ} {k i : ℕ} {o : Option ℕ} where
   -- the entry goes at once
@@ -148,15 +148,15 @@ module _ {M : Machine} {cs : List ℕ} {k i : ℕ} {o : Option ℕ} where
 module _ {M : Machine} {E : Rules} {m : ℕ} {cs : List ℕ} (t : Table M E m cs) {k i : ℕ} (below : k < m) (here : i ≤ length cs) where
   pub sequence-turns :
       {b c : ℕ} (j : ℕ) → E k ≡ Sequence b c → j ≤ length cs → Goes-to M (first k) i i (some j) (working-second k i j)
-  sequence-turns j e l f es = step-change M (config 2 (suc j) (first k)) (suc i) (f ∷ es) (sequence-ok t below l e)
+  sequence-turns j e l f es = step-change M (config state-ok (suc j) (first k)) (suc i) (f ∷ es) (sequence-ok t below l e)
 
   sequence-last :
       {b c : ℕ} (j : ℕ) (o : Option ℕ) → E k ≡ Sequence b c → j ≤ length cs → Ends-inside (length cs) j o →
       Goes-to M (second k) i j o (popped i o)
   sequence-last j none e l inside f es =
-      step-pop M (config 3 (suc j) (second k)) (suc i) f es (sequence-fail-second t below l e)
+      step-pop M (config state-fail (suc j) (second k)) (suc i) f es (sequence-fail-second t below l e)
   sequence-last j (some h) e l inside f es =
-      step-pop M (config 2 (suc h) (second k)) (suc i) f es (sequence-ok-second t below (inside .1) e)
+      step-pop M (config state-ok (suc h) (second k)) (suc i) f es (sequence-ok-second t below (inside .1) e)
 
   ends-later : (j : ℕ) (o : Option ℕ) → i ≤ j → Ends-inside (length cs) j o → Ends-inside (length cs) i o
   ends-later j none l inside = tt
@@ -172,22 +172,22 @@ module _ {M : Machine} {E : Rules} {m : ℕ} {cs : List ℕ} (t : Table M E m cs
   came-sequence-fails : {b c : ℕ} → E k ≡ Sequence b c → Came M cs b i none → Came M cs k i none
   came-sequence-fails e w =
       came-once (sequence-work t below here e) w
-      (λ f es. step-pop M (config 3 (suc i) (first k)) (suc i) f es (sequence-fail t below here e)) tt
+      (λ f es. step-pop M (config state-fail (suc i) (first k)) (suc i) f es (sequence-fail t below here e)) tt
 
   came-choice : {b c j : ℕ} → E k ≡ Choice b c → Came M cs b i (some j) → Came M cs k i (some j)
   came-choice {j = j} e w =
       came-once (choice-work t below here e) w
-      (λ f es. step-pop M (config 2 (suc j) (first k)) (suc i) f es (choice-ok t below (w .ends .1) e)) (w .ends)
+      (λ f es. step-pop M (config state-ok (suc j) (first k)) (suc i) f es (choice-ok t below (w .ends .1) e)) (w .ends)
 
   pub choice-turns :
       {b c : ℕ} → E k ≡ Choice b c → Goes-to M (first k) i i none (working-second k i i)
-  choice-turns e f es = step-change M (config 3 (suc i) (first k)) (suc i) (f ∷ es) (choice-fail t below here e)
+  choice-turns e f es = step-change M (config state-fail (suc i) (first k)) (suc i) (f ∷ es) (choice-fail t below here e)
 
   choice-last :
       {b c : ℕ} (o : Option ℕ) → E k ≡ Choice b c → Ends-inside (length cs) i o → Goes-to M (second k) i i o (popped i o)
-  choice-last none e inside f es = step-pop M (config 3 (suc i) (second k)) (suc i) f es (choice-fail-second t below here e)
+  choice-last none e inside f es = step-pop M (config state-fail (suc i) (second k)) (suc i) f es (choice-fail-second t below here e)
   choice-last (some h) e inside f es =
-      step-pop M (config 2 (suc h) (second k)) (suc i) f es (choice-ok-second t below (inside .1) e)
+      step-pop M (config state-ok (suc h) (second k)) (suc i) f es (choice-ok-second t below (inside .1) e)
 
   came-choice-other :
       {b c : ℕ} {o : Option ℕ} → E k ≡ Choice b c → Came M cs b i none → Came M cs c i o → Came M cs k i o
@@ -198,16 +198,16 @@ module _ {M : Machine} {E : Rules} {m : ℕ} {cs : List ℕ} (t : Table M E m cs
   came-not-there : {b : ℕ} → E k ≡ Not b → Came M cs b i none → Came M cs k i (some i)
   came-not-there e w =
       came-once (not-work t below here e) w
-      (λ f es. step-pop M (config 3 (suc i) (first k)) (suc i) f es (not-fail t below here e)) (le-refl i, here)
+      (λ f es. step-pop M (config state-fail (suc i) (first k)) (suc i) f es (not-fail t below here e)) (le-refl i, here)
 
   came-not-fails : {b j : ℕ} → E k ≡ Not b → Came M cs b i (some j) → Came M cs k i none
   came-not-fails {j = j} e w =
       came-once (not-work t below here e) w
-      (λ f es. step-pop M (config 2 (suc j) (first k)) (suc i) f es (not-ok t below (w .ends .1) e)) tt
+      (λ f es. step-pop M (config state-ok (suc j) (first k)) (suc i) f es (not-ok t below (w .ends .1) e)) tt
 
   came-empty : E k ≡ Empty → Came M cs k i (some i)
   came-empty e =
-      came-now (λ f es. step-pop M (config 1 (suc i) (first k)) (suc i) f es (empty-work t below here e)) (le-refl i, here)
+      came-now (λ f es. step-pop M (config state-work (suc i) (first k)) (suc i) f es (empty-work t below here e)) (le-refl i, here)
 
   came-range :
       {b c : ℕ} → E k ≡ Range b c → i < length cs → (ltb i (length cs) && in-range b c (byte cs i)) ≡ true → Came M cs k i (some (suc i))
@@ -216,9 +216,9 @@ module _ {M : Machine} {E : Rules} {m : ℕ} {cs : List ℕ} (t : Table M E m cs
         steps = 2;
         comes = λ f es.
             after-front M 1 (working k i (f ∷ es))
-            (step-change M (config 1 (suc i) (first k)) (suc i) (f ∷ es) (range-work t below here e h))
-            ∙ after-front M 0 (over-base (config 2 (suc (suc i)) (first k)) (suc i) (f ∷ es))
-            (step-pop M (config 2 (suc (suc i)) (first k)) (suc i) f es (range-ok t below l e))
+            (step-change M (config state-work (suc i) (first k)) (suc i) (f ∷ es) (range-work t below here e h))
+            ∙ after-front M 0 (over-base (config state-ok (suc (suc i)) (first k)) (suc i) (f ∷ es))
+            (step-pop M (config state-ok (suc (suc i)) (first k)) (suc i) f es (range-ok t below l e))
             ∙ after-zero M (popped i (some (suc i)) (f ∷ es));
         ends = (omega arith, l);
       }
@@ -226,7 +226,7 @@ module _ {M : Machine} {E : Rules} {m : ℕ} {cs : List ℕ} (t : Table M E m cs
   came-range-fails :
       {b c : ℕ} → E k ≡ Range b c → (ltb i (length cs) && in-range b c (byte cs i)) ≡ false → Came M cs k i none
   came-range-fails e h =
-      came-now (λ f es. step-pop M (config 1 (suc i) (first k)) (suc i) f es (range-work-fails t below here e h)) tt
+      came-now (λ f es. step-pop M (config state-work (suc i) (first k)) (suc i) f es (range-work-fails t below here e h)) tt
 
 -- a result comes from the run
 pub came :

@@ -10,9 +10,11 @@ use native.Mathlib.Omega.{arith}
 use lib.ListN.{length}
 use borrow.Author.Tests.{eq-eqb}
 use Rattle.machine.specs.declared.Config.{Config}
-use Rattle.machine.specs.declared.Verdict.the-variants.{Accepted, Ended, Stuck}
-use Rattle.machine.specs.Run.{Machine, Entry, entry, Instant, stuck, over, step, start, after, config, config-of}
-use Rattle.machine.specs.Verdicts.{Over, Says, Goes-on}
+use Rattle.machine.specs.declared.Reason.the-variants.{Missing}
+use Rattle.machine.specs.declared.Verdict.{Verdict}
+use Rattle.machine.specs.declared.Verdict.the-variants.{Accepted, Ended, Stuck, Looping}
+use Rattle.machine.specs.Run.{Machine, Entry, entry, Instant, stopped, over, step, start, after, config, config-of}
+use Rattle.machine.specs.Verdicts.{Says, Goes-on}
 use Rattle.machine.proofs.Runs.{
   after-zero,
   after-front,
@@ -20,14 +22,16 @@ use Rattle.machine.proofs.Runs.{
   step-push,
   step-pop-last,
   Halted,
-  halted-stuck,
+  halted-stopped,
   halted-over,
   halted-no-more,
   halts-once,
   not-none,
 }
+use Rattle.machine.proofs.Halts.{halt-stopped, halt-over, at-halt, says-accepted, says-stuck, says-halts}
 use Rattle.machine.proofs.OneVerdict.{one-verdict}
 use Rattle.grammar.specs.Parsing.{Rules, Parses}
+use Rattle.grammar.specs.Table.{state-start, state-ok, state-fail, state-done}
 use Rattle.grammar.proofs.Table.{Table}
 use Rattle.grammar.proofs.ParseRuns.{working, popped, Ends-inside, Came, came}
 use Rattle.grammar.proofs.RunParses.{Known, parses-or-goes}
@@ -56,8 +60,8 @@ which (some j) n = go (ℕ-discrete j n)
 
 popped-same : (i : ℕ) (o u : Option ℕ) (es : List Entry) → popped i o es ≡ popped i u es → o ≡ u
 popped-same i none none es e = refl
-popped-same i none (some j) es e = let z : _≡_ {A = ℕ} 3 2 = ap (λ (x : Instant). x .state) e in absurd (omega arith)
-popped-same i (some j) none es e = let z : _≡_ {A = ℕ} 2 3 = ap (λ (x : Instant). x .state) e in absurd (omega arith)
+popped-same i none (some j) es e = let z : _≡_ {A = ℕ} state-fail state-ok = ap (λ (x : Instant). x .state) e in absurd (omega arith)
+popped-same i (some j) none es e = let z : _≡_ {A = ℕ} state-ok state-fail = ap (λ (x : Instant). x .state) e in absurd (omega arith)
 popped-same i (some j) (some h) es e =
     let heads : suc j ≡ suc h = ap (λ (x : Instant). x .head) e in
     let same : j ≡ h = omega arith in
@@ -65,24 +69,24 @@ popped-same i (some j) (some h) es e =
 
 module _ {M : Machine} {E : Rules} {m : ℕ} {cs : List ℕ} (t : Table M E m cs) where
   -- WHERE THE RUN HALTS, with the result on the first entry
-  accepts-last : (i : ℕ) → step M (popped i (some (length cs)) ground) ≡ over 4 (suc (length cs))
-  accepts-last i = step-pop-last M (config 2 (suc (length cs)) 0) 0 (t .ends)
+  accepts-last : (i : ℕ) → step M (popped i (some (length cs)) ground) ≡ over state-done (suc (length cs))
+  accepts-last i = step-pop-last M (config state-ok (suc (length cs)) 0) 0 (t .ends)
 
   stuck-last :
       (i : ℕ) (o : Option ℕ) → i ≤ length cs → Ends-inside (length cs) i o → (o ≡ some (length cs) → ⊥) →
-      step M (popped i o ground) ≡ stuck
-  stuck-last i none here inside other = step-stop M (config 3 (suc i) 0) 0 [] (t .fail-stops i here)
+      step M (popped i o ground) ≡ stopped Missing
+  stuck-last i none here inside other = step-stop M (config state-fail (suc i) 0) 0 [] (t .fail-stops i here)
   stuck-last i (some j) here inside other =
       let l : j ≤ length cs = inside .1 in
       let ne : j ≡ length cs → ⊥ = λ e. other (ap some e) in
-      step-stop M (config 2 (suc j) 0) 0 [] (t .ok-stops j (omega arith))
+      step-stop M (config state-ok (suc j) 0) 0 [] (t .ok-stops j (omega arith))
 
   result-halts : (i : ℕ) (o : Option ℕ) → i ≤ length cs → Ends-inside (length cs) i o → Halted M (popped i o ground)
   result-halts i o here inside = go (which o (length cs))
     where
       go : Dec (o ≡ some (length cs)) → Halted M (popped i o ground)
       go (yes e) = rw e (halted-over M (popped i (some (length cs)) ground) (accepts-last i))
-      go (no e) = halted-stuck M (popped i o ground) (stuck-last i o here inside e)
+      go (no e) = halted-stopped M (popped i o ground) (stuck-last i o here inside e)
 
   -- ONE RESULT
   pub parses-once :
@@ -97,7 +101,7 @@ module _ {M : Machine} {E : Rules} {m : ℕ} {cs : List ℕ} (t : Table M E m cs
   -- FROM THE START
   start-then : (n : ℕ) → after (suc n) M start ≡ after n M (working 0 0 ground)
   unfolding start
-  start-then n = after-front M n start (step-push M (config 0 0 0) 0 [] (t .starts))
+  start-then n = after-front M n start (step-push M (config state-start 0 0) 0 [] (t .starts))
 
   from-start : {o : Option ℕ} (w : Came M cs 0 0 o) → after (suc (w .steps)) M start ≡ some (popped 0 o ground)
   from-start w = start-then (w .steps) ∙ w .comes (entry 0 0) []
@@ -109,17 +113,19 @@ module _ {M : Machine} {E : Rules} {m : ℕ} {cs : List ℕ} (t : Table M E m cs
   accepts p =
       let w = came-first p in
       let place : Instant = popped 0 (some (length cs)) ground in
-      let last : Over M (config-of place) 4 (suc (length cs)) =
-      record { steps = suc (w .steps); place = place; reached = from-start w; is = refl; last = accepts-last 0 } in
-      let at-end : suc (length cs) ≡ length cs + 1 = omega arith in
-      (config-of place, (4, suc (length cs), last, t .accepting-are 4 (suc (length cs)) ∙ eq-eqb (suc (length cs)) (length cs + 1) at-end))
+      let at-end : suc (length cs) + 1 ≡ length cs + 2 = omega arith in
+      let accepting = t .accepting-are state-done (suc (length cs)) ∙ eq-eqb (suc (length cs) + 1) (length cs + 2) at-end in
+      let last = halt-over M place (accepts-last 0) accepting in (
+        config-of place,
+        says-accepted (record { steps = suc (w .steps); place = place; reached = from-start w; is = refl; last = last }),
+      )
 
   sticks : (o : Option ℕ) → Parses E cs 0 0 o → (o ≡ some (length cs) → ⊥) → (d : Config) × Says M Stuck d
   sticks o p other =
       let w = came-first p in
       let place : Instant = popped 0 o ground in
-      let last = stuck-last 0 o (omega arith) (w .ends) other in
-      (config-of place, record { steps = suc (w .steps); place = place; reached = from-start w; is = refl; last = last })
+      let last = halt-stopped M place (stuck-last 0 o (omega arith) (w .ends) other) in
+      (config-of place, says-stuck (record { steps = suc (w .steps); place = place; reached = from-start w; is = refl; last = last }))
 
   halts : (o : Option ℕ) → Parses E cs 0 0 o → Goes-on M → ⊥
   halts o p on =
@@ -182,23 +188,24 @@ module _ {M : Machine} {E : Rules} {m : ℕ} {cs : List ℕ} (t : Table M E m cs
           let z : _≡_ {A = ℕ} 0 1 = cc in
           omega arith
 
-  over-parses : {d : Config} {p i : ℕ} → Over M d p i → (o : Option ℕ) × Parses E cs 0 0 o
-  over-parses v = halted-parses (v .steps) (v .reached) (halted-over M (v .place) (v .last))
+  -- a run with a verdict other than looping has parsed
+  verdict-parses : {v : Verdict} {d : Config} → Says M v d → (v ≡ Looping → ⊥) → (o : Option ℕ) × Parses E cs 0 0 o
+  verdict-parses s other = let (h, v) = says-halts s other in halted-parses (v .steps) (v .reached) (at-halt v)
 
   accepted-has : (d : Config) → Says M Accepted d → Parses E cs 0 0 (some (length cs))
-  accepted-has d (p, i, v, accepted) =
-      let (o, q) = over-parses v in
-      rw (when-accepted (p, i, v, accepted) q) at q
+  accepted-has d s =
+      let (o, q) = verdict-parses s (λ e. let z : _≡_ {A = ℕ} 0 1 = cc in omega arith) in
+      rw (when-accepted s q) at q
 
   stuck-has : (d : Config) → Says M Stuck d → (o : Option ℕ) × Parses E cs 0 0 o × (o ≡ some (length cs) → ⊥)
-  stuck-has d v =
-      let (o, q) = halted-parses (v .steps) (v .reached) (halted-stuck M (v .place) (v .last)) in
-      (o, q, when-stuck v q)
+  stuck-has d s =
+      let (o, q) = verdict-parses s (λ e. let z : _≡_ {A = ℕ} 0 1 = cc in omega arith) in
+      (o, q, when-stuck s q)
 
   ended-not : (d : Config) → Says M Ended d → ⊥
-  ended-not d (p, i, v, refused) =
-      let (o, q) = over-parses v in
-      when-ended (p, i, v, refused) q
+  ended-not d s =
+      let (o, q) = verdict-parses s (λ e. let z : _≡_ {A = ℕ} 0 1 = cc in omega arith) in
+      when-ended s q
 
   pub parses-right : Parses-right M E cs
   parses-right =

@@ -4,7 +4,8 @@ use mathlib.Core.List.{List}
 use Prim.Native.Nat.{ℕ, _+_, _*_, _<_, _≤_}
 use lib.ListN.{length}
 use Rattle.machine.specs.Run.{how-many}
-use Rattle.machine.specs.Image.{byte, machine}
+use Rattle.codec.specs.Bytes.{byte}
+use Rattle.machine.specs.Image.{machine}
 use Rattle.machine.specs.Verdicts.{Noted, nonzero}
 use Rattle.grammar.specs.Grammar.{rules, expression, grammar-refusal}
 use Rattle.grammar.specs.Image.{built}

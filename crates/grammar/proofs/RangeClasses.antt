@@ -9,9 +9,10 @@ use native.Mathlib.Omega.{arith}
 use lib.Dec.{leb, eqb}
 use borrow.Author.Tests.{leb-true, le-leb, eqb-true, eq-eqb}
 use Rattle.machine.specs.Verdicts.{nil, cons}
+use Rattle.grammar.specs.declared.ByteRange.the-variants.{Between}
 use Rattle.grammar.specs.declared.Expression.{Expression}
 use Rattle.grammar.specs.declared.Expression.the-variants.{Sequence, Choice, Not, Empty, Range}
-use Rattle.grammar.specs.Grammar.{rules, expression}
+use Rattle.grammar.specs.Grammar.{rules, expression, range-of}
 use Rattle.grammar.specs.Classes.{cuts-at, cut-from, cut, class-of, class-in}
 use Rattle.grammar.specs.ClassMeaning.{Range-cut, Class-counts, Byte-of-class}
 use Rattle.grammar.proofs.Bools.{both-true, first-holds, second-holds}
@@ -65,7 +66,7 @@ either-true : (a b : Bool) → (a || b) ≡ true → (a ≡ true) ⊎ (b ≡ tru
 either-true true b e = inl refl
 either-true false b e = inr e
 
-ends-at : (b c u : ℕ) → cuts-at (Range b c) u ≡ true → (u ≡ b) ⊎ (u ≡ c + 1)
+ends-at : (b c u : ℕ) → cuts-at (Between b c) u ≡ true → (u ≡ b) ⊎ (u ≡ c + 1)
 unfolding cuts-at
 ends-at b c u e = go (either-true (eqb b u) (eqb (c + 1) u) e)
   where
@@ -73,14 +74,14 @@ ends-at b c u e = go (either-true (eqb b u) (eqb (c + 1) u) e)
     go (inl p) = inl (sym (eqb-true b u p))
     go (inr p) = inr (sym (eqb-true (c + 1) u p))
 
-cuts-end : (b c u : ℕ) → (u ≡ b) ⊎ (u ≡ c + 1) → cuts-at (Range b c) u ≡ true
+cuts-end : (b c u : ℕ) → (u ≡ b) ⊎ (u ≡ c + 1) → cuts-at (Between b c) u ≡ true
 unfolding cuts-at
 cuts-end b c u (inl e) = first-holds (eqb b u) (eqb (c + 1) u) (eq-eqb b u (sym e))
 cuts-end b c u (inr e) = second-holds (eqb b u) (eqb (c + 1) u) (eq-eqb (c + 1) u (sym e))
 
 module _ (gs : List ℕ) (u : ℕ) where
-  cut-of-expression : (k : ℕ) → k < rules gs → (x : Expression) → expression gs k ≡ x → cuts-at x u ≡ true → Range-cut gs u
-  unfolding cuts-at
+  cut-of-expression : (k : ℕ) → k < rules gs → (x : Expression) → expression gs k ≡ x → cuts-at (range-of x) u ≡ true → Range-cut gs u
+  unfolding cuts-at range-of
   cut-of-expression k h (Sequence b c) e q = absurd (let z : _≡_ {A = ℕ} 0 1 = cc in omega arith)
   cut-of-expression k h (Choice b c) e q = absurd (let z : _≡_ {A = ℕ} 0 1 = cc in omega arith)
   cut-of-expression k h (Not b) e q = absurd (let z : _≡_ {A = ℕ} 0 1 = cc in omega arith)
@@ -91,11 +92,11 @@ module _ (gs : List ℕ) (u : ℕ) where
   unfolding cut-from
   cut-among zero k e q = absurd (let z : _≡_ {A = ℕ} 0 1 = cc in omega arith)
   cut-among (suc n) k e q =
-      go (λ p. cut-among n (suc k) (omega arith) p) (either-true (cuts-at (expression gs k) u) (cut-from n (suc k) gs u) q)
+      go (λ p. cut-among n (suc k) (omega arith) p) (either-true (cuts-at (range-of (expression gs k)) u) (cut-from n (suc k) gs u) q)
     where
       go :
           (cut-from n (suc k) gs u ≡ true → Range-cut gs u) →
-          (cuts-at (expression gs k) u ≡ true) ⊎ (cut-from n (suc k) gs u ≡ true) → Range-cut gs u
+          (cuts-at (range-of (expression gs k)) u ≡ true) ⊎ (cut-from n (suc k) gs u ≡ true) → Range-cut gs u
       go rest (inl p) = cut-of-expression k (omega arith) (expression gs k) refl p
       go rest (inr p) = rest p
 
@@ -104,6 +105,7 @@ module _ (gs : List ℕ) (u : ℕ) where
   cut-found q = cut-among (rules gs) 0 (omega arith) q
 
   pub cut-holds : Range-cut gs u → cut gs u ≡ true
+  unfolding range-of
   cut-holds x = cut-of-rule gs (x .rule) u (x .there) (rw (x .is) (cuts-end (x .low) (x .high) u (x .at-end)))
 
 -- A CLASS COUNTS: one value more, with its cut or without

@@ -12,7 +12,7 @@ use lib.Dec.{ltb}
 use lib.ListN.{length}
 use borrow.Author.Tests.{ltb-true}
 use Rattle.machine.specs.Run.{Machine, Entry, entry, Instant, after, config}
-use Rattle.machine.specs.Image.{byte}
+use Rattle.codec.specs.Bytes.{byte}
 use Rattle.machine.proofs.Runs.{after-zero, after-then, after-before, after-front, step-push}
 use Rattle.grammar.specs.declared.Expression.{Expression}
 use Rattle.grammar.specs.declared.Expression.the-variants.{Sequence, Choice, Not, Empty, Range}
@@ -30,7 +30,7 @@ use Rattle.grammar.specs.Parsing.{
   range,
   range-fails,
 }
-use Rattle.grammar.specs.Image.{first, second}
+use Rattle.grammar.specs.Table.{state-work, first, second}
 use Rattle.grammar.proofs.Table.{Table}
 use Rattle.grammar.proofs.Bools.{both-true}
 use Rattle.grammar.proofs.TableRows.{
@@ -78,7 +78,7 @@ going-first {M} {k} {i} {b} n push g = record { goes = go }
     go : (f : Entry) (es : List Entry) → (x : Instant) × (after (suc n) M (working k i (f ∷ es)) ≡ some x)
     go f es =
         let (x, e) = g .goes (entry (first k) (suc i)) (f ∷ es) in
-        (x, after-front M n (working k i (f ∷ es)) (step-push M (config 1 (suc i) (first k)) (suc i) (f ∷ es) push) ∙ e)
+        (x, after-front M n (working k i (f ∷ es)) (step-push M (config state-work (suc i) (first k)) (suc i) (f ∷ es) push) ∙ e)
 
 -- ONE ROUND of the induction on the number of steps, with the answers for fewer
 abbrev Fewer : Machine → Rules → (m : ℕ) → List ℕ → (n : ℕ) → Type 0

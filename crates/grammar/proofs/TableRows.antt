@@ -4,32 +4,69 @@ use mathlib.Core.Bool.{Bool, true, false, _&&_, cond}
 use mathlib.Core.List.{List}
 use Prim.Native.Nat.{ℕ, suc, _<_, _≤_}
 use native.Mathlib.Numerals.{add-one}
-use lib.Dec.{ltb}
+use native.Mathlib.Omega.{arith}
+use lib.Dec.{ltb, eqb}
 use lib.ListN.{length}
 use Rattle.machine.specs.declared.Action.the-variants.{Change, Push, Pop}
 use Rattle.machine.specs.Run.{Machine, config}
-use Rattle.machine.specs.Image.{byte, moved, action-by}
+use Rattle.codec.specs.Bytes.{byte}
+use Rattle.machine.specs.Image.{moved, action-by, Rule}
 use Rattle.grammar.specs.declared.Expression.{Expression}
 use Rattle.grammar.specs.declared.Expression.the-variants.{Sequence, Choice, Not, Empty, Range}
 use Rattle.grammar.specs.Parsing.{Rules, in-range}
-use Rattle.grammar.specs.Image.{
-  rule,
-  pop-fail,
+use Rattle.grammar.specs.Grammar.{range-of, Parts-below}
+use Rattle.grammar.specs.Table.{
+  state-work,
+  state-ok,
+  state-fail,
+  state-count,
   first,
   second,
-  work-first,
-  ok-first,
-  fail-first,
-  work-second,
-  ok-second,
-  fail-second,
+  symbol,
+  no-rule,
+  pass-byte,
+  pop-fail,
+  Row,
+  Rows,
+  six,
+  rows,
+  by-state,
+  select,
 }
-use Rattle.grammar.proofs.Table.{Table, Parts-below, matches}
+use Rattle.grammar.proofs.Table.{Table, matches}
+
+-- A PROPERTY OF EACH of the six rules holds of the one that is selected
+pub record Each-of (P : Rule → Type 0) (r : Row) : Type 0 where
+  pub work : P (r .work)
+  pub ok : P (r .ok)
+  pub fail : P (r .fail)
+
+pub record Each (P : Rule → Type 0) (r : Rows) : Type 0 where
+  pub first : Each-of P (r .first)
+  pub second : Each-of P (r .second)
+
+pub each : {P : Rule → Type 0} {a b c x y z : Rule} → P a → P b → P c → P x → P y → P z → Each P (six a b c x y z)
+each a b c x y z = record { first = record { work = a; ok = b; fail = c }; second = record { work = x; ok = y; fail = z } }
+
+each-state : (P : Rule → Type 0) → P no-rule → (r : Row) → Each-of P r → (p : ℕ) → P (by-state p r)
+unfolding by-state
+each-state P n r e p = go (eqb p state-work) (eqb p state-ok) (eqb p state-fail)
+  where
+    go : (a b c : Bool) → P (cond a (r .work) (cond b (r .ok) (cond c (r .fail) no-rule)))
+    go true b c = e .work
+    go false true c = e .ok
+    go false false true = e .fail
+    go false false false = n
+
+pub each-select : (P : Rule → Type 0) → P no-rule → (r : Rows) → Each P r → (s : Bool) (p : ℕ) → P (select r s p)
+unfolding select
+each-select P n r e false p = each-state P n (r .first) (e .first) p
+each-select P n r e true p = each-state P n (r .second) (e .second) p
 
 -- a range's rule where it matches: on to the next place
-range-right : (k i : ℕ) → action-by (rule 1 2 (first k) 1) (suc i) ≡ Change (config 2 (suc (suc i)) (first k))
+range-right : (k i : ℕ) → action-by (pass-byte k) (suc i) ≡ Change (config state-ok (suc (suc i)) (first k))
 unfolding action-by moved
-range-right k i = ap (λ (h : ℕ). Change (config 2 h (first k))) (add-one (suc i))
+range-right k i = ap (λ (h : ℕ). Change (config state-ok h (first k))) (add-one (suc i))
 
 module _ {M : Machine} {E : Rules} {m : ℕ} {cs : List ℕ} (t : Table M E m cs) {k : ℕ} (below : k < m) where
   -- the rules that a rule names are there
@@ -46,110 +83,96 @@ module _ {M : Machine} {E : Rules} {m : ℕ} {cs : List ℕ} (t : Table M E m cs
   not-part e = rw e at (t .parts k below)
 
 module _ {M : Machine} {E : Rules} {m : ℕ} {cs : List ℕ} (t : Table M E m cs) {k i : ℕ} (below : k < m) (here : i ≤ length cs) where
-  -- the columns, with what rule k is put in
-  work-row :
-      {x : Expression} → E k ≡ x →
-      M .action (config 1 (suc i) (first k)) ≡ action-by (work-first x k (ltb i (length cs) && matches x (byte cs i))) (suc i)
-  work-row e = rw (← e) (t .at-work-first k i below here)
-
-  ok-row : {x : Expression} → E k ≡ x → M .action (config 2 (suc i) (first k)) ≡ action-by (ok-first x k) (suc i)
-  ok-row e = rw (← e) (t .at-ok-first k i below here)
-
-  fail-row : {x : Expression} → E k ≡ x → M .action (config 3 (suc i) (first k)) ≡ action-by (fail-first x k) (suc i)
-  fail-row e = rw (← e) (t .at-fail-first k i below here)
-
-  work-second-row : {x : Expression} → E k ≡ x → M .action (config 1 (suc i) (second k)) ≡ action-by (work-second x) (suc i)
-  work-second-row e = rw (← e) (t .at-work-second k i below here)
-
-  ok-second-row : {x : Expression} → E k ≡ x → M .action (config 2 (suc i) (second k)) ≡ action-by (ok-second x) (suc i)
-  ok-second-row e = rw (← e) (t .at-ok-second k i below here)
-
-  fail-second-row : {x : Expression} → E k ≡ x → M .action (config 3 (suc i) (second k)) ≡ action-by (fail-second x) (suc i)
-  fail-second-row e = rw (← e) (t .at-fail-second k i below here)
+  -- the rule that a symbol and a state select, with what rule k is put in
+  row :
+      (s : Bool) (p : ℕ) → p < state-count → {x : Expression} → E k ≡ x →
+      M .action (config p (suc i) (symbol s k))
+      ≡ action-by (select (rows x k (ltb i (length cs) && matches (range-of x) (byte cs i))) s p) (suc i)
+  row s p l e = rw (← e) (t .selects s p k i l below here)
 
   -- SEQUENCE
-  pub sequence-work : {b c : ℕ} → E k ≡ Sequence b c → M .action (config 1 (suc i) (first k)) ≡ Push (config 1 (suc i) (first b))
-  unfolding work-first action-by moved
-  sequence-work e = work-row e
+  pub sequence-work : {b c : ℕ} → E k ≡ Sequence b c → M .action (config state-work (suc i) (first k)) ≡ Push (config state-work (suc i) (first b))
+  unfolding rows select by-state action-by moved
+  sequence-work e = row false state-work (omega arith) e
 
-  pub sequence-ok : {b c : ℕ} → E k ≡ Sequence b c → M .action (config 2 (suc i) (first k)) ≡ Change (config 1 (suc i) (second k))
-  unfolding ok-first action-by moved
-  sequence-ok e = ok-row e
+  pub sequence-ok : {b c : ℕ} → E k ≡ Sequence b c → M .action (config state-ok (suc i) (first k)) ≡ Change (config state-work (suc i) (second k))
+  unfolding rows select by-state action-by moved
+  sequence-ok e = row false state-ok (omega arith) e
 
-  pub sequence-fail : {b c : ℕ} → E k ≡ Sequence b c → M .action (config 3 (suc i) (first k)) ≡ Pop 3 true
-  unfolding fail-first action-by
-  sequence-fail e = fail-row e
+  pub sequence-fail : {b c : ℕ} → E k ≡ Sequence b c → M .action (config state-fail (suc i) (first k)) ≡ Pop state-fail true
+  unfolding rows select by-state action-by
+  sequence-fail e = row false state-fail (omega arith) e
 
   pub sequence-work-second :
-      {b c : ℕ} → E k ≡ Sequence b c → M .action (config 1 (suc i) (second k)) ≡ Push (config 1 (suc i) (first c))
-  unfolding work-second action-by moved
-  sequence-work-second e = work-second-row e
+      {b c : ℕ} → E k ≡ Sequence b c → M .action (config state-work (suc i) (second k)) ≡ Push (config state-work (suc i) (first c))
+  unfolding rows select by-state action-by moved
+  sequence-work-second e = row true state-work (omega arith) e
 
-  pub sequence-ok-second : {b c : ℕ} → E k ≡ Sequence b c → M .action (config 2 (suc i) (second k)) ≡ Pop 2 false
-  unfolding ok-second action-by
-  sequence-ok-second e = ok-second-row e
+  pub sequence-ok-second : {b c : ℕ} → E k ≡ Sequence b c → M .action (config state-ok (suc i) (second k)) ≡ Pop state-ok false
+  unfolding rows select by-state action-by
+  sequence-ok-second e = row true state-ok (omega arith) e
 
-  pub sequence-fail-second : {b c : ℕ} → E k ≡ Sequence b c → M .action (config 3 (suc i) (second k)) ≡ Pop 3 true
-  unfolding fail-second action-by
-  sequence-fail-second e = fail-second-row e
+  pub sequence-fail-second : {b c : ℕ} → E k ≡ Sequence b c → M .action (config state-fail (suc i) (second k)) ≡ Pop state-fail true
+  unfolding rows select by-state action-by
+  sequence-fail-second e = row true state-fail (omega arith) e
 
   -- CHOICE
-  pub choice-work : {b c : ℕ} → E k ≡ Choice b c → M .action (config 1 (suc i) (first k)) ≡ Push (config 1 (suc i) (first b))
-  unfolding work-first action-by moved
-  choice-work e = work-row e
+  pub choice-work : {b c : ℕ} → E k ≡ Choice b c → M .action (config state-work (suc i) (first k)) ≡ Push (config state-work (suc i) (first b))
+  unfolding rows select by-state action-by moved
+  choice-work e = row false state-work (omega arith) e
 
-  pub choice-ok : {b c : ℕ} → E k ≡ Choice b c → M .action (config 2 (suc i) (first k)) ≡ Pop 2 false
-  unfolding ok-first action-by
-  choice-ok e = ok-row e
+  pub choice-ok : {b c : ℕ} → E k ≡ Choice b c → M .action (config state-ok (suc i) (first k)) ≡ Pop state-ok false
+  unfolding rows select by-state action-by
+  choice-ok e = row false state-ok (omega arith) e
 
-  pub choice-fail : {b c : ℕ} → E k ≡ Choice b c → M .action (config 3 (suc i) (first k)) ≡ Change (config 1 (suc i) (second k))
-  unfolding fail-first action-by moved
-  choice-fail e = fail-row e
+  pub choice-fail : {b c : ℕ} → E k ≡ Choice b c → M .action (config state-fail (suc i) (first k)) ≡ Change (config state-work (suc i) (second k))
+  unfolding rows select by-state action-by moved
+  choice-fail e = row false state-fail (omega arith) e
 
   pub choice-work-second :
-      {b c : ℕ} → E k ≡ Choice b c → M .action (config 1 (suc i) (second k)) ≡ Push (config 1 (suc i) (first c))
-  unfolding work-second action-by moved
-  choice-work-second e = work-second-row e
+      {b c : ℕ} → E k ≡ Choice b c → M .action (config state-work (suc i) (second k)) ≡ Push (config state-work (suc i) (first c))
+  unfolding rows select by-state action-by moved
+  choice-work-second e = row true state-work (omega arith) e
 
-  pub choice-ok-second : {b c : ℕ} → E k ≡ Choice b c → M .action (config 2 (suc i) (second k)) ≡ Pop 2 false
-  unfolding ok-second action-by
-  choice-ok-second e = ok-second-row e
+  pub choice-ok-second : {b c : ℕ} → E k ≡ Choice b c → M .action (config state-ok (suc i) (second k)) ≡ Pop state-ok false
+  unfolding rows select by-state action-by
+  choice-ok-second e = row true state-ok (omega arith) e
 
-  pub choice-fail-second : {b c : ℕ} → E k ≡ Choice b c → M .action (config 3 (suc i) (second k)) ≡ Pop 3 false
-  unfolding fail-second action-by
-  choice-fail-second e = fail-second-row e
+  pub choice-fail-second : {b c : ℕ} → E k ≡ Choice b c → M .action (config state-fail (suc i) (second k)) ≡ Pop state-fail false
+  unfolding rows select by-state action-by
+  choice-fail-second e = row true state-fail (omega arith) e
 
   -- NOT
-  pub not-work : {b : ℕ} → E k ≡ Not b → M .action (config 1 (suc i) (first k)) ≡ Push (config 1 (suc i) (first b))
-  unfolding work-first action-by moved
-  not-work e = work-row e
+  pub not-work : {b : ℕ} → E k ≡ Not b → M .action (config state-work (suc i) (first k)) ≡ Push (config state-work (suc i) (first b))
+  unfolding rows select by-state action-by moved
+  not-work e = row false state-work (omega arith) e
 
-  pub not-ok : {b : ℕ} → E k ≡ Not b → M .action (config 2 (suc i) (first k)) ≡ Pop 3 true
-  unfolding ok-first action-by
-  not-ok e = ok-row e
+  pub not-ok : {b : ℕ} → E k ≡ Not b → M .action (config state-ok (suc i) (first k)) ≡ Pop state-fail true
+  unfolding rows select by-state action-by
+  not-ok e = row false state-ok (omega arith) e
 
-  pub not-fail : {b : ℕ} → E k ≡ Not b → M .action (config 3 (suc i) (first k)) ≡ Pop 2 true
-  unfolding fail-first action-by
-  not-fail e = fail-row e
+  pub not-fail : {b : ℕ} → E k ≡ Not b → M .action (config state-fail (suc i) (first k)) ≡ Pop state-ok true
+  unfolding rows select by-state action-by
+  not-fail e = row false state-fail (omega arith) e
 
   -- EMPTY and RANGE
-  pub empty-work : E k ≡ Empty → M .action (config 1 (suc i) (first k)) ≡ Pop 2 false
-  unfolding work-first action-by
-  empty-work e = work-row e
+  pub empty-work : E k ≡ Empty → M .action (config state-work (suc i) (first k)) ≡ Pop state-ok false
+  unfolding rows select by-state action-by
+  empty-work e = row false state-work (omega arith) e
 
   pub range-work :
       {b c : ℕ} → E k ≡ Range b c → (ltb i (length cs) && in-range b c (byte cs i)) ≡ true →
-      M .action (config 1 (suc i) (first k)) ≡ Change (config 2 (suc (suc i)) (first k))
-  unfolding work-first matches
+      M .action (config state-work (suc i) (first k)) ≡ Change (config state-ok (suc (suc i)) (first k))
+  unfolding rows select by-state range-of matches
   range-work e h =
-      work-row e ∙ ap (λ (s : Bool). action-by (cond s (rule 1 2 (first k) 1) pop-fail) (suc i)) h ∙ range-right k i
+      row false state-work (omega arith) e ∙ ap (λ (s : Bool). action-by (cond s (pass-byte k) pop-fail) (suc i)) h ∙ range-right k i
 
   pub range-work-fails :
       {b c : ℕ} → E k ≡ Range b c → (ltb i (length cs) && in-range b c (byte cs i)) ≡ false →
-      M .action (config 1 (suc i) (first k)) ≡ Pop 3 false
-  unfolding work-first matches action-by
-  range-work-fails e h = work-row e ∙ ap (λ (s : Bool). action-by (cond s (rule 1 2 (first k) 1) pop-fail) (suc i)) h
+      M .action (config state-work (suc i) (first k)) ≡ Pop state-fail false
+  unfolding rows select by-state range-of matches action-by
+  range-work-fails e h = row false state-work (omega arith) e ∙ ap (λ (s : Bool). action-by (cond s (pass-byte k) pop-fail) (suc i)) h
 
-  pub range-ok : {b c : ℕ} → E k ≡ Range b c → M .action (config 2 (suc i) (first k)) ≡ Pop 2 false
-  unfolding ok-first action-by
-  range-ok e = ok-row e
+  pub range-ok : {b c : ℕ} → E k ≡ Range b c → M .action (config state-ok (suc i) (first k)) ≡ Pop state-ok false
+  unfolding rows select by-state action-by
+  range-ok e = row false state-ok (omega arith) e

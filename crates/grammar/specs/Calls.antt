@@ -11,9 +11,13 @@ use Rattle.grammar.specs.declared.Built.the-variants.{Refused, Image}
 use Rattle.grammar.specs.Grammar.{grammar-refusal}
 use Rattle.grammar.specs.Image.{built, built-length}
 
+-- 13: a buffer of so many bytes, for an image that is so long
+abbrev pub room-refusal : (long room : ℕ) → Refusal
+room-refusal l n = refuse-if (ltb n l) (refusal 13 l)
+
 -- building refuses by 11, 12 and 13, the lowest first
 unfoldable pub build-refusal : (grammar : List ℕ) → (room : ℕ) → Refusal
-build-refusal gs n = or-else (grammar-refusal gs) (refuse-if (ltb n (built-length gs)) (refusal 13 (built-length gs)))
+build-refusal gs n = or-else (grammar-refusal gs) (room-refusal (built-length gs) n)
 
 -- the image, then the later bytes as they were; a refusal changes no byte
 unfoldable pub Build-as : (number : ℕ) → Refusal → (grammar : List ℕ) → Built → (a a-now : List ℕ) → Type 0

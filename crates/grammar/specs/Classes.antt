@@ -3,22 +3,19 @@ use mathlib.Core.Bool.{Bool, false, _&&_, _||_, cond}
 use mathlib.Core.List.{List}
 use Prim.Native.Nat.{ℕ, zero, suc, _+_}
 use lib.Dec.{leb, eqb}
-use Rattle.grammar.specs.declared.Expression.{Expression}
-use Rattle.grammar.specs.declared.Expression.the-variants.{Sequence, Choice, Not, Empty, Range}
-use Rattle.grammar.specs.Grammar.{rules, expression}
+use Rattle.grammar.specs.declared.ByteRange.{ByteRange}
+use Rattle.grammar.specs.declared.ByteRange.the-variants.{Between, Nothing}
+use Rattle.grammar.specs.Grammar.{rules, expression, range-of}
 
--- whether one rule cuts at v
-unfoldable pub cuts-at : Expression → (v : ℕ) → Bool
-cuts-at (Sequence b c) v = false
-cuts-at (Choice b c) v = false
-cuts-at (Not b) v = false
-cuts-at Empty v = false
-cuts-at (Range b c) v = eqb b v || eqb (c + 1) v
+-- whether a range cuts at v
+unfoldable pub cuts-at : ByteRange → (v : ℕ) → Bool
+cuts-at Nothing v = false
+cuts-at (Between b c) v = eqb b v || eqb (c + 1) v
 
 -- whether a rule from k on cuts at v
 unfoldable pub cut-from : (left k : ℕ) → List ℕ → (v : ℕ) → Bool
 cut-from zero k gs v = false
-cut-from (suc n) k gs v = cuts-at (expression gs k) v || cut-from n (suc k) gs v
+cut-from (suc n) k gs v = cuts-at (range-of (expression gs k)) v || cut-from n (suc k) gs v
 
 unfoldable pub cut : List ℕ → (v : ℕ) → Bool
 cut gs v = cut-from (rules gs) 0 gs v

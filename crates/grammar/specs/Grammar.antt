@@ -1,17 +1,35 @@
 -- A grammar's bytes: four a rule, kind, b, c and 0; and when they are refused, by 11 or 12. Assumes nothing: these are definitions.
 use mathlib.Core.Bool.{Bool, _&&_, _||_, not, cond}
 use mathlib.Core.List.{List}
-use Prim.Native.Nat.{ℕ, zero, suc, _+_, _*_, _/_, _%_}
+use Prim.Native.Nat.{ℕ, zero, suc, _+_, _*_, _/_, _%_, _<_}
 use lib.Dec.{ltb, leb, eqb}
 use lib.ListN.{length}
 use Rattle.machine.specs.declared.Refusal.{Refusal}
-use Rattle.machine.specs.Image.{byte}
+use Rattle.codec.specs.Bytes.{byte}
 use Rattle.machine.specs.Refusals.{refusal, fine}
+use Rattle.grammar.specs.declared.ByteRange.{ByteRange}
+use Rattle.grammar.specs.declared.ByteRange.the-variants.{Between, Nothing}
 use Rattle.grammar.specs.declared.Expression.{Expression}
 use Rattle.grammar.specs.declared.Expression.the-variants.{Sequence, Choice, Not, Empty, Range}
 
 abbrev pub max-rules : ℕ
 max-rules = 31
+
+-- the kinds of a rule
+abbrev pub kind-sequence : ℕ
+kind-sequence = 1
+
+abbrev pub kind-choice : ℕ
+kind-choice = 2
+
+abbrev pub kind-not : ℕ
+kind-not = 3
+
+abbrev pub kind-empty : ℕ
+kind-empty = 4
+
+abbrev pub kind-range : ℕ
+kind-range = 5
 
 -- m, the count of rules
 unfoldable pub rules : List ℕ → ℕ
@@ -29,17 +47,35 @@ c-of gs k = byte gs (4 * k + 2)
 -- what rule k of a grammar that is not refused is
 unfoldable pub expression-by : (kind b c : ℕ) → Expression
 expression-by d b c =
-    cond (eqb d 1) (Sequence b c) (cond (eqb d 2) (Choice b c) (cond (eqb d 3) (Not b) (cond (eqb d 4) Empty (Range b c))))
+    cond (eqb d kind-sequence) (Sequence b c)
+    (cond (eqb d kind-choice) (Choice b c) (cond (eqb d kind-not) (Not b) (cond (eqb d kind-empty) Empty (Range b c))))
 
 unfoldable pub expression : List ℕ → (k : ℕ) → Expression
 expression gs k = expression-by (kind-of gs k) (b-of gs k) (c-of gs k)
+
+-- the bytes that a rule is a range of, if it is a range
+unfoldable pub range-of : Expression → ByteRange
+range-of (Sequence b c) = Nothing
+range-of (Choice b c) = Nothing
+range-of (Not b) = Nothing
+range-of Empty = Nothing
+range-of (Range b c) = Between b c
+
+-- the rules that a rule names are below m
+unfoldable pub Parts-below : (m : ℕ) → Expression → Type 0
+Parts-below m (Sequence b c) = (b < m) × (c < m)
+Parts-below m (Choice b c) = (b < m) × (c < m)
+Parts-below m (Not b) = b < m
+Parts-below m Empty = Unit {0}
+Parts-below m (Range b c) = Unit {0}
 
 -- a rule's four bytes are right in a grammar of m rules
 unfoldable pub rule-right : (m kind b c last : ℕ) → Bool
 rule-right m d b c z =
     eqb z 0
-    && cond (eqb d 1 || eqb d 2) (ltb b m && ltb c m)
-    (cond (eqb d 3) (ltb b m && eqb c 0) (cond (eqb d 4) (eqb b 0 && eqb c 0) (eqb d 5 && leb b c)))
+    && cond (eqb d kind-sequence || eqb d kind-choice) (ltb b m && ltb c m)
+    (cond (eqb d kind-not) (ltb b m && eqb c 0)
+    (cond (eqb d kind-empty) (eqb b 0 && eqb c 0) (eqb d kind-range && leb b c)))
 
 unfoldable pub rules-from : (left k : ℕ) → List ℕ → Refusal
 rules-from zero k gs = fine

@@ -3,8 +3,10 @@ pub mod Grammar
 pub mod Parsing
 pub mod Classes
 pub mod ClassMeaning
+pub mod Table
 pub mod Image
 pub mod Conditions
 pub mod Writing
+pub mod Building
 pub mod Calls
 pub mod Replies

@@ -1,82 +1,81 @@
 // Building: the image of a grammar, written into a lent buffer from its first byte on.
 use crate::Built;
-use crate::Expression;
+use crate::ByteRange;
+use crate::Plan;
+use crate::RowsBytes;
 use crate::RuleBytes;
-use crate::byte_classes::class_count;
 use crate::byte_classes::write_map;
-use crate::check::RULE_BYTES;
 use crate::check::expression_of;
+use crate::check::range_of;
 use crate::check::refusal_of;
-use crate::rows::row_first;
-use crate::rows::row_second;
+use crate::planning::plan_of;
+use crate::planning::symbol_count;
+use crate::rows::FINALS;
+use crate::rows::STATES;
 use crate::rows::row_zero;
+use crate::rows::rows_by;
+use crate::rows::select;
+use codec::Pair;
+use codec::write_four;
+use codec::write_pair;
+use codec::write_u32;
 use machine::Refusal;
 use machine::Selector;
 use machine::counting;
 use machine::format::COUNTS_LENGTH;
 use machine::format::COUNTS_OFFSET;
+use machine::format::COUNTS_PAIR;
+use machine::format::FINALS_OFFSET;
 use machine::format::MAP_LENGTH;
 use machine::format::MAP_OFFSET;
+use machine::format::MAP_PAIR;
 use machine::format::RULE_LENGTH;
 use machine::format::RULES_OFFSET;
+use machine::format::RULES_PAIR;
+use machine::format::STATES_OFFSET;
 ghost use mathlib.Core.Path.{_≡_};
 ghost use mathlib.Core.Bool.{_&&_};
-ghost use mathlib.Core.List.{_++_, _∷_, []};
-ghost use Prim.Native.Nat.{_+_, _*_, _<_, _≤_};
+ghost use Prim.Native.Nat.{_+_, _*_, _^_, _<_, _≤_};
 ghost use lib.Dec.{ltb};
-ghost use lib.ListN.{length, take};
-ghost use Rattle.machine.specs.Format.{map-offset, rules-offset};
-ghost use Rattle.machine.specs.Refusals.{refusal, refuse-if};
-ghost use Rattle.grammar.specs.Grammar.{max-rules, grammar-refusal};
+ghost use lib.ListN.{length};
+ghost use Rattle.codec.specs.Bytes.{written};
+ghost use Rattle.codec.specs.Numbers.{u32-width};
+ghost use Rattle.machine.specs.Format.{map-offset, rules-offset, rule-length};
+ghost use Rattle.machine.specs.Encoding.{header};
+ghost use Rattle.grammar.specs.Grammar.{grammar-refusal};
 ghost use Rattle.grammar.specs.Classes.{class-count as class-count-of};
-ghost use Rattle.grammar.specs.Image.{made as made-of, little-endian, symbols-of, built-rules, rules-made, built};
-ghost use Rattle.grammar.specs.Calls.{build-refusal, Build-says};
-ghost use Rattle.grammar.specs.Writing.{rule-of, header-of, class-between, inside-by, Rows-ready, Write-ready};
+ghost use Rattle.grammar.specs.Table.{rows-at as rows-at-of, made as made-of};
+ghost use Rattle.grammar.specs.Image.{symbols-of, built-rules, built};
+ghost use Rattle.grammar.specs.Calls.{build-refusal, Build-says, room-refusal as room-refusal-of};
+ghost use Rattle.grammar.specs.Building.{Planned, Buffer-ready};
+ghost use Rattle.grammar.specs.Writing.{rule-of, rows-of, class-between, inside-by, Rows-ready, Rule-ready, Symbol-ready, Write-ready, with-rules};
 
-// The states of the machine, and its final ones: bit 4, for done alone.
-const STATES: u8 = 5;
-
-const FINALS: u32 = 16;
-
-// Four bytes, after what stands before them.
-fn put(image: &mut [u8], at: usize, a: u8, b: u8, c: u8, d: u8)
-    requires { ⌜ at + 4 ≤ length (now image) ⌝ }
-    ensures { λ r. ⌜ take (at + 4) (now (image .exit)) ≡ take at (now (image .entry)) ++ (a ∷ b ∷ c ∷ d ∷ []) ⌝ }
+// The directory, the counts and the finals, of an image with so many rules.
+fn write_header(image: &mut [u8], classes: u8, symbols: u8, count: u32)
+    requires { ⌜ (map-offset ≤ length (now image)) × (rule-length * count < 256 ^ u32-width) ⌝ }
+    ensures { λ r. ⌜ now (image .exit) ≡ written (now (image .entry)) 0 (header 5 classes symbols 16 count) ⌝ }
 {
-    image[at] = a;
-    image[at + 1] = b;
-    image[at + 2] = c;
-    image[at + 3] = d;
+    let size = (RULE_LENGTH as u32) * count;
+    let counts_pair = Pair {
+        offset: COUNTS_OFFSET as u32,
+        long: COUNTS_LENGTH as u32,
+    };
+    let map_pair = Pair {
+        offset: MAP_OFFSET as u32,
+        long: MAP_LENGTH as u32,
+    };
+    let rules_pair = Pair {
+        offset: RULES_OFFSET as u32,
+        long: size,
+    };
+    write_pair(image, COUNTS_PAIR, counts_pair);
+    write_pair(image, MAP_PAIR, map_pair);
+    write_pair(image, RULES_PAIR, rules_pair);
+    write_four(image, STATES_OFFSET, STATES, classes, symbols, 0);
+    write_u32(image, FINALS_OFFSET, FINALS);
 }
 
-// A number as four bytes, the lowest first.
-fn put_number(image: &mut [u8], at: usize, value: u32)
-    requires { ⌜ at + 4 ≤ length (now image) ⌝ }
-    ensures { λ r. ⌜ take (at + 4) (now (image .exit)) ≡ take at (now (image .entry)) ++ little-endian 4 value ⌝ }
-{
-    let a = value % 256;
-    let b = value / 256 % 256;
-    let c = value / 256 / 256 % 256;
-    let d = value / 256 / 256 / 256 % 256;
-    put(image, at, a as u8, b as u8, c as u8, d as u8);
-}
-
-// The directory, the counts and the finals.
-fn write_header(image: &mut [u8], size: u32, classes: u8, symbols: u8)
-    requires { ⌜ map-offset ≤ length (now image) ⌝ }
-    ensures { λ r. ⌜ take map-offset (now (image .exit)) ≡ header-of size classes symbols ⌝ }
-{
-    put_number(image, 0, COUNTS_OFFSET as u32);
-    put_number(image, 4, COUNTS_LENGTH as u32);
-    put_number(image, 8, MAP_OFFSET as u32);
-    put_number(image, 12, MAP_LENGTH as u32);
-    put_number(image, 16, RULES_OFFSET as u32);
-    put_number(image, 20, size);
-    put(image, 24, STATES, classes, symbols, 0);
-    put_number(image, 28, FINALS);
-}
-
-// Whether a class is in a range, by the classes of its first and last byte.
+// Whether a byte class, and no marker, is between two bytes, by their classes.
 fn range_has(image: &[u8], classes: u32, low: u8, high: u8, class: u32) -> bool
     requires { ⌜ rules-offset ≤ length (now image) ⌝ }
     ensures { λ r. ⌜ r ≡ (ltb class classes && class-between (now (image .entry)) low high class) ⌝ }
@@ -95,64 +94,46 @@ fn range_has(image: &[u8], classes: u32, low: u8, high: u8, class: u32) -> bool
     class <= last
 }
 
-// Whether a byte class, and no marker, is in a rule's range.
-fn class_inside(image: &[u8], classes: u32, e: Expression, class: u32) -> bool
+// Whether a byte class, and no marker, is in a range.
+fn class_inside(image: &[u8], classes: u32, r: ByteRange, class: u32) -> bool
     requires { ⌜ rules-offset ≤ length (now image) ⌝ }
-    ensures { λ r. ⌜ r ≡ inside-by (now (image .entry)) classes e class ⌝ }
+    ensures { λ answer. ⌜ answer ≡ inside-by (now (image .entry)) classes r class ⌝ }
 {
-    match e {
-        Expression::Sequence(_, _) => false,
-        Expression::Choice(_, _) => false,
-        Expression::Not(_) => false,
-        Expression::Empty => false,
-        Expression::Range(b, c) => range_has(image, classes, b, c, class),
+    match r {
+        ByteRange::Between(b, c) => range_has(image, classes, b, c, class),
+        ByteRange::Nothing => false,
     }
+}
+
+// The six rules of rule k for a class; the image has its class map.
+fn rows_at(grammar: &[u8], image: &[u8], classes: u32, k: u32, class: u32) -> RowsBytes
+    requires { ⌜ Rule-ready (now grammar) (now image) classes k ⌝ }
+    ensures { λ r. ⌜ rows-of r ≡ rows-at-of (now (grammar .entry)) k class ⌝ }
+{
+    let e = expression_of(grammar, k as usize);
+    let inside = class_inside(image, classes, range_of(e), class);
+    rows_by(e, k as u8, inside)
 }
 
 // The rule that state, class and symbol select; the image has its class map.
 fn made(grammar: &[u8], image: &[u8], classes: u32, s: Selector) -> RuleBytes
-    requires { ⌜ Rows-ready (now grammar) (now image) classes × (s .symbol < symbols-of (now grammar)) ⌝ }
+    requires { ⌜ Symbol-ready (now grammar) (now image) classes (s .symbol) ⌝ }
     ensures { λ r. ⌜ rule-of r ≡ made-of (now (grammar .entry)) (s .state) (s .class) (s .symbol) ⌝ }
 {
-    let state = s.state;
     let symbol = s.symbol;
     if symbol == 0 {
-        return row_zero(classes, state, s.class);
+        return row_zero(classes, s.state, s.class);
     }
     let a = symbol - 1;
-    let k = a / 2;
-    let e = expression_of(grammar, k as usize);
     let side = a % 2;
-    if side != 0 {
-        return row_second(e, state);
-    }
-    let inside = class_inside(image, classes, e, s.class);
-    row_first(e, state, k as u8, inside)
-}
-
-// G, the count of symbols.
-fn symbol_count(grammar: &[u8]) -> u32
-    requires { ⌜ length (now grammar) ≤ 4 * max-rules ⌝ }
-    ensures { λ r. ⌜ r ≡ symbols-of (now (grammar .entry)) ⌝ }
-{
-    let m = (grammar.len() / RULE_BYTES) as u32;
-    2 * m + 1
-}
-
-// How many rules the image has.
-fn rule_count(grammar: &[u8], classes: u32) -> u32
-    requires { ⌜ (grammar-refusal (now grammar) .number ≡ 0) × (classes ≡ class-count-of (now grammar)) ⌝ }
-    ensures { λ r. ⌜ r ≡ built-rules (now (grammar .entry)) ⌝ }
-{
-    let symbols = symbol_count(grammar);
-    let columns = classes + 2;
-    (STATES as u32) * columns * symbols
+    let rows = rows_at(grammar, image, classes, a / 2, s.class);
+    select(rows, side == 1, s.state)
 }
 
 // The rules, in the order of their indices, after the class map.
 fn write_rules(grammar: &[u8], image: &mut [u8], classes: u32, count: u32)
     requires { ⌜ Rows-ready (now grammar) (now image) classes × Write-ready (now grammar) (now image) classes count ⌝ }
-    ensures { λ r. ⌜ now (image .exit) ≡ take rules-offset (now (image .entry)) ++ rules-made (built-rules (now (grammar .entry))) 0 (now (grammar .entry)) ⌝ }
+    ensures { λ r. ⌜ now (image .exit) ≡ with-rules (now (grammar .entry)) (now (image .entry)) ⌝ }
 {
     let symbols = symbol_count(grammar);
     let columns = classes + 2;
@@ -161,7 +142,7 @@ fn write_rules(grammar: &[u8], image: &mut [u8], classes: u32, count: u32)
     while i < count {
         let r = made(grammar, image, classes, s);
         let at = RULES_OFFSET + RULE_LENGTH * (i as usize);
-        put(image, at, r.kind, r.state, r.symbol, r.direction);
+        write_four(image, at, r.kind, r.state, r.symbol, r.direction);
         s = counting::next(s, columns, symbols);
         i += 1;
     }
@@ -173,14 +154,22 @@ fn write_image(grammar: &[u8], image: &mut [u8], classes: u32, count: u32)
     ensures { λ r. ⌜ now (image .exit) ≡ built (now (grammar .entry)) ⌝ }
 {
     let symbols = symbol_count(grammar);
-    write_header(image, 4 * count, classes as u8, symbols as u8);
+    write_header(image, classes as u8, symbols as u8, count);
     write_map(grammar, image);
     write_rules(grammar, image, classes, count);
 }
 
+// The image of a grammar that is not refused, in a buffer of exactly its length.
+pub fn build_checked(grammar: &[u8], plan: Plan, image: &mut [u8])
+    requires { ⌜ Buffer-ready (now grammar) plan (now image) ⌝ }
+    ensures { λ r. ⌜ now (image .exit) ≡ built (now (grammar .entry)) ⌝ }
+{
+    write_image(grammar, image, plan.classes, plan.count);
+}
+
 // Refusal 13: a buffer of so many bytes, for an image that is so long.
-fn room_refusal(long: usize, room: usize) -> Refusal
-    ensures { λ r. ⌜ r ≡ refuse-if (ltb room long) (refusal 13 long) ⌝ }
+pub fn room_refusal(long: usize, room: usize) -> Refusal
+    ensures { λ r. ⌜ r ≡ room-refusal-of long room ⌝ }
 {
     if room < long {
         Refusal {
@@ -195,13 +184,6 @@ fn room_refusal(long: usize, room: usize) -> Refusal
     }
 }
 
-// The length of an image with so many rules.
-fn image_length(count: u32) -> usize
-    ensures { λ r. ⌜ r ≡ rules-offset + 4 * count ⌝ }
-{
-    RULES_OFFSET + RULE_LENGTH * (count as usize)
-}
-
 // The first refusal of 11 to 13 for a buffer of so many bytes, or number 0.
 pub fn build_refusal(grammar: &[u8], room: usize) -> Refusal
     ensures { λ r. ⌜ r ≡ build-refusal (now (grammar .entry)) room ⌝ }
@@ -210,8 +192,21 @@ pub fn build_refusal(grammar: &[u8], room: usize) -> Refusal
     if refusal.number != 0 {
         return refusal;
     }
-    let count = rule_count(grammar, class_count(grammar));
-    room_refusal(image_length(count), room)
+    room_refusal(plan_of(grammar).long, room)
+}
+
+// Building of a planned image: its length, or refusal 13.
+fn build_planned(grammar: &[u8], plan: Plan, image: &mut [u8]) -> Built
+    requires { ⌜ Planned (now grammar) plan ⌝ }
+    ensures { λ r. ⌜ Build-says (now (grammar .entry)) r (now (image .entry)) (now (image .exit)) ⌝ }
+{
+    let long = plan.long;
+    let short = room_refusal(long, image.len());
+    if short.number != 0 {
+        return Built::Refused(short);
+    }
+    build_checked(grammar, plan, &mut image[..long]);
+    Built::Image(long)
 }
 
 // Building: the image's length, or the first refusal of 11 to 13. Later bytes stay, and a refusal changes none.
@@ -222,13 +217,5 @@ pub fn build_image(grammar: &[u8], image: &mut [u8]) -> Built
     if refusal.number != 0 {
         return Built::Refused(refusal);
     }
-    let classes = class_count(grammar);
-    let count = rule_count(grammar, classes);
-    let long = image_length(count);
-    let short = room_refusal(long, image.len());
-    if short.number != 0 {
-        return Built::Refused(short);
-    }
-    write_image(grammar, &mut image[..long], classes, count);
-    Built::Image(long)
+    build_planned(grammar, plan_of(grammar), image)
 }

@@ -1,22 +1,26 @@
 // Byte classes: one pass over the byte values, with a count of the cuts so far.
-use crate::Expression;
+use crate::ByteRange;
 use crate::check::RULE_BYTES;
 use crate::check::expression_of;
+use crate::check::range_of;
 use machine::format::MAP_OFFSET;
 ghost use mathlib.Core.Path.{_≡_};
-ghost use mathlib.Core.Bool.{_||_, cond};
+ghost use mathlib.Core.Bool.{cond};
 ghost use mathlib.Core.List.{_++_};
 ghost use Prim.Native.Nat.{_+_, _<_, _≤_};
-ghost use lib.Dec.{eqb};
 ghost use lib.ListN.{length, take, drop};
 ghost use Rattle.machine.specs.Format.{map-offset, map-length, rules-offset};
+ghost use Rattle.grammar.specs.Grammar.{rules, expression, range-of};
 ghost use Rattle.grammar.specs.Classes.{cuts-at, cut as cut-of, class-count as class-count-of};
 ghost use Rattle.grammar.specs.Image.{map-made};
 
 // Whether a range begins at v, or ends before it.
-fn range_cuts(b: u8, c: u8, v: u32) -> bool
-    ensures { λ r. ⌜ r ≡ (eqb b v || eqb (c + 1) v) ⌝ }
+fn cuts_at(r: ByteRange, v: u32) -> bool
+    ensures { λ answer. ⌜ answer ≡ cuts-at r v ⌝ }
 {
+    let ByteRange::Between(b, c) = r else {
+        return false;
+    };
     let first = b as u32;
     if first == v {
         return true;
@@ -25,17 +29,12 @@ fn range_cuts(b: u8, c: u8, v: u32) -> bool
     after == v
 }
 
-// Whether one rule cuts at v.
-fn cuts_at(e: Expression, v: u32) -> bool
-    ensures { λ r. ⌜ r ≡ cuts-at e v ⌝ }
+// Whether rule k cuts at v.
+fn rule_cuts(grammar: &[u8], k: usize, v: u32) -> bool
+    requires { ⌜ k < rules (now grammar) ⌝ }
+    ensures { λ r. ⌜ r ≡ cuts-at (range-of (expression (now (grammar .entry)) k)) v ⌝ }
 {
-    match e {
-        Expression::Sequence(_, _) => false,
-        Expression::Choice(_, _) => false,
-        Expression::Not(_) => false,
-        Expression::Empty => false,
-        Expression::Range(b, c) => range_cuts(b, c, v),
-    }
+    cuts_at(range_of(expression_of(grammar, k)), v)
 }
 
 // Whether some rule cuts at v.
@@ -45,8 +44,7 @@ fn cut(grammar: &[u8], v: u32) -> bool
     let count = grammar.len() / RULE_BYTES;
     let mut k: usize = 0;
     while k < count {
-        let e = expression_of(grammar, k);
-        if cuts_at(e, v) {
+        if rule_cuts(grammar, k, v) {
             return true;
         }
         k += 1;

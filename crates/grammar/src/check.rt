@@ -1,4 +1,5 @@
 // The check of a grammar: refusals 11 and 12, for every byte string of any length; and what a rule's bytes say.
+use crate::ByteRange;
 use crate::Expression;
 use machine::Checked;
 use machine::Refusal;
@@ -8,13 +9,24 @@ ghost use Prim.Native.Nat.{_+_, _*_, _%_, _/_, _<_, _≤_};
 ghost use lib.Dec.{eqb, ltb};
 ghost use lib.ListN.{length};
 ghost use Rattle.machine.specs.Calls.{checked};
-ghost use Rattle.grammar.specs.Grammar.{max-rules, rules, expression, expression-by, rule-right, rules-from, grammar-refusal};
+ghost use Rattle.grammar.specs.Grammar.{max-rules, rules, expression, expression-by, range-of, rule-right, rules-from, grammar-refusal};
 
 // The bytes of a grammar rule: kind, b, c and 0.
 pub const RULE_BYTES: usize = 4;
 
 // The most bytes that a grammar has: those of 31 rules.
 const MAX_LENGTH: usize = 124;
+
+// The kinds of a rule.
+const SEQUENCE: u8 = 1;
+
+const CHOICE: u8 = 2;
+
+const NOT: u8 = 3;
+
+const EMPTY: u8 = 4;
+
+const RANGE: u8 = 5;
 
 // Refusal 11: no rule, too many rules, or a part of a rule.
 fn length_wrong(long: usize) -> bool
@@ -65,19 +77,19 @@ fn right(m: u8, kind: u8, b: u8, c: u8, last: u8) -> bool
     if last != 0 {
         return false;
     }
-    if kind == 1 {
+    if kind == SEQUENCE {
         return both_below(m, b, c);
     }
-    if kind == 2 {
+    if kind == CHOICE {
         return both_below(m, b, c);
     }
-    if kind == 3 {
+    if kind == NOT {
         return below_and_zero(m, b, c);
     }
-    if kind == 4 {
+    if kind == EMPTY {
         return both_zero(b, c);
     }
-    if kind != 5 {
+    if kind != RANGE {
         return false;
     }
     b <= c
@@ -143,16 +155,16 @@ pub fn check_grammar(grammar: &[u8]) -> Checked
 fn expression_by(kind: u8, b: u8, c: u8) -> Expression
     ensures { λ r. ⌜ r ≡ expression-by kind b c ⌝ }
 {
-    if kind == 1 {
+    if kind == SEQUENCE {
         return Expression::Sequence(b, c);
     }
-    if kind == 2 {
+    if kind == CHOICE {
         return Expression::Choice(b, c);
     }
-    if kind == 3 {
+    if kind == NOT {
         return Expression::Not(b);
     }
-    if kind == 4 {
+    if kind == EMPTY {
         return Expression::Empty;
     }
     Expression::Range(b, c)
@@ -165,4 +177,17 @@ pub fn expression_of(grammar: &[u8], k: usize) -> Expression
 {
     let at = RULE_BYTES * k;
     expression_by(grammar[at], grammar[at + 1], grammar[at + 2])
+}
+
+// The bytes that a rule is a range of, if it is a range.
+pub fn range_of(e: Expression) -> ByteRange
+    ensures { λ r. ⌜ r ≡ range-of e ⌝ }
+{
+    match e {
+        Expression::Sequence(_, _) => ByteRange::Nothing,
+        Expression::Choice(_, _) => ByteRange::Nothing,
+        Expression::Not(_) => ByteRange::Nothing,
+        Expression::Empty => ByteRange::Nothing,
+        Expression::Range(b, c) => ByteRange::Between(b, c),
+    }
 }

@@ -1,15 +1,27 @@
-// The table: which rule a state, a class and a symbol select, a function for each column.
+// The table: the six rules of a grammar rule, and which of them a symbol and a state select.
 use crate::Expression;
+use crate::RowBytes;
+use crate::RowsBytes;
 use crate::RuleBytes;
+use machine::format::KIND_CHANGE;
+use machine::format::KIND_NONE;
+use machine::format::KIND_POP;
+use machine::format::KIND_PUSH;
+use machine::format::MOVE_RIGHT;
+use machine::format::MOVE_STAY;
+use machine::format::POP_RETURN;
+use machine::format::POP_STAY;
 ghost use mathlib.Core.Path.{_≡_};
 ghost use mathlib.Core.Bool.{_&&_, cond};
 ghost use Prim.Native.Nat.{_+_, _*_, _<_};
 ghost use lib.Dec.{eqb};
 ghost use Rattle.grammar.specs.Grammar.{max-rules};
-ghost use Rattle.grammar.specs.Image.{rule, no-rule, first, push-first, to-second, pop-fail, work-first, ok-first, fail-first, work-second, ok-second, fail-second, row-first, row-second, row-zero};
-ghost use Rattle.grammar.specs.Writing.{rule-of, Names-few};
+ghost use Rattle.grammar.specs.Table.{push-first, to-second, pass-byte, pop-fail, rows, by-state, select as select-of, row-zero};
+ghost use Rattle.grammar.specs.Writing.{rule-of, row-of, rows-of, Few};
 
-// The states that the table names.
+// The states.
+const START: u8 = 0;
+
 const WORK: u8 = 1;
 
 const OK: u8 = 2;
@@ -18,32 +30,52 @@ const FAIL: u8 = 3;
 
 const DONE: u8 = 4;
 
-// How a popping head goes: it stays, or returns to the entry's pointer.
-const STAYS: u8 = 0;
+pub const STATES: u8 = 5;
 
-const RETURNS: u8 = 1;
+// The final ones: done alone, a bit for each state.
+pub const FINALS: u32 = 16;
 
-fn no_rule() -> RuleBytes
-    ensures { λ r. ⌜ rule-of r ≡ no-rule ⌝ }
-{
-    RuleBytes {
-        kind: 0,
-        state: 0,
-        symbol: 0,
-        direction: 0,
-    }
-}
+// The rules that do not depend on a grammar rule: none, and pops whose head stays or returns.
+const NO_RULE: RuleBytes = RuleBytes {
+    kind: KIND_NONE,
+    state: 0,
+    symbol: 0,
+    direction: 0,
+};
 
-fn pop(state: u8, direction: u8) -> RuleBytes
-    ensures { λ r. ⌜ rule-of r ≡ rule 3 state 0 direction ⌝ }
-{
-    RuleBytes {
-        kind: 3,
-        state,
-        symbol: 0,
-        direction,
-    }
-}
+const POP_OK: RuleBytes = RuleBytes {
+    kind: KIND_POP,
+    state: OK,
+    symbol: 0,
+    direction: POP_STAY,
+};
+
+const POP_FAIL: RuleBytes = RuleBytes {
+    kind: KIND_POP,
+    state: FAIL,
+    symbol: 0,
+    direction: POP_STAY,
+};
+
+const BACK_OK: RuleBytes = RuleBytes {
+    kind: KIND_POP,
+    state: OK,
+    symbol: 0,
+    direction: POP_RETURN,
+};
+
+const BACK_FAIL: RuleBytes = RuleBytes {
+    kind: KIND_POP,
+    state: FAIL,
+    symbol: 0,
+    direction: POP_RETURN,
+};
+
+const NO_ROW: RowBytes = RowBytes {
+    work: NO_RULE,
+    ok: NO_RULE,
+    fail: NO_RULE,
+};
 
 // A push of a rule's first symbol.
 fn push(k: u8) -> RuleBytes
@@ -52,10 +84,10 @@ fn push(k: u8) -> RuleBytes
 {
     let symbol = 2 * k + 1;
     RuleBytes {
-        kind: 2,
+        kind: KIND_PUSH,
         state: WORK,
         symbol,
-        direction: 0,
+        direction: MOVE_STAY,
     }
 }
 
@@ -66,138 +98,112 @@ fn change(k: u8) -> RuleBytes
 {
     let symbol = 2 * k + 2;
     RuleBytes {
-        kind: 1,
+        kind: KIND_CHANGE,
         state: WORK,
         symbol,
-        direction: 0,
+        direction: MOVE_STAY,
     }
 }
 
 // A byte that is in the range is passed; any other, and a marker, fails.
 fn one_byte(k: u8, inside: bool) -> RuleBytes
     requires { ⌜ k < max-rules ⌝ }
-    ensures { λ r. ⌜ rule-of r ≡ cond inside (rule 1 2 (first k) 1) pop-fail ⌝ }
+    ensures { λ r. ⌜ rule-of r ≡ cond inside (pass-byte k) pop-fail ⌝ }
 {
     let symbol = 2 * k + 1;
     if inside {
         return RuleBytes {
-            kind: 1,
+            kind: KIND_CHANGE,
             state: OK,
             symbol,
-            direction: 1,
+            direction: MOVE_RIGHT,
         };
     }
-    pop(FAIL, STAYS)
+    POP_FAIL
 }
 
-fn work_first(e: Expression, k: u8, inside: bool) -> RuleBytes
-    requires { ⌜ (k < max-rules) × Names-few e ⌝ }
-    ensures { λ r. ⌜ rule-of r ≡ work-first e k inside ⌝ }
+// The six rules of rule k; inside says of a range whether the class is in it.
+pub fn rows_by(e: Expression, k: u8, inside: bool) -> RowsBytes
+    requires { ⌜ Few k e ⌝ }
+    ensures { λ r. ⌜ rows-of r ≡ rows e k inside ⌝ }
 {
     match e {
-        Expression::Sequence(b, _) => push(b),
-        Expression::Choice(b, _) => push(b),
-        Expression::Not(b) => push(b),
-        Expression::Empty => pop(OK, STAYS),
-        Expression::Range(_, _) => one_byte(k, inside),
+        Expression::Sequence(b, c) => RowsBytes {
+            first: RowBytes {
+                work: push(b),
+                ok: change(k),
+                fail: BACK_FAIL,
+            },
+            second: RowBytes {
+                work: push(c),
+                ok: POP_OK,
+                fail: BACK_FAIL, // back to before b
+            },
+        },
+        Expression::Choice(b, c) => RowsBytes {
+            first: RowBytes {
+                work: push(b),
+                ok: POP_OK,
+                fail: change(k),
+            },
+            second: RowBytes {
+                work: push(c),
+                ok: POP_OK,
+                fail: POP_FAIL,
+            },
+        },
+        Expression::Not(b) => RowsBytes {
+            first: RowBytes {
+                work: push(b),
+                ok: BACK_FAIL,
+                fail: BACK_OK,
+            },
+            second: NO_ROW,
+        },
+        Expression::Empty => RowsBytes {
+            first: RowBytes {
+                work: POP_OK,
+                ok: NO_RULE,
+                fail: NO_RULE,
+            },
+            second: NO_ROW,
+        },
+        Expression::Range(_, _) => RowsBytes {
+            first: RowBytes {
+                work: one_byte(k, inside),
+                ok: POP_OK,
+                fail: NO_RULE,
+            },
+            second: NO_ROW,
+        },
     }
 }
 
-fn ok_first(e: Expression, k: u8) -> RuleBytes
-    requires { ⌜ k < max-rules ⌝ }
-    ensures { λ r. ⌜ rule-of r ≡ ok-first e k ⌝ }
-{
-    match e {
-        Expression::Sequence(_, _) => change(k),
-        Expression::Choice(_, _) => pop(OK, STAYS),
-        Expression::Not(_) => pop(FAIL, RETURNS),
-        Expression::Empty => no_rule(),
-        Expression::Range(_, _) => pop(OK, STAYS),
-    }
-}
-
-fn fail_first(e: Expression, k: u8) -> RuleBytes
-    requires { ⌜ k < max-rules ⌝ }
-    ensures { λ r. ⌜ rule-of r ≡ fail-first e k ⌝ }
-{
-    match e {
-        Expression::Sequence(_, _) => pop(FAIL, RETURNS),
-        Expression::Choice(_, _) => change(k),
-        Expression::Not(_) => pop(OK, RETURNS),
-        Expression::Empty => no_rule(),
-        Expression::Range(_, _) => no_rule(),
-    }
-}
-
-fn work_second(e: Expression) -> RuleBytes
-    requires { ⌜ Names-few e ⌝ }
-    ensures { λ r. ⌜ rule-of r ≡ work-second e ⌝ }
-{
-    match e {
-        Expression::Sequence(_, c) => push(c),
-        Expression::Choice(_, c) => push(c),
-        Expression::Not(_) => no_rule(),
-        Expression::Empty => no_rule(),
-        Expression::Range(_, _) => no_rule(),
-    }
-}
-
-fn ok_second(e: Expression) -> RuleBytes
-    ensures { λ r. ⌜ rule-of r ≡ ok-second e ⌝ }
-{
-    match e {
-        Expression::Sequence(_, _) => pop(OK, STAYS),
-        Expression::Choice(_, _) => pop(OK, STAYS),
-        Expression::Not(_) => no_rule(),
-        Expression::Empty => no_rule(),
-        Expression::Range(_, _) => no_rule(),
-    }
-}
-
-fn fail_second(e: Expression) -> RuleBytes
-    ensures { λ r. ⌜ rule-of r ≡ fail-second e ⌝ }
-{
-    match e {
-        Expression::Sequence(_, _) => pop(FAIL, RETURNS), // back to before b
-        Expression::Choice(_, _) => pop(FAIL, STAYS),
-        Expression::Not(_) => no_rule(),
-        Expression::Empty => no_rule(),
-        Expression::Range(_, _) => no_rule(),
-    }
-}
-
-// The row of a rule's first symbol; inside says of a range whether the class is in it.
-pub fn row_first(e: Expression, state: u32, k: u8, inside: bool) -> RuleBytes
-    requires { ⌜ (k < max-rules) × Names-few e ⌝ }
-    ensures { λ r. ⌜ rule-of r ≡ row-first e state k inside ⌝ }
+// The rule of a state, of those for work, ok and fail.
+fn by_state(state: u32, r: RowBytes) -> RuleBytes
+    ensures { λ answer. ⌜ rule-of answer ≡ by-state state (row-of r) ⌝ }
 {
     if state == WORK as u32 {
-        return work_first(e, k, inside);
+        return r.work;
     }
     if state == OK as u32 {
-        return ok_first(e, k);
+        return r.ok;
     }
     if state == FAIL as u32 {
-        return fail_first(e, k);
+        return r.fail;
     }
-    no_rule()
+    NO_RULE
 }
 
-// The row of a rule's second symbol.
-pub fn row_second(e: Expression, state: u32) -> RuleBytes
-    requires { ⌜ Names-few e ⌝ }
-    ensures { λ r. ⌜ rule-of r ≡ row-second e state ⌝ }
+// The rule of a grammar rule's first or second symbol in a state.
+pub fn select(r: RowsBytes, second: bool, state: u32) -> RuleBytes
+    ensures { λ answer. ⌜ rule-of answer ≡ select-of (rows-of r) second state ⌝ }
 {
-    if state == WORK as u32 {
-        return work_second(e);
+    if second {
+        by_state(state, r.second)
+    } else {
+        by_state(state, r.first)
     }
-    if state == OK as u32 {
-        return ok_second(e);
-    }
-    if state == FAIL as u32 {
-        return fail_second(e);
-    }
-    no_rule()
 }
 
 fn stands(state: u32, class: u32, at: u32, on: u32) -> bool
@@ -214,17 +220,22 @@ pub fn row_zero(classes: u32, state: u32, class: u32) -> RuleBytes
     requires { ⌜ classes < 256 ⌝ }
     ensures { λ r. ⌜ rule-of r ≡ row-zero classes state class ⌝ }
 {
-    if stands(state, class, 0, classes) {
+    if stands(state, class, START as u32, classes) {
         return RuleBytes {
-            kind: 2,
+            kind: KIND_PUSH,
             state: WORK,
             symbol: 1,
-            direction: 1,
+            direction: MOVE_RIGHT,
         };
     }
     let right = classes + 1;
     if stands(state, class, OK as u32, right) {
-        return pop(DONE, STAYS);
+        return RuleBytes {
+            kind: KIND_POP,
+            state: DONE,
+            symbol: 0,
+            direction: POP_STAY,
+        };
     }
-    no_rule()
+    NO_RULE
 }

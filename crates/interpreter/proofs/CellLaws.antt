@@ -8,14 +8,14 @@ use lib.Arith.{digits-div, digits-mod}
 use lib.ListN.{length, getD, set}
 use lib.Seq.{getD-set-same, getD-set-other}
 use Rattle.machine.specs.Run.{entry}
-use Rattle.interpreter.specs.Stepping.{cell-of, stack-of}
+use Rattle.interpreter.specs.code.Stepping.{cell-symbols, cell-of, stack-of}
 
 -- an entry comes back from its cell
-pub cell-symbol : (a i : ℕ) → a < 128 → cell-of a i % 128 ≡ a
+pub cell-symbol : (a i : ℕ) → a < cell-symbols → cell-of a i % cell-symbols ≡ a
 unfolding cell-of
 cell-symbol a i h = digits-mod i h
 
-pub cell-pointer : (a i : ℕ) → a < 128 → cell-of a i / 128 ≡ i
+pub cell-pointer : (a i : ℕ) → a < cell-symbols → cell-of a i / cell-symbols ≡ i
 unfolding cell-of
 cell-pointer a i h = digits-div i h
 
@@ -34,13 +34,15 @@ stack-set (suc n) j v ks h =
     rw (getD-set-other ks j n v 0 ne, stack-set n j v ks (omega arith)) refl
 
 -- a push writes the entry that was on top
-pub stack-push : (n a i : ℕ) (ks : List ℕ) → a < 128 → n < length ks → stack-of (n + 1) (set ks n (cell-of a i)) ≡ entry a i ∷ stack-of n ks
+pub stack-push : (n a i : ℕ) (ks : List ℕ) → a < cell-symbols → n < length ks → stack-of (n + 1) (set ks n (cell-of a i)) ≡ entry a i ∷ stack-of n ks
 unfolding stack-of
 stack-push n a i ks h l =
     rw (add-one n, getD-set-same ks n (cell-of a i) 0 l, cell-symbol a i h, cell-pointer a i h, stack-set n n (cell-of a i) ks (omega arith)) refl
 
 -- a pop reads the last one
-pub stack-pop : (n : ℕ) (ks : List ℕ) → 0 < n → stack-of n ks ≡ entry (getD ks (n - 1) 0 % 128) (getD ks (n - 1) 0 / 128) ∷ stack-of (n - 1) ks
+pub stack-pop :
+    (n : ℕ) (ks : List ℕ) → 0 < n →
+    stack-of n ks ≡ entry (getD ks (n - 1) 0 % cell-symbols) (getD ks (n - 1) 0 / cell-symbols) ∷ stack-of (n - 1) ks
 unfolding stack-of
 stack-pop zero ks h = absurd (omega arith)
 stack-pop (suc n) ks h = let e : suc n - 1 ≡ n = omega arith in rw e refl

@@ -1,119 +1,120 @@
 -- What each way through the code's functions answers, as the definitions of one step say it. Assumes nothing.
-use mathlib.Core.Path.{_≡_, refl, ap}
-use mathlib.Core.Bool.{Bool, true, false, cond, _&&_}
+use mathlib.Core.Path.{_≡_, refl, sym, ap, _∙_}
+use mathlib.Core.Bool.{Bool, true, false}
 use mathlib.Core.List.{List}
-use Prim.Native.Nat.{ℕ, suc, _+_, _*_, _-_, _/_, _%_, _^_, _≤_, _<_}
-use native.Mathlib.Numerals.{add-one, add-two}
-use lib.Dec.{eqb, eqb·suc-suc}
+use Prim.Native.Nat.{ℕ, _+_, _*_, _-_, _/_, _%_, _≤_, _<_}
 use lib.ListN.{length, getD, set}
 use borrow.Author.Tests.{le-leb, lt-leb, eq-eqb, ne-eqb}
 use Rattle.machine.specs.declared.Config.{Config}
-use Rattle.machine.specs.declared.Verdict.{Verdict}
-use Rattle.machine.specs.declared.Verdict.the-variants.{Accepted, Ended, Stuck, Spent, Deep}
+use Rattle.machine.specs.declared.Reason.{Reason}
+use Rattle.machine.specs.declared.Halt.the-variants.{Over, Stopped}
 use Rattle.machine.specs.declared.Sizes.{Sizes}
 use Rattle.machine.specs.declared.Action.{Action}
 use Rattle.machine.specs.declared.Action.the-variants.{Stop, Change, Push, Pop}
 use Rattle.machine.specs.Format
+use Rattle.machine.specs.Halting.{accepts-by}
 use Rattle.machine.specs.Run.{config, returned}
-use Rattle.machine.specs.Image.{four, sizes-of, final, accepting, machine}
-use Rattle.interpreter.specs.declared.Spot.{Spot}
-use Rattle.interpreter.specs.declared.Went.{Went}
-use Rattle.interpreter.specs.declared.Went.the-variants.{On, Halted}
-use Rattle.interpreter.specs.PlainRun.{ended-as}
-use Rattle.interpreter.specs.Stepping.{cell-of, spot, unless-spent, changed, pushed, popped, went-by, cells-pushed, cells-by, Stepped}
+use Rattle.codec.specs.Numbers.{u32-at}
+use Rattle.machine.specs.Image.{sizes-of, action, accepting, machine}
+use Rattle.interpreter.specs.declared.Exit.{Exit}
+use Rattle.interpreter.specs.declared.Exit.the-variants.{Halted, Deep}
+use Rattle.interpreter.specs.declared.RunState.{RunState}
+use Rattle.interpreter.specs.declared.StepResult.{StepResult}
+use Rattle.interpreter.specs.declared.StepResult.the-variants.{On, Exited}
+use Rattle.interpreter.specs.code.Stepping.{
+  cell-symbols,
+  cell-of,
+  run-state,
+  change-result,
+  push-result,
+  popped-to,
+  pop-head,
+  pop-result,
+  take-result,
+  spent-exit,
+  result-by,
+  cells-pushed,
+  cells-taken,
+  cells-by,
+  Stepped,
+  Push-says,
+  Take-says,
+  Plain-step-says,
+}
 
-module _ (b : ℕ) (s : Spot) where
-  pub spent-answer : (w : Went) → s .steps ≡ b → Halted Spent (s .steps) ≡ unless-spent b s w
-  unfolding unless-spent
-  spent-answer w e = simp (eq-eqb (s .steps) b e)
-
-  pub made-answer : (v w : Went) → (s .steps ≡ b → ⊥) → v ≡ w → v ≡ unless-spent b s w
-  unfolding unless-spent
-  made-answer v w e q = simp (ne-eqb (s .steps) b e) q
-
-  pub push-spent : (c : Config) (ks : List ℕ) → s .steps ≡ b → Stepped (unless-spent b s (pushed s c (length ks))) (cells-pushed b s ks) (Halted Spent (s .steps)) ks
-  unfolding cells-pushed
-  push-spent c ks e = record { went = spent-answer _ e; cells = simp (eq-eqb (s .steps) b e) }
-
+-- A PUSH, and a push that is too deep
+module _ (s : RunState) (c : Config) (ks : List ℕ) where
   pub push-made :
-      (c : Config) (ks : List ℕ) → (s .steps ≡ b → ⊥) → s .below + 2 ≤ length ks →
-      Stepped (unless-spent b s (pushed s c (length ks))) (cells-pushed b s ks) (On (spot c (c .head) (s .below + 1) (s .steps + 1)))
-      (set ks (s .below) (s .pointer * 128 + s .at .symbol))
-  unfolding pushed cells-pushed cell-of
-  push-made c ks e l =
-      record {
-        went = made-answer _ _ e (simp (le-leb (s .below + 2) (length ks) l));
-        cells = simp (ne-eqb (s .steps) b e, le-leb (s .below + 2) (length ks) l);
-      }
+      s .below + 2 ≤ length ks →
+      Push-says s c ks (On (run-state c (c .head) (s .below + 1) (s .steps + 1))) (set ks (s .below) (s .pointer * cell-symbols + s .at .symbol))
+  unfolding push-result cells-pushed cell-of
+  push-made l = record { result = simp (le-leb (s .below + 2) (length ks) l); cells = simp (le-leb (s .below + 2) (length ks) l) }
 
-  pub push-deep :
-      (c : Config) (ks : List ℕ) → (s .steps ≡ b → ⊥) → length ks < s .below + 2 →
-      Stepped (unless-spent b s (pushed s c (length ks))) (cells-pushed b s ks) (Halted Deep (s .steps)) ks
-  unfolding pushed cells-pushed
-  push-deep c ks e l =
-      record {
-        went = made-answer _ _ e (simp (lt-leb (s .below + 2) (length ks) l));
-        cells = simp (ne-eqb (s .steps) b e, lt-leb (s .below + 2) (length ks) l);
-      }
-
-  pub pop-over :
-      (u v : Verdict) (p i k : ℕ) → (s .steps ≡ b → ⊥) → s .below ≡ 0 → u ≡ v →
-      Halted u (s .steps + 1) ≡ unless-spent b s (popped s v p i k)
-  unfolding popped
-  pop-over u v p i k e z q = made-answer _ _ e (simp (eq-eqb (s .below) 0 z) (ap (λ (x : Verdict). Halted x (s .steps + 1)) q))
-
-  pub pop-made :
-      (v : Verdict) (p i j k : ℕ) → (s .steps ≡ b → ⊥) → (s .below ≡ 0 → ⊥) → j ≡ i →
-      On (spot (config p j (k % 128)) (k / 128) (s .below - 1) (s .steps + 1)) ≡ unless-spent b s (popped s v p i k)
-  unfolding popped
-  pop-made v p i j k e z q =
-      made-answer _ _ e
-      (simp (ne-eqb (s .below) 0 z) (ap (λ (x : ℕ). On (spot (config p x (k % 128)) (k / 128) (s .below - 1) (s .steps + 1))) q))
+  pub push-deep : length ks < s .below + 2 → Push-says s c ks (Exited Deep (s .steps)) ks
+  unfolding push-result cells-pushed
+  push-deep l = record { result = simp (lt-leb (s .below + 2) (length ks) l); cells = simp (lt-leb (s .below + 2) (length ks) l) }
 
 -- the head after a pop is on the tape
 pub returned-below : (t : Bool) (i j r k : ℕ) → r ≡ returned t i j → i < k → j < k → r < k
 returned-below true i j r k e h g = rw e h
 returned-below false i j r k e h g = rw e g
 
--- the verdict that the code's test gives is the machine's
-eqb-one-more : (i n : ℕ) → eqb (i + 1) (n + 2) ≡ eqb i (n + 1)
-eqb-one-more i n = rw (add-one i, add-two n, add-one n) (eqb·suc-suc i (suc n))
+-- A POP: the last, or one with an entry below
+module _ (accepts : (state head : ℕ) → Bool) (s : RunState) (ks : List ℕ) (p : ℕ) (returns : Bool) (i : ℕ) (head-is : i ≡ pop-head s returns) where
+  pub pop-over :
+      (t : Bool) → s .below ≡ 0 → t ≡ accepts p i → Exited (Halted (Over t)) (s .steps + 1) ≡ pop-result accepts s ks p returns
+  unfolding pop-result popped-to
+  pop-over t z e =
+      let same : t ≡ accepts p (pop-head s returns) = e ∙ ap (accepts p) head-is in
+      simp (eq-eqb (s .below) 0 z) (ap (λ (x : Bool). Exited (Halted (Over x)) (s .steps + 1)) same)
 
+  pub pop-made :
+      (k : ℕ) → k ≡ getD ks (s .below - 1) 0 → (s .below ≡ 0 → ⊥) →
+      On (run-state (config p i (k % cell-symbols)) (k / cell-symbols) (s .below - 1) (s .steps + 1)) ≡ pop-result accepts s ks p returns
+  unfolding pop-result popped-to
+  pop-made k e z = simp (ne-eqb (s .below) 0 z) (rw (e, head-is) refl)
+
+-- A STEP WITH SOME BUDGET LEFT, by its action
+module _ (accepts : (state head : ℕ) → Bool) (s : RunState) (ks : List ℕ) (a : Action) where
+  pub stop-taken : (r : Reason) → a ≡ Stop r → Take-says accepts s ks a (Exited (Halted (Stopped r)) (s .steps)) ks
+  unfolding take-result cells-taken
+  stop-taken r e = rw e (record { result = refl; cells = refl })
+
+  pub change-taken : (c : Config) → a ≡ Change c → Take-says accepts s ks a (change-result s c) ks
+  unfolding take-result cells-taken
+  change-taken c e = rw e (record { result = refl; cells = refl })
+
+  pub push-taken : (c : Config) (r : StepResult) (ks′ : List ℕ) → a ≡ Push c → Push-says s c ks r ks′ → Take-says accepts s ks a r ks′
+  unfolding take-result cells-taken
+  push-taken c r ks′ e h = rw e h
+
+  pub pop-taken :
+      (p : ℕ) (t : Bool) (r : StepResult) → a ≡ Pop p t → r ≡ pop-result accepts s ks p t → Take-says accepts s ks a r ks
+  unfolding take-result cells-taken
+  pop-taken p t r e h = rw e (record { result = h; cells = refl })
+
+-- the image's finals and the count of places accept as the machine does
 accepts-as :
-    (bs cs : List ℕ) (p i : ℕ) →
-    cond (eqb (four bs Format.finals-offset / 2 ^ p % 2) 1 && eqb (i + 1) (length cs + 2)) Accepted Ended ≡ ended-as (machine bs cs) p i
-unfolding ended-as machine accepting final
-accepts-as bs cs p i = rw (eqb-one-more i (length cs)) refl
+    (bs cs : List ℕ) (finals : ℕ) (z : Sizes) → finals ≡ u32-at bs Format.finals-offset → z ≡ sizes-of bs cs →
+    accepts-by finals (z .places) ≡ machine bs cs .accepting
+unfolding machine accepting sizes-of
+accepts-as bs cs finals z e f = rw (e, f) refl
 
--- THE STEP, by its action
-module _ (bs cs : List ℕ) (b : ℕ) (s : Spot) (ks : List ℕ) where
-  pub stop-stepped :
-      (a : Action) → a ≡ Stop → Stepped (went-by (machine bs cs) b s ks a) (cells-by b s ks a) (Halted Stuck (s .steps)) ks
-  unfolding went-by cells-by
-  stop-stepped a e = rw e (record { went = refl; cells = refl })
+-- THE STEP: the budget is spent, or it is taken
+module _ (bs cs : List ℕ) (b : ℕ) (s : RunState) (ks : List ℕ) (a : Action) (is : a ≡ action bs cs (s .at)) where
+  pub spent-stepped : (x : Exit) → s .steps ≡ b → x ≡ spent-exit a → Plain-step-says bs cs b s ks (Exited x (s .steps)) ks
+  unfolding result-by cells-by
+  spent-stepped x e f =
+      let same : x ≡ spent-exit (action bs cs (s .at)) = f ∙ ap spent-exit is in
+      record {
+        result = simp (eq-eqb (s .steps) b e) (ap (λ (y : Exit). Exited y (s .steps)) same);
+        cells = simp (eq-eqb (s .steps) b e);
+      }
 
-  pub change-stepped :
-      (a : Action) (c : Config) (r : Went) → a ≡ Change c → r ≡ unless-spent b s (changed s c) →
-      Stepped (went-by (machine bs cs) b s ks a) (cells-by b s ks a) r ks
-  unfolding went-by cells-by
-  change-stepped a c r e h = rw e (record { went = h; cells = refl })
-
-  pub push-stepped :
-      (a : Action) (c : Config) (r : Went) (ks′ : List ℕ) → a ≡ Push c →
-      Stepped (unless-spent b s (pushed s c (length ks))) (cells-pushed b s ks) r ks′ →
-      Stepped (went-by (machine bs cs) b s ks a) (cells-by b s ks a) r ks′
-  unfolding went-by cells-by
-  push-stepped a c r ks′ e h = rw e h
-
-  pub pop-stepped :
-      (a : Action) (p : ℕ) (t : Bool) (finals : ℕ) (z : Sizes) (r : Went) → a ≡ Pop p t → finals ≡ four bs Format.finals-offset →
-      z ≡ sizes-of bs cs →
-      r ≡
-      unless-spent b s
-      (popped s
-      (cond (eqb (finals / 2 ^ p % 2) 1 && eqb (returned t (s .pointer) (s .at .head) + 1) (z .places)) Accepted Ended)
-      p (returned t (s .pointer) (s .at .head)) (getD ks (s .below - 1) 0)) →
-      Stepped (went-by (machine bs cs) b s ks a) (cells-by b s ks a) r ks
-  unfolding went-by cells-by sizes-of
-  pop-stepped a p t finals z r e f g h =
-      rw e (record { went = rw (f, g, accepts-as bs cs p (returned t (s .pointer) (s .at .head))) at h; cells = refl })
+  pub taken-stepped :
+      (finals : ℕ) (z : Sizes) (r : StepResult) (ks′ : List ℕ) → (s .steps ≡ b → ⊥) → finals ≡ u32-at bs Format.finals-offset →
+      z ≡ sizes-of bs cs → Take-says (accepts-by finals (z .places)) s ks a r ks′ → Plain-step-says bs cs b s ks r ks′
+  unfolding result-by cells-by
+  taken-stepped finals z r ks′ e f g h =
+      let taken = rw (accepts-as bs cs finals z f g, is) at h in
+      record { result = simp (ne-eqb (s .steps) b e) (taken .result); cells = simp (ne-eqb (s .steps) b e) (taken .cells) }

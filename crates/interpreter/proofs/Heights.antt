@@ -7,11 +7,11 @@ use lib.ListN.{length}
 use Rattle.machine.specs.declared.Config.{Config}
 use Rattle.machine.specs.declared.Action.{Action}
 use Rattle.machine.specs.declared.Action.the-variants.{Stop, Change, Push, Pop}
-use Rattle.machine.specs.Run.{Machine, Instant, Entry, Outcome, stuck, over, next, step-by, step-on, step, top, config-of, config}
+use Rattle.machine.specs.Run.{Machine, Instant, Entry, Outcome, stopped, over, next, step-by, step-on, step, top, config-of, config}
 
 -- how many entries a step leaves
 abbrev height : Outcome → ℕ
-height stuck = 0
+height (stopped r) = 0
 height (over p i) = 0
 height (next y) = length (y .stack)
 
@@ -25,7 +25,7 @@ pushes-by :
     (i k : ℕ) (e : Entry) (es : List Entry) (a : Action) (y : Instant) → step-by a i e es ≡ next y → suc (length es) ≤ k →
     k < length (y .stack) → Pushes k (suc (length es)) a
 unfolding step-by
-pushes-by i k e es Stop y f l m = let h : 0 ≡ length (y .stack) = ap height f in absurd (omega arith)
+pushes-by i k e es (Stop r) y f l m = let h : 0 ≡ length (y .stack) = ap height f in absurd (omega arith)
 pushes-by i k e es (Change c) y f l m = let h : suc (length es) ≡ length (y .stack) = ap height f in absurd (omega arith)
 pushes-by i k e es (Push c) y f l m =
     let h : suc (suc (length es)) ≡ length (y .stack) = ap height f in record { full = omega arith; pushed = c; by = refl }

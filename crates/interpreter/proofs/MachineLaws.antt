@@ -8,16 +8,17 @@ use lib.ListN.{length}
 use Rattle.machine.specs.declared.Config.{Config}
 use Rattle.machine.specs.declared.Sizes.{Sizes}
 use Rattle.machine.specs.declared.Action.the-variants.{Pop}
+use Rattle.machine.specs.Format
 use Rattle.machine.specs.Run.{There}
 use Rattle.machine.specs.Image.{machine, action}
 use Rattle.machine.specs.Refusals.{Unrefused}
-use Rattle.interpreter.specs.declared.Spot.{Spot}
-use Rattle.interpreter.specs.Stepping.{Bounded, Pop-bounded, Step-ready}
+use Rattle.interpreter.specs.declared.RunState.{RunState}
+use Rattle.interpreter.specs.code.Stepping.{max-steps, Take-ready, Plain-step-ready}
 use Rattle.machine.proofs.Rules.{good}
 use Rattle.machine.proofs.Inside.{inside}
-use Rattle.interpreter.proofs.ReadyLaws.{Runnable, bounded-by}
+use Rattle.interpreter.proofs.ReadyLaws.{Runnable, entry-ready}
 
-pub image-long : (bs cs : List ℕ) → Unrefused bs cs → 32 ≤ length bs
+pub image-long : (bs cs : List ℕ) → Unrefused bs cs → Format.map-offset ≤ length bs
 image-long bs cs h = omega (arith, good h .long)
 
 pub runnable : (bs cs : List ℕ) → Unrefused bs cs → Runnable (machine bs cs)
@@ -32,22 +33,19 @@ runnable bs cs h =
 
 -- a pop leads to a state of the machine's
 pop-state :
-    (bs cs : List ℕ) (c : Config) (p : ℕ) (t : Bool) → Unrefused bs cs → There (machine bs cs) c → action bs cs c ≡ Pop p t → p < 32
+    (bs cs : List ℕ) (c : Config) (p : ℕ) (t : Bool) → Unrefused bs cs → There (machine bs cs) c → action bs cs c ≡ Pop p t → p < Format.max-states
 unfolding machine
 pop-state bs cs c p t u h e =
     let fit = runnable bs cs u in
     let l : p < machine bs cs .states = fit .inside .pops c p t h e in
     omega (arith, fit .states-few)
 
--- what a step needs is enough for each of its parts
-module _ {bs cs : List ℕ} {z : Sizes} {f b : ℕ} {s : Spot} {ks : List ℕ} (r : Step-ready bs cs z f b s ks) where
-  pub step-bounded : Bounded b s
-  step-bounded = bounded-by (machine bs cs) (runnable bs cs (r .unrefused)) b s ks (r .ready) (r .within)
-
-  pub step-pops : {p : ℕ} {t : Bool} → action bs cs (s .at) ≡ Pop p t → Pop-bounded p b s ks
-  step-pops {p} {t} e =
-      record {
-        bounded = step-bounded;
-        state-few = pop-state bs cs (s .at) p t (r .unrefused) (r .ready .there) e;
-        room = r .ready .room;
-      }
+-- with some budget left, what a step needs is enough to take it
+pub take-ready :
+    {bs cs : List ℕ} {z : Sizes} {f b : ℕ} {s : RunState} {ks : List ℕ} → Plain-step-ready bs cs z f b s ks → s .steps < max-steps →
+    Take-ready (action bs cs (s .at)) s ks
+take-ready {bs} {cs} {s = s} {ks} r more =
+    record {
+      ready = entry-ready (machine bs cs) (runnable bs cs (r .unrefused)) s ks (r .ready) more;
+      pops = λ p t e. pop-state bs cs (s .at) p t (r .unrefused) (r .ready .there) e;
+    }

@@ -10,32 +10,34 @@ use lib.Seq.{getD-set-same, getD-set-other}
 use borrow.Author.Tests.{eqb-true, eqb-false}
 use Rattle.machine.specs.declared.Config.{Config}
 use Rattle.machine.specs.declared.Action.the-variants.{Change, Push, Pop}
+use Rattle.machine.specs.Format
 use Rattle.machine.specs.Run.{Machine, config, returned}
 use Rattle.machine.proofs.Inside.{Inside}
-use Rattle.interpreter.specs.declared.Spot.{Spot}
-use Rattle.interpreter.specs.Stepping.{cell-of, spot, Ready, Bounded}
+use Rattle.interpreter.specs.declared.RunState.{RunState}
+use Rattle.interpreter.specs.code.Stepping.{cell-symbols, cell-of, run-state, Stack-ready, max-steps, Push-ready}
 use Rattle.interpreter.proofs.CellLaws.{cell-symbol, cell-pointer}
 
 -- a machine whose rules lead to configurations of its own, small enough for the cells
 pub record Runnable (M : Machine) : Type 0 where
-  pub states-few : M .states ≤ 32
-  pub places-few : M .places ≤ 65537
-  pub symbols-few : M .symbols ≤ 128
+  pub states-few : M .states ≤ Format.max-states
+  pub places-few : M .places ≤ Format.max-places
+  pub symbols-few : M .symbols ≤ Format.max-symbols
   pub inside : Inside M
 
--- a spot that is ready fits the cells
-pub bounded-by : (M : Machine) → Runnable M → (b : ℕ) (s : Spot) (ks : List ℕ) → Ready M s ks → s .steps ≤ b → Bounded b s
-bounded-by M fit b s ks r w =
+-- a run that is ready has an entry that fits a cell
+pub entry-ready : (M : Machine) → Runnable M → (s : RunState) (ks : List ℕ) → Stack-ready M s ks → s .steps < max-steps → Push-ready s ks
+entry-ready M fit s ks r more =
     record {
-      within = w;
+      more = more;
       head-few = omega (arith, r .there .head-below, fit .places-few);
       pointer-few = omega (arith, r .pointer-below, fit .places-few);
       symbol-few = omega (arith, r .there .symbol-below, fit .symbols-few);
+      room = r .room;
     }
 
 -- READY AGAIN after a change, a push, a pop
-module _ (M : Machine) (fit : Runnable M) (s : Spot) (ks : List ℕ) (r : Ready M s ks) where
-  pub ready-change : (c : Config) (n : ℕ) → M .action (s .at) ≡ Change c → Ready M (spot c (s .pointer) (s .below) n) ks
+module _ (M : Machine) (fit : Runnable M) (s : RunState) (ks : List ℕ) (r : Stack-ready M s ks) where
+  pub ready-change : (c : Config) (n : ℕ) → M .action (s .at) ≡ Change c → Stack-ready M (run-state c (s .pointer) (s .below) n) ks
   ready-change c n e =
       record {
         there = fit .inside .changes (s .at) c (r .there) e;
@@ -45,7 +47,7 @@ module _ (M : Machine) (fit : Runnable M) (s : Spot) (ks : List ℕ) (r : Ready 
         pointers-below = r .pointers-below;
       }
 
-  pub symbol-small : s .at .symbol < 128
+  pub symbol-small : s .at .symbol < cell-symbols
   symbol-small = omega (arith, r .there .symbol-below, fit .symbols-few)
 
   -- what holds of each cell below and of the one that is written holds of one cell more
@@ -60,7 +62,7 @@ module _ (M : Machine) (fit : Runnable M) (s : Spot) (ks : List ℕ) (r : Ready 
 
   pub ready-push :
       (c : Config) (n : ℕ) → M .action (s .at) ≡ Push c → s .below + 1 < length ks →
-      Ready M (spot c (c .head) (s .below + 1) n) (set ks (s .below) (cell-of (s .at .symbol) (s .pointer)))
+      Stack-ready M (run-state c (c .head) (s .below + 1) n) (set ks (s .below) (cell-of (s .at .symbol) (s .pointer)))
   ready-push c n e l =
       let d = fit .inside .pushes (s .at) c (r .there) e in
       record {
@@ -68,10 +70,10 @@ module _ (M : Machine) (fit : Runnable M) (s : Spot) (ks : List ℕ) (r : Ready 
         pointer-below = d .head-below;
         room = simp length-set l;
         symbols-below =
-            one-more (λ v. v % 128 < M .symbols) (s .below) _ (r .room) (r .symbols-below)
+            one-more (λ v. v % cell-symbols < M .symbols) (s .below) _ (r .room) (r .symbols-below)
             (rw (cell-symbol (s .at .symbol) (s .pointer) symbol-small) (r .there .symbol-below));
         pointers-below =
-            one-more (λ v. v / 128 < M .places) (s .below) _ (r .room) (r .pointers-below)
+            one-more (λ v. v / cell-symbols < M .places) (s .below) _ (r .room) (r .pointers-below)
             (rw (cell-pointer (s .at .symbol) (s .pointer) symbol-small) (r .pointer-below));
       }
 
@@ -81,8 +83,8 @@ module _ (M : Machine) (fit : Runnable M) (s : Spot) (ks : List ℕ) (r : Ready 
 
   pub ready-pop :
       (p : ℕ) (t : Bool) (n : ℕ) → M .action (s .at) ≡ Pop p t → 0 < s .below →
-      Ready M
-      (spot (config p (returned t (s .pointer) (s .at .head)) (getD ks (s .below - 1) 0 % 128)) (getD ks (s .below - 1) 0 / 128)
+      Stack-ready M
+      (run-state (config p (returned t (s .pointer) (s .at .head)) (getD ks (s .below - 1) 0 % cell-symbols)) (getD ks (s .below - 1) 0 / cell-symbols)
       (s .below - 1) n) ks
   ready-pop p t n e l =
       record {

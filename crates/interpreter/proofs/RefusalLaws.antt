@@ -9,14 +9,15 @@ use lib.ListN.{length, replicate}
 use borrow.Author.Tests.{eq-eqb, ne-eqb, eqb-false}
 use Rattle.machine.specs.declared.Refusal.{Refusal}
 use Rattle.machine.specs.Run.{start}
-use Rattle.machine.specs.Image.{byte, machine}
+use Rattle.codec.specs.Bytes.{byte}
+use Rattle.machine.specs.Image.{machine}
 use Rattle.machine.specs.Refusals.{refusal, fine, or-else, refuse-if, capture-refusal}
 use Rattle.machine.proofs.Refused.{neither, unrefused-by}
 use Rattle.interpreter.specs.declared.Ran.{Ran}
 use Rattle.interpreter.specs.declared.Ran.the-variants as ran
 use Rattle.interpreter.specs.PlainRun.{Run-end, run-on}
 use Rattle.interpreter.specs.Calls.{run-refusal, answer, Run-as, Run-says}
-use Rattle.interpreter.specs.Stepping.{Run-ready}
+use Rattle.interpreter.specs.code.Stepping.{Run-ready}
 
 -- EACH WAY THROUGH THE CHECKS
 module _ (bs cs : List ℕ) (k : ℕ) (f : Refusal) (e : f ≡ capture-refusal bs (length cs)) where

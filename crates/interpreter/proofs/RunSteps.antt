@@ -3,28 +3,31 @@ use mathlib.Core.Path.{_≡_, refl}
 use Prim.Native.Nat.{ℕ, zero, suc, _≤_, _<_}
 use lib.ListN.{length}
 use borrow.Author.Tests.{lt-ltb, le-ltb}
-use Rattle.machine.specs.declared.Verdict.the-variants.{Stuck, Spent, Deep}
-use Rattle.machine.specs.Run.{Machine, Instant, stuck, over, next, step, config-of}
-use Rattle.interpreter.specs.PlainRun.{run-end, ended-as, spent-or, run-went, run-on}
+use Rattle.machine.specs.declared.Reason.{Reason}
+use Rattle.machine.specs.declared.Halt.the-variants.{Over, Stopped}
+use Rattle.machine.specs.Run.{Machine, Instant, stopped, over, next, step, config-of}
+use Rattle.interpreter.specs.declared.Exit.{Exit}
+use Rattle.interpreter.specs.declared.Exit.the-variants.{Halted, Deep}
+use Rattle.interpreter.specs.PlainRun.{run-end, spent-or, run-step, run-on}
 
 module _ (M : Machine) (n k : ℕ) (x : Instant) where
-  pub run-stuck : (f : ℕ) → step M x ≡ stuck → run-on f M n k x ≡ run-end Stuck n (config-of x)
-  unfolding run-on spent-or run-went
-  run-stuck zero e = rw e refl
-  run-stuck (suc f) e = rw e refl
-
-  pub run-spent : spent-or (step M x) ≡ Spent → run-on 0 M n k x ≡ run-end Spent n (config-of x)
+  pub run-spent : {e : Exit} → spent-or (step M x) ≡ e → run-on 0 M n k x ≡ run-end e n (config-of x)
   unfolding run-on
   run-spent e = rw e refl
 
-  pub run-over : (f p i : ℕ) → step M x ≡ over p i → run-on (suc f) M n k x ≡ run-end (ended-as M p i) (suc n) (config-of x)
-  unfolding run-on run-went
+  pub run-stopped : (f : ℕ) (r : Reason) → step M x ≡ stopped r → run-on (suc f) M n k x ≡ run-end (Halted (Stopped r)) n (config-of x)
+  unfolding run-on run-step
+  run-stopped f r e = rw e refl
+
+  pub run-over :
+      (f p i : ℕ) → step M x ≡ over p i → run-on (suc f) M n k x ≡ run-end (Halted (Over (M .accepting p i))) (suc n) (config-of x)
+  unfolding run-on run-step
   run-over f p i e = rw e refl
 
   pub run-deep : (f : ℕ) (y : Instant) → step M x ≡ next y → k < length (y .stack) → run-on (suc f) M n k x ≡ run-end Deep n (config-of x)
-  unfolding run-on run-went
+  unfolding run-on run-step
   run-deep f y e h = rw (e, lt-ltb _ _ h) refl
 
   pub run-next : (f : ℕ) (y : Instant) → step M x ≡ next y → length (y .stack) ≤ k → run-on (suc f) M n k x ≡ run-on f M (suc n) k y
-  unfolding run-on run-went
+  unfolding run-on run-step
   run-next f y e h = rw (e, le-ltb _ _ h) refl

@@ -17,7 +17,7 @@ unfoldable pub run-refusal : (image capture : List ℕ) → (cells : ℕ) → Re
 run-refusal bs cs k = or-else (capture-refusal bs (length cs)) (refuse-if (eqb k 0) (refusal 10 0))
 
 abbrev pub answer : Run-end → Ran
-answer e = Answer (e .verdict) (e .steps) (e .reached)
+answer e = Answer (e .exit) (e .steps) (e .reached)
 
 -- a refusal changes no cell; after an answer all cells are 0
 unfoldable pub Run-as : (number : ℕ) → Refusal → Run-end → Ran → (cells cells-now : List ℕ) → Type 0

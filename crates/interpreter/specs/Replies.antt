@@ -1,10 +1,20 @@
 -- The numbers of what the call `plain_run` answers. Assumes nothing: these are definitions.
+use Prim.Native.Nat.{ℕ}
 use Rattle.machine.specs.declared.Reply.{Reply}
-use Rattle.machine.specs.Replies.{verdict-number, refused, answered}
+use Rattle.machine.specs.Halting.{halt-verdict}
+use Rattle.machine.specs.Replies.{verdict-number, refusal-reply, answer-reply}
+use Rattle.interpreter.specs.declared.Exit.{Exit}
+use Rattle.interpreter.specs.declared.Exit.the-variants.{Halted, Spent, Deep}
 use Rattle.interpreter.specs.declared.Ran.{Ran}
 use Rattle.interpreter.specs.declared.Ran.the-variants.{Answer, Refused}
 
+-- an exit's number: the verdict's where the run halts, and two more
+unfoldable pub exit-number : Exit → ℕ
+exit-number (Halted h) = verdict-number (halt-verdict h)
+exit-number Spent = 5
+exit-number Deep = 6
+
 -- the steps taken are a count
 unfoldable pub of-ran : Ran → Reply
-of-ran (Refused f) = refused f
-of-ran (Answer v n d) = answered (verdict-number v) n d
+of-ran (Refused f) = refusal-reply f
+of-ran (Answer e n d) = answer-reply (exit-number e) n d

@@ -6,7 +6,7 @@ use native.Mathlib.Nat.{le-of-eq}
 use native.Mathlib.Omega.{arith}
 use lib.ListN.{length, take}
 use lib.Seq.{take-at}
-use Rattle.answer.specs.Text.{max-line}
+use Rattle.text.specs.Line.{max-line}
 use Rattle.answer.specs.Calls.{Lent, Input-says, Answer-says}
 use Rattle.answer.proofs.Promised.{line-whole}
 use Rattle.judge.specs.Program.{Prints}

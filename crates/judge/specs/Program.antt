@@ -3,7 +3,7 @@ use mathlib.Core.Path.{_≡_}
 use mathlib.Core.List.{List}
 use Prim.Native.Nat.{ℕ, _+_, _≤_}
 use lib.ListN.{length, take}
-use Rattle.answer.specs.Text.{max-line}
+use Rattle.text.specs.Line.{max-line}
 use Rattle.answer.specs.Input.{max-input}
 use Rattle.answer.specs.Calls.{Lent, Input-says}
 

@@ -19,7 +19,10 @@ fn line_of(
     line: &mut [u8],
 ) -> usize
     requires { ⌜ Buffers (now input) count (now image) (now notes) (now work) (now line) ⌝ }
-    ensures { λ r. ⌜ Prints (take count (now (input .entry))) (lent (now (image .entry)) (now (notes .entry)) (now (work .entry))) (lent (now (image .exit)) (now (notes .exit)) (now (work .exit))) (now (line .exit)) r ⌝ }
+    ensures { λ r. ⌜ Prints (take count (now (input .entry)))
+        (lent (now (image .entry)) (now (notes .entry)) (now (work .entry)))
+        (lent (now (image .exit)) (now (notes .exit)) (now (work .exit)))
+        (now (line .exit)) r ⌝ }
 {
     answer(&input[..count], image, notes, work, line)
 }

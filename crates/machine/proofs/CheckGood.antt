@@ -7,8 +7,12 @@ use native.Mathlib.Omega.{arith}
 use lib.Dec.{ltb, eqb}
 use lib.ListN.{length}
 use borrow.Author.Tests.{ltb-true, ltb-false, eqb-false}
+use Rattle.machine.specs.Format
 use Rattle.machine.specs.declared.Refusal.{Refusal}
-use Rattle.machine.specs.Image.{byte, four, states, classes, symbols}
+use Rattle.machine.specs.Format
+use Rattle.codec.specs.Bytes.{byte}
+use Rattle.codec.specs.Numbers.{u32-at}
+use Rattle.machine.specs.Image.{states, classes, symbols}
 use Rattle.machine.specs.Refusals.{count-wrong, counts, rule-count, image-refusal}
 use Rattle.machine.specs.Conditions.{Counts-right, First-wrong-count}
 use Rattle.machine.proofs.Reflects.{when-holds}
@@ -17,16 +21,16 @@ use Rattle.machine.proofs.ImageParts.{Part, part-right, part-wrong, cou
 use Rattle.machine.proofs.ConditionsMet.{image-right}
 
 pub record Good-image (bs : List ℕ) : Type 0 where
-  pub long : 288 ≤ length bs
-  pub length-is : length bs ≡ 288 + 4 * rule-count bs
+  pub long : Format.rules-offset ≤ length bs
+  pub length-is : length bs ≡ Format.rules-offset + Format.rule-length * rule-count bs
   pub states-least : 1 ≤ states bs
-  pub states-most : states bs ≤ 32
+  pub states-most : states bs ≤ Format.max-states
   pub classes-least : 1 ≤ classes bs
-  pub classes-most : classes bs ≤ 64
+  pub classes-most : classes bs ≤ Format.max-classes
   pub symbols-least : 1 ≤ symbols bs
-  pub symbols-most : symbols bs ≤ 128
-  pub finals-below : four bs 28 < 2 ^ states bs
-  pub map-below : (i : ℕ) → i < 256 → byte bs (32 + i) < classes bs
+  pub symbols-most : symbols bs ≤ Format.max-symbols
+  pub finals-below : u32-at bs Format.finals-offset < 2 ^ states bs
+  pub map-below : (i : ℕ) → i < Format.map-length → byte bs (Format.map-offset + i) < classes bs
 
 pub good-image : (bs : List ℕ) → image-refusal bs .number ≡ 0 → Good-image bs
 unfolding rule-count

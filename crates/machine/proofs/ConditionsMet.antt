@@ -17,11 +17,11 @@ use Rattle.machine.proofs.Rows.{Some-row, Table, exactly, Check, checks
 use Rattle.machine.proofs.ImageParts.{Part, part-right, part-wrong, directory-part, directory-fine, directory-wrong, counts-part, counts-fine, counts-wrong, map-part, map-fine, map-wrong, rules-part, rules-fine, rules-wrong}
 
 module _ (bs : List ℕ) where
-  length-test : Reflects (Length-right bs) (eqb (length bs) (Format.rules-offset + 4 * rule-count bs))
+  length-test : Reflects (Length-right bs) (eqb (length bs) (Format.rules-offset + Format.rule-length * rule-count bs))
   unfolding rule-count
   length-test = restated (λ e. e ∙ same) (λ e. e ∙ sym same) (equal _ _)
     where
-      same : Format.rules-offset + 4 * rule-count bs ≡ Format.rules-offset + 4 * states bs * (classes bs + 2) * symbols bs
+      same : Format.rules-offset + Format.rule-length * rule-count bs ≡ Format.rules-offset + Format.rule-length * states bs * (classes bs + 2) * symbols bs
       same = omega arith
 
   -- EACH IMAGE HAS A ROW
@@ -43,7 +43,7 @@ module _ (bs : List ℕ) where
 
       by-length : Format.map-offset ≤ length bs → Directory-right bs → Counts-right bs → Dec (Length-right bs) → Some-row (Image-row bs)
       by-length h d c (yes l) = by-map h d c l (map-part bs)
-      by-length h d c (no n) = (4, 20, wrong-length d c n)
+      by-length h d c (no n) = (4, Format.rules-size, wrong-length d c n)
 
       by-counts : Format.map-offset ≤ length bs → Directory-right bs → Part (Counts-right bs) (First-wrong-count bs) → Some-row (Image-row bs)
       by-counts h d (part-right c) = by-length h d c (decided length-test)

@@ -8,7 +8,7 @@ use lib.Dec.{ltb}
 use lib.Arith.{digits-div, digits-mod}
 use borrow.Author.Tests.{ltb-true, ltb-false}
 use Rattle.machine.specs.declared.Selector.{Selector}
-use Rattle.machine.specs.Counting.{selector, first-selector, next-selector, Selects, Counts-on}
+use Rattle.machine.specs.code.Counting.{selector, first-selector, next-selector, Selects, Counts-on}
 
 pub selects-first : (k g : ℕ) → 0 < k → 0 < g → Selects first-selector k g 0
 selects-first k g hk hg =
@@ -59,7 +59,10 @@ module _ (s : Selector) (k g i : ℕ) (w : Selects s k g i) where
   unfolding next-selector
   selects-next = go (ltb (s .symbol + 1) g) refl
     where
-      go : (t : Bool) → ltb (s .symbol + 1) g ≡ t → Selects (cond t (selector (s .state) (s .class) (s .symbol + 1)) (cond (ltb (s .class + 1) k) (selector (s .state) (s .class + 1) 0) (selector (s .state + 1) 0 0))) k g (i + 1)
+      further : Selector
+      further = cond (ltb (s .class + 1) k) (selector (s .state) (s .class + 1) 0) (selector (s .state + 1) 0 0)
+
+      go : (t : Bool) → ltb (s .symbol + 1) g ≡ t → Selects (cond t (selector (s .state) (s .class) (s .symbol + 1)) further) k g (i + 1)
       go true q =
           record {
             index-is = omega (arith, w .index-is);

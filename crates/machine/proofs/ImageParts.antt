@@ -7,8 +7,10 @@ use native.Mathlib.Omega.{arith}
 use lib.Dec.{leb}
 use lib.ListN.{length}
 use Rattle.machine.specs.Format
-use Rattle.machine.specs.Image.{byte, four, states, classes, symbols, rule-from}
-use Rattle.machine.specs.Refusals.{refusal, fine, pair-is, directory, count-wrong, counts, map-from, rule-bad, index-class, rules-from, rule-count}
+use Rattle.codec.specs.Bytes.{byte}
+use Rattle.codec.specs.Numbers.{u32-at}
+use Rattle.machine.specs.Image.{states, classes, symbols, rule-from}
+use Rattle.machine.specs.Refusals.{refusal, fine, pair-is, directory, count-wrong, counts, map-from, rule-bad, index-class, rule-count, rules-refusal-from}
 use Rattle.machine.specs.Conditions.{Pair-right, Counts-pair-right, Map-pair-right, Rules-pair-right, Directory-right, Count-right, States-right, Classes-right, Symbols-right, Finals-right, Counts-right, Map-right, Rules-right, First-wrong-pair, counts-pair-wrong, map-pair-wrong, rules-pair-wrong, First-wrong-count, states-wrong, classes-wrong, symbols-wrong, zero-wrong, finals-wrong, First-wrong-class, First-bad-rule}
 use Rattle.machine.proofs.Reflects.{Reflects, when-holds, when-fails, decided, restated, equal, at-most, both, Refuses, when-passed, when-refused, passing, refuses-as, if-so, over, reaching, any-of}
 use Rattle.machine.proofs.Searching.{Looked, all-have, lacking, look, Search, none-found, first-found}
@@ -29,33 +31,33 @@ module _ (bs : List ℕ) where
 
   rules-pair-test :
       Reflects (Rules-pair-right bs)
-      (leb Format.rules-offset (length bs) && pair-is bs 16 Format.rules-offset (length bs - Format.rules-offset))
+      (leb Format.rules-offset (length bs) && pair-is bs Format.rules-pair Format.rules-offset (length bs - Format.rules-offset))
   rules-pair-test =
       restated (λ p. record { long-enough = p .0; pair = p .1 }) (λ r. (r .long-enough, r .pair))
-      (both (at-most _ _) (pair-test 16 _ _))
+      (both (at-most _ _) (pair-test Format.rules-pair _ _))
 
   pub directory-part : Part (Directory-right bs) (First-wrong-pair bs)
-  directory-part = go (decided (pair-test 0 _ _)) (decided (pair-test 8 _ _)) (decided rules-pair-test)
+  directory-part = go (decided (pair-test Format.counts-pair _ _)) (decided (pair-test Format.map-pair _ _)) (decided rules-pair-test)
     where
       go :
           Dec (Counts-pair-right bs) → Dec (Map-pair-right bs) → Dec (Rules-pair-right bs) → Part (Directory-right bs) (First-wrong-pair bs)
-      go (no h) e f = part-wrong 0 (counts-pair-wrong h)
-      go (yes a) (no h) f = part-wrong 8 (map-pair-wrong a h)
-      go (yes a) (yes b) (no h) = part-wrong 16 (rules-pair-wrong a b h)
+      go (no h) e f = part-wrong Format.counts-pair (counts-pair-wrong h)
+      go (yes a) (no h) f = part-wrong Format.map-pair (map-pair-wrong a h)
+      go (yes a) (yes b) (no h) = part-wrong Format.rules-pair (rules-pair-wrong a b h)
       go (yes a) (yes b) (yes c) = part-right (record { counts-pair = a; map-pair = b; rules-pair = c })
 
   pub directory-fine : Directory-right bs → directory bs ≡ fine
   unfolding directory
   directory-fine d =
       simp
-      (when-holds (pair-test 0 _ _) (d .counts-pair), when-holds (pair-test 8 _ _) (d .map-pair), when-holds rules-pair-test (d .rules-pair))
+      (when-holds (pair-test Format.counts-pair _ _) (d .counts-pair), when-holds (pair-test Format.map-pair _ _) (d .map-pair), when-holds rules-pair-test (d .rules-pair))
 
   pub directory-wrong : (o : ℕ) → First-wrong-pair bs o → directory bs ≡ refusal 2 o
   unfolding directory
-  directory-wrong o (counts-pair-wrong h) = simp (when-fails (pair-test 0 _ _) h)
-  directory-wrong o (map-pair-wrong a h) = simp (when-holds (pair-test 0 _ _) a, when-fails (pair-test 8 _ _) h)
+  directory-wrong o (counts-pair-wrong h) = simp (when-fails (pair-test Format.counts-pair _ _) h)
+  directory-wrong o (map-pair-wrong a h) = simp (when-holds (pair-test Format.counts-pair _ _) a, when-fails (pair-test Format.map-pair _ _) h)
   directory-wrong o (rules-pair-wrong a b h) =
-      simp (when-holds (pair-test 0 _ _) a, when-holds (pair-test 8 _ _) b, when-fails rules-pair-test h)
+      simp (when-holds (pair-test Format.counts-pair _ _) a, when-holds (pair-test Format.map-pair _ _) b, when-fails rules-pair-test h)
 
   -- COUNTS
   count-test : (count limit : ℕ) → Refuses (Count-right count limit) (count-wrong count limit)
@@ -67,16 +69,16 @@ module _ (bs : List ℕ) where
   pub counts-part : Part (Counts-right bs) (First-wrong-count bs)
   counts-part =
       go (passing (count-test (states bs) Format.max-states)) (passing (count-test (classes bs) Format.max-classes))
-      (passing (count-test (symbols bs) Format.max-symbols)) (decided (equal (byte bs 27) 0)) (decided (bits-test (four bs Format.finals-offset) (states bs)))
+      (passing (count-test (symbols bs) Format.max-symbols)) (decided (equal (byte bs Format.zero-offset) 0)) (decided (bits-test (u32-at bs Format.finals-offset) (states bs)))
     where
       go :
-          Dec (States-right bs) → Dec (Classes-right bs) → Dec (Symbols-right bs) → Dec (byte bs 27 ≡ 0) → Dec (Finals-right bs) →
+          Dec (States-right bs) → Dec (Classes-right bs) → Dec (Symbols-right bs) → Dec (byte bs Format.zero-offset ≡ 0) → Dec (Finals-right bs) →
           Part (Counts-right bs) (First-wrong-count bs)
-      go (no h) q r s t = part-wrong 24 (states-wrong h)
-      go (yes a) (no h) r s t = part-wrong 25 (classes-wrong a h)
-      go (yes a) (yes b) (no h) s t = part-wrong 26 (symbols-wrong a b h)
-      go (yes a) (yes b) (yes c) (no h) t = part-wrong 27 (zero-wrong a b c h)
-      go (yes a) (yes b) (yes c) (yes d) (no h) = part-wrong 28 (finals-wrong a b c d h)
+      go (no h) q r s t = part-wrong Format.states-offset (states-wrong h)
+      go (yes a) (no h) r s t = part-wrong Format.classes-offset (classes-wrong a h)
+      go (yes a) (yes b) (no h) s t = part-wrong Format.symbols-offset (symbols-wrong a b h)
+      go (yes a) (yes b) (yes c) (no h) t = part-wrong Format.zero-offset (zero-wrong a b c h)
+      go (yes a) (yes b) (yes c) (yes d) (no h) = part-wrong Format.finals-offset (finals-wrong a b c d h)
       go (yes a) (yes b) (yes c) (yes d) (yes e) =
           part-right (record { states-right = a; classes-right = b; symbols-right = c; zero-right = d; finals-right = e })
 
@@ -102,14 +104,14 @@ module _ (bs : List ℕ) where
         when-passed (count-test _ _) a,
         when-passed (count-test _ _) b,
         when-passed (count-test _ _) c,
-        when-fails (equal (byte bs 27) 0) h,
+        when-fails (equal (byte bs Format.zero-offset) 0) h,
       )
   counts-wrong o (finals-wrong a b c d h) =
       simp (
         when-passed (count-test _ _) a,
         when-passed (count-test _ _) b,
         when-passed (count-test _ _) c,
-        when-holds (equal (byte bs 27) 0) d,
+        when-holds (equal (byte bs Format.zero-offset) 0) d,
         when-fails (bits-test _ _) h,
       )
 
@@ -158,12 +160,12 @@ module _ (bs : List ℕ) where
       (λ i least less. at-place (f .value) (f .before) i least (omega (arith, f .place-is)))
 
   -- RULES
-  rules-search : Search (λ (k i : ℕ). rules-from k i bs) (λ (i : ℕ). refusal 6 (Format.rules-offset + 4 * i)) (Index-right bs)
-  unfolding rules-from
+  rules-search : Search (λ (k i : ℕ). rules-refusal-from k i bs) (λ (i : ℕ). refusal 6 (Format.rules-offset + Format.rule-length * i)) (Index-right bs)
+  unfolding rules-refusal-from
   rules-search =
       record {
-        refuses = λ i. rule-bad bs (index-class bs i) (rule-from bs (Format.rules-offset + 4 * i));
-        tests = λ i. rule-test bs (index-class bs i) (rule-from bs (Format.rules-offset + 4 * i));
+        refuses = λ i. rule-bad bs (index-class bs i) (rule-from bs (Format.rules-offset + Format.rule-length * i));
+        tests = λ i. rule-test bs (index-class bs i) (rule-from bs (Format.rules-offset + Format.rule-length * i));
         none-left = λ i. refl;
         one-more = λ k i. refl;
       }
@@ -173,12 +175,12 @@ module _ (bs : List ℕ) where
     where
       go : Looked (Index-right bs) (rule-count bs) → Part (Rules-right bs) (First-bad-rule bs)
       go (all-have f) = part-right (rules-by-selection bs f)
-      go (lacking i l) = part-wrong (Format.rules-offset + 4 * i) (first-bad bs i l)
+      go (lacking i l) = part-wrong (Format.rules-offset + Format.rule-length * i) (first-bad bs i l)
 
-  pub rules-fine : Rules-right bs → rules-from (rule-count bs) 0 bs ≡ fine
+  pub rules-fine : Rules-right bs → rules-refusal-from (rule-count bs) 0 bs ≡ fine
   rules-fine h = none-found rules-search (rule-count bs) 0 (λ i least most. rules-by-index bs h i (omega arith))
 
-  pub rules-wrong : (o : ℕ) → First-bad-rule bs o → rules-from (rule-count bs) 0 bs ≡ refusal 6 o
+  pub rules-wrong : (o : ℕ) → First-bad-rule bs o → rules-refusal-from (rule-count bs) 0 bs ≡ refusal 6 o
   rules-wrong o f =
       let l = least-bad bs o f in
       first-found rules-search (rule-count bs) 0 (bad-index bs o f) (omega arith) (omega (arith, l .below)) (l .lacks)

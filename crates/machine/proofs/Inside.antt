@@ -9,6 +9,7 @@ use lib.ListN.{length}
 use borrow.Author.Tests.{eqb-true, eqb-false}
 use Rattle.machine.specs.declared.Config.{Config}
 use Rattle.machine.specs.declared.Action.{Action}
+use Rattle.machine.specs.declared.Reason.the-variants.{Missing}
 use Rattle.machine.specs.declared.Action.the-variants.{Stop, Change, Push, Pop}
 use Rattle.machine.specs.Run.{Machine, There, config}
 use Rattle.machine.specs.Image.{states, class-under, moved, led-to, action-by, action, machine}
@@ -23,7 +24,7 @@ pub record Inside (M : Machine) : Type 0 where
 
 -- what an action leads to is inside, in one type for all kinds
 Stays : Machine → Action → Type 0
-Stays M Stop = Unit {0}
+Stays M (Stop r) = Unit {0}
 Stays M (Change e) = There M e
 Stays M (Push e) = There M e
 Stays M (Pop p r) = p < M .states
@@ -71,7 +72,7 @@ module _ {bs cs : List ℕ} (u : Unrefused bs cs) {c : Config} (t : There (machi
           Stays (machine bs cs)
           (cond x (Change (led-to (rule-of bs cs c) (c .head)))
           (cond y (Push (led-to (rule-of bs cs c) (c .head)))
-          (cond z (Pop (rule-of bs cs c .state) (eqb (rule-of bs cs c .move) 1)) Stop)))
+          (cond z (Pop (rule-of bs cs c .state) (eqb (rule-of bs cs c .move) 1)) (Stop Missing))))
       go true y z p q w = led-by 1 (eqb-true _ _ p) (omega arith) (omega arith)
       go false true z p q w = led-by 2 (eqb-true _ _ q) (omega arith) (omega arith)
       go false false true p q w = popped-below (eqb-true _ _ w)

@@ -11,6 +11,7 @@ use native.Mathlib.Omega.{arith}
 use lib.ListN.{length}
 use Rattle.machine.specs.declared.Config.{Config}
 use Rattle.machine.specs.declared.Action.{Action}
+use Rattle.machine.specs.declared.Reason.{Reason}
 use Rattle.machine.specs.declared.Action.the-variants.{Stop, Change, Push, Pop}
 use Rattle.machine.specs.Run.{Machine, Entry, entry, Instant, after, top, config-of}
 use Rattle.machine.specs.Verdicts.{over-base}
@@ -21,7 +22,7 @@ use Rattle.machine.proofs.Runs.{
   step-stop,
   step-change,
   step-push,
-  halted-stuck,
+  halted-stopped,
   halted-no-more,
   not-none,
   some-same,
@@ -56,7 +57,7 @@ above-higher M base y l = record { higher = omega arith; stays = λ p r e. l }
 abbrev Pops-not : Machine → Config → Type 0
 Pops-not M c = (p : ℕ) (r : Bool) → M .action c ≡ Pop p r → ⊥
 
-stop-pops-not : (M : Machine) (c : Config) → M .action c ≡ Stop → Pops-not M c
+stop-pops-not : (M : Machine) (c : Config) {r : Reason} → M .action c ≡ Stop r → Pops-not M c
 stop-pops-not M c h p r e = let z : _≡_ {A = ℕ} 0 1 = cc in omega arith
 
 change-pops-not : (M : Machine) (c : Config) {e : Config} → M .action c ≡ Change e → Pops-not M c
@@ -85,14 +86,14 @@ kept-from M n c h later = record { keeps = go }
 kept-zero : (M : Machine) (c : Config) → Pops-not M c → Kept M 0 c
 kept-zero M c h = kept-from M 0 c h (λ i base k y l f. absurd (omega arith))
 
-stop-kept : (M : Machine) (n : ℕ) (c : Config) → M .action c ≡ Stop → Kept M n c
+stop-kept : (M : Machine) (n : ℕ) (c : Config) {r : Reason} → M .action c ≡ Stop r → Kept M n c
 stop-kept M n c h =
     kept-from M n c (stop-pops-not M c h)
     (λ i base k y l e. absurd (not-none (after (suc k) M (over-base c i base)) e (none-then i base k)))
   where
     none-then : (i : ℕ) (base : List Entry) (k : ℕ) → after (suc k) M (over-base c i base) ≡ none
     none-then i base k =
-        let halted = halted-stuck M (over-base c i base) (step-stop M c i base h) in
+        let halted = halted-stopped M (over-base c i base) (step-stop M c i base h) in
         halted-no-more M 0 (suc k) (over-base c i base) (after-zero M (over-base c i base)) halted (omega arith)
 
 -- from the step after a change, or after a push
@@ -183,7 +184,7 @@ unfolding count
 when-pop M n c h = inl (record { last = c; way = pops tt h; soon = omega arith })
 
 round : (M : Machine) (c : Config) (a : Action) → M .action c ≡ a → (n : ℕ) → Fewer M n → Within M n c
-round M c Stop h n fewer = inr (stop-kept M n c h)
+round M c (Stop r) h n fewer = inr (stop-kept M n c h)
 round M c (Pop p r) h n fewer = when-pop M n c h
 round M c (Change e) h zero fewer = inr (kept-zero M c (change-pops-not M c h))
 round M c (Change e) h (suc n) fewer = when-change M n c h (fewer n (le-refl (suc n)) e)

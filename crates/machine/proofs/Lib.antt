@@ -6,6 +6,7 @@ pub mod Bits
 pub mod Refused
 pub mod CountingOn
 pub mod Digits
+pub mod Encoded
 pub mod RuleRight
 pub mod ImageParts
 pub mod ConditionsMet
@@ -20,8 +21,9 @@ pub mod Runs
 pub mod Ends
 pub mod Kept
 pub mod Terminators
+pub mod Halts
 pub mod OneVerdict
-pub mod Notes
+pub mod RightNotes
 pub mod NotesOfRun
 pub mod Reach
 pub mod Pigeonhole

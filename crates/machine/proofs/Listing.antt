@@ -11,7 +11,7 @@ use Rattle.machine.specs.declared.Config.{Config}
 use Rattle.machine.specs.Run.{Machine, There, number, how-many}
 use Rattle.machine.specs.Verdicts.{Entered, Noted, nonzero, Distinct, nil, cons, All-entered}
 use Rattle.machine.proofs.Numbers.{config-at, config-at-there, number-config-at, config-at-number, number-below, number-injective}
-use Rattle.machine.proofs.Notes.{note-entered, entered-note}
+use Rattle.machine.proofs.RightNotes.{note-entered, entered-note}
 use Rattle.machine.proofs.Pigeonhole.{length-at-most}
 
 -- of the first so many notes, the first of them that of number k, the configurations whose note is not 0

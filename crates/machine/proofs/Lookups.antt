@@ -6,12 +6,14 @@ use native.Mathlib.Omega.{arith}
 use lib.Dec.{eqb}
 use lib.ListN.{length}
 use borrow.Author.Tests.{eq-eqb, ne-eqb}
+use Rattle.machine.specs.Format
 use Rattle.machine.specs.declared.Config.{Config}
 use Rattle.machine.specs.declared.Sizes.{Sizes}
 use Rattle.machine.specs.declared.Action.{Action}
 use Rattle.machine.specs.declared.Action.the-variants.{Pop}
+use Rattle.machine.specs.Format
 use Rattle.machine.specs.Image.{Rule, classes, symbols, rule-from, rule-offset, rule-at, sizes-of, class-under, action-by, action}
-use Rattle.machine.specs.Lookup.{Lookup-ready, Digits-fit, Rule-ready}
+use Rattle.machine.specs.code.Lookup.{Lookup-ready, Digits-fit, offset-by, Rule-ready}
 use Rattle.machine.proofs.Rules.{good, class-below, rule-index, rule-of, state-there, head-there, symbol-there, rule-whole, left-room}
 
 pub kept-classes : (bs cs : List ℕ) {s : Sizes} → s ≡ sizes-of bs cs → s .classes ≡ classes bs
@@ -26,10 +28,6 @@ pub kept-places : (bs cs : List ℕ) {s : Sizes} → s ≡ sizes-of bs cs → s 
 unfolding sizes-of
 kept-places bs cs e = ap (λ (x : Sizes). x .places) e
 
--- the offset that the code computes, of class k
-abbrev pub offset-by : Sizes → Config → (class : ℕ) → ℕ
-offset-by s c k = 288 + 4 * ((c .state * (s .classes + 2) + k) * s .symbols + c .symbol)
-
 -- what a pop's rule does
 pub pop-is :
     (r : Rule) (i p : ℕ) → (r .kind ≡ 1 → ⊥) → (r .kind ≡ 2 → ⊥) → r .kind ≡ 3 → p ≡ r .state →
@@ -38,7 +36,7 @@ unfolding action-by
 pop-is r i p a b d e = simp (ne-eqb _ _ a, ne-eqb _ _ b, eq-eqb _ _ d) (ap (λ (q : ℕ). Pop q (eqb (r .move) 1)) e)
 
 module _ {bs cs : List ℕ} {s : Sizes} {c : Config} (l : Lookup-ready bs cs s c) {k : ℕ} (ek : k ≡ class-under bs cs (c .head)) where
-  offset-is : offset-by s c k ≡ 288 + 4 * rule-index bs cs c
+  offset-is : offset-by s (c .state) k (c .symbol) ≡ Format.rules-offset + Format.rule-length * rule-index bs cs c
   offset-is = simp (kept-classes bs cs (l .counts), kept-symbols bs cs (l .counts), ek)
 
   pub digits-fit : Digits-fit (c .state) k (c .symbol) (s .classes + 2) (s .symbols)
@@ -54,7 +52,7 @@ module _ {bs cs : List ℕ} {s : Sizes} {c : Config} (l : Lookup-ready bs cs s c
         symbols-most = omega (arith, g .symbols-most);
       }
 
-  module _ {o : ℕ} (eo : o ≡ offset-by s c k) where
+  module _ {o : ℕ} (eo : o ≡ offset-by s (c .state) k (c .symbol)) where
     rule-is : rule-from bs o ≡ rule-of bs cs c
     unfolding rule-at rule-offset
     rule-is = ap (rule-from bs) (eo ∙ offset-is)

@@ -10,7 +10,7 @@ use Rattle.machine.specs.Verdicts.{Entered, Ends-at, No-end, Noted}
 use Rattle.machine.specs.Implications.{Noted-by-implication}
 use Rattle.machine.specs.Refusals.{Unrefused}
 use Rattle.machine.proofs.Inside.{inside}
-use Rattle.machine.proofs.Notes.{never-only, unended-only, ended-only}
+use Rattle.machine.proofs.RightNotes.{never-only, unended-only, ended-only}
 use Rattle.machine.proofs.Reach.{entered-there}
 
 -- OF ANY MACHINE, for its own configurations

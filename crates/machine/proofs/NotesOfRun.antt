@@ -5,9 +5,10 @@ use mathlib.Core.Option.{some}
 use Prim.Native.Nat.{ℕ}
 use lib.ListN.{getD}
 use Rattle.machine.specs.declared.Config.{Config}
+use Rattle.machine.specs.declared.Note.{Note}
 use Rattle.machine.specs.Run.{Machine, There, Entry, start, after, number}
-use Rattle.machine.specs.Verdicts.{over-base, Note, never, unended, ended, Noted}
-use Rattle.machine.specs.Removal.{Removed, Tells, kept, removed}
+use Rattle.machine.specs.Verdicts.{over-base, note-of, Note-right, never, unended, ended, Noted}
+use Rattle.machine.specs.Removal.{Removed, Note-tells, kept, removed}
 use Rattle.machine.proofs.Runs.{config-over}
 use Rattle.machine.proofs.Terminators.{terminators-of-run}
 
@@ -18,8 +19,8 @@ same-each-time M n m i j c d base ground at-n at-m r =
     terminators-of-run M m j c d ground at-m .0 (terminators-of-run M n i c d base at-n .1 r)
 
 pub note-tells :
-    (M : Machine) (n i : ℕ) (c : Config) (base : List Entry) → after n M start ≡ some (over-base c i base) → {v : ℕ} → Note M c v →
-    Tells M n i base v
+    (M : Machine) (n i : ℕ) (c : Config) (base : List Entry) → after n M start ≡ some (over-base c i base) → {v : Note} → Note-right M c v →
+    Note-tells M n i base v
 note-tells M n i c base at-n (never no-entry) =
     absurd (no-entry (record { steps = n; place = over-base c i base; reached = at-n; is = config-over c i base }))
 note-tells M n i c base at-n (unended e no-end) = kept (λ d r. no-end d (terminators-of-run M n i c d base at-n .1 r))
@@ -27,5 +28,5 @@ note-tells M n i c base at-n (ended {d} e t x) = removed t (terminators-of-run M
 
 pub notes-of-run :
     (M : Machine) (notes : List ℕ) → Noted M notes → (n i : ℕ) (c : Config) (base : List Entry) → There M c →
-    after n M start ≡ some (over-base c i base) → Tells M n i base (getD notes (number M c) 0)
+    after n M start ≡ some (over-base c i base) → Note-tells M n i base (note-of (getD notes (number M c) 0))
 notes-of-run M notes noted n i c base t at-n = note-tells M n i c base at-n (noted c t)

@@ -2,19 +2,19 @@
 use mathlib.Core.Path.{_≡_, sym, ap, _∙_}
 use Prim.Native.Nat.{ℕ, _/_, _%_, _<_}
 use Rattle.machine.specs.declared.Config.{Config}
-use Rattle.machine.specs.Run.{Machine, There, config, number, how-many}
+use Rattle.machine.specs.Run.{Machine, There, number-by, number, how-many, config-by}
 use Rattle.machine.proofs.Digits.{digits-below, low-digit, middle-digit, high-digit, high-below, middle-below, low-below, number-of-digits, second-positive, third-positive}
 
 pub number-below : {M : Machine} {c : Config} → There M c → number M c < how-many M
-unfolding number how-many
+unfolding number-by number how-many
 number-below t = digits-below (t .state-below) (t .head-below) (t .symbol-below)
 
--- the configuration of a number
+-- the configuration of a machine's number
 unfoldable pub config-at : Machine → ℕ → Config
-config-at M k = config (k / M .symbols / M .places) (k / M .symbols % M .places) (k % M .symbols)
+config-at M k = config-by (M .places) (M .symbols) k
 
 pub config-at-there : (M : Machine) (k : ℕ) → k < how-many M → There M (config-at M k)
-unfolding how-many config-at
+unfolding how-many config-by config-at
 config-at-there M k h =
     let m : 0 < M .places = second-positive (M .states) (M .places) (M .symbols) h in
     let g : 0 < M .symbols = third-positive (M .states) (M .places) (M .symbols) h in
@@ -25,11 +25,11 @@ config-at-there M k h =
     }
 
 pub number-config-at : (M : Machine) (k : ℕ) → number M (config-at M k) ≡ k
-unfolding number config-at
+unfolding number-by number config-by config-at
 number-config-at M k = number-of-digits (M .places) (M .symbols) k
 
 pub config-at-number : {M : Machine} {c : Config} → There M c → config-at M (number M c) ≡ c
-unfolding number config-at
+unfolding number-by number config-by config-at
 config-at-number {M} {c} t =
     simp (
       high-digit (c .state) (t .head-below) (t .symbol-below),

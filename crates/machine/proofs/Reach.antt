@@ -36,7 +36,7 @@ module _ {M : Machine} (inside : Inside M) where
       (c : Config) → There M c → (a : Action) → M .action c ≡ a → (i : ℕ) → i < M .places → (es : List Entry) → Entries M es → (y : Instant) →
       step-by a (c .head) (entry (c .symbol) i) es ≡ next y → Within M y
   unfolding step-by
-  by-action c t Stop h i l es w y e = let z : _≡_ {A = ℕ} 0 1 = cc in absurd (omega arith)
+  by-action c t (Stop r) h i l es w y e = let z : _≡_ {A = ℕ} 0 1 = cc in absurd (omega arith)
   by-action c t (Change d) h i l es w y e =
       let there = inside .changes c d t h in
       subst (Within M) (next-same e)

@@ -4,6 +4,7 @@ use mathlib.Core.Bool.{Bool, true, false, _&&_, _||_, not, cond}
 use mathlib.Core.Logic.{_⊎_, inl, inr}
 use Prim.Native.Nat.{ℕ, _<_, _≤_}
 use native.Mathlib.Nat.{not-le-of-lt}
+use native.Mathlib.Omega.{arith}
 use lib.Dec.{ltb, leb, eqb}
 use borrow.Author.Tests.{ltb-true, ltb-false, leb-true, leb-false, eqb-true, eqb-false}
 
@@ -131,3 +132,12 @@ in-cases (it-holds x) (it-passes p) r = it-passes (λ y. p, λ n. absurd (n x))
 in-cases (it-holds x) (it-refuses n) r = it-refuses (λ s. n (s .0 x))
 in-cases (it-fails y) r (it-passes q) = it-passes (λ x. absurd (y x), λ n. q)
 in-cases (it-fails y) r (it-refuses n) = it-refuses (λ s. n (s .1 y))
+
+-- the statement by the outcome of its test
+pub by-test : {P : Type 0} {b : Bool} → Reflects P b → b ≡ true → P
+by-test (it-holds p) e = p
+by-test (it-fails n) e = let y : _≡_ {A = ℕ} 0 1 = cc in absurd (omega arith)
+
+pub by-passing : {P : Type 0} {b : Bool} → Refuses P b → b ≡ false → P
+by-passing (it-passes p) e = p
+by-passing (it-refuses n) e = let y : _≡_ {A = ℕ} 0 1 = cc in absurd (omega arith)

@@ -9,7 +9,7 @@ use lib.ListN.{length}
 use borrow.Author.Tests.{lt-ltb, le-ltb, ltb-false, eq-eqb, ne-eqb, eqb-true, eqb-false}
 use Rattle.machine.specs.declared.Refusal.{Refusal}
 use Rattle.machine.specs.Format
-use Rattle.machine.specs.Image.{byte}
+use Rattle.codec.specs.Bytes.{byte}
 use Rattle.machine.specs.Refusals.{refusal, fine, or-else, refuse-if, image-refusal, capture-refusal, Unrefused}
 
 -- no refusal, as a record: what is said of a chain of tests is then read off the chain

@@ -83,7 +83,7 @@ module _ (bs : List ℕ) (class : ℕ) (r : Rule) where
 
 -- THE RULE WITH AN INDEX, as the check goes through them
 abbrev pub Index-right : List ℕ → (i : ℕ) → Type 0
-Index-right bs i = Rule-right bs (index-class bs i) (rule-from bs (Format.rules-offset + 4 * i))
+Index-right bs i = Rule-right bs (index-class bs i) (rule-from bs (Format.rules-offset + Format.rule-length * i))
 
 abbrev index-of : List ℕ → (p class a : ℕ) → ℕ
 index-of bs p k a = (p * (classes bs + 2) + k) * symbols bs + a
@@ -97,14 +97,14 @@ module _ (bs : List ℕ) (p k a : ℕ) (hk : k < classes bs + 2) (ha : a < symbo
   from-index : Index-right bs (index-of bs p k a) → Rule-right bs k (rule-at bs p k a)
   unfolding rule-at rule-offset
   from-index h =
-      subst (λ (c : ℕ). Rule-right bs c (rule-from bs (Format.rules-offset + 4 * index-of bs p k a))) class-is h
+      subst (λ (c : ℕ). Rule-right bs c (rule-from bs (Format.rules-offset + Format.rule-length * index-of bs p k a))) class-is h
 
   to-index : Rule-right bs k (rule-at bs p k a) → Index-right bs (index-of bs p k a)
   unfolding rule-at rule-offset
   to-index h =
-      subst (λ (c : ℕ). Rule-right bs c (rule-from bs (Format.rules-offset + 4 * index-of bs p k a))) (sym class-is) h
+      subst (λ (c : ℕ). Rule-right bs c (rule-from bs (Format.rules-offset + Format.rule-length * index-of bs p k a))) (sym class-is) h
 
-  offset-is : rule-offset bs p k a ≡ Format.rules-offset + 4 * index-of bs p k a
+  offset-is : rule-offset bs p k a ≡ Format.rules-offset + Format.rule-length * index-of bs p k a
   unfolding rule-offset
   offset-is = refl
 
@@ -140,7 +140,7 @@ module _ (bs : List ℕ) where
   -- what holds of each state, class and symbol whose rule's offset is less holds of each lesser index
   lesser-indices :
       (n : ℕ) → n ≤ rule-count bs →
-      ((p k a : ℕ) → p < states bs → k < classes bs + 2 → a < symbols bs → rule-offset bs p k a < Format.rules-offset + 4 * n →
+      ((p k a : ℕ) → p < states bs → k < classes bs + 2 → a < symbols bs → rule-offset bs p k a < Format.rules-offset + Format.rule-length * n →
       Rule-right bs k (rule-at bs p k a)) →
       (i : ℕ) → i < n → Index-right bs i
   lesser-indices n most h i less =
@@ -158,7 +158,7 @@ module _ (bs : List ℕ) where
       from-index bs p k a hk ha (h (index-of bs p k a) (below-count bs p k a hk ha hp))
 
   -- the first bad rule is that of the least index, both ways
-  pub first-bad : (i : ℕ) → Least (Index-right bs) (rule-count bs) i → First-bad-rule bs (Format.rules-offset + 4 * i)
+  pub first-bad : (i : ℕ) → Least (Index-right bs) (rule-count bs) i → First-bad-rule bs (Format.rules-offset + Format.rule-length * i)
   first-bad i l =
       let s = selected bs i (l .below) in
       let there = offset-is bs (s .state) (s .class) (s .symbol) (s .class-below) (s .symbol-below) in
@@ -183,7 +183,7 @@ module _ (bs : List ℕ) where
     abbrev pub bad-index : ℕ
     bad-index = index-of bs (f .state) (f .class) (f .symbol)
 
-    pub bad-place : o ≡ Format.rules-offset + 4 * bad-index
+    pub bad-place : o ≡ Format.rules-offset + Format.rule-length * bad-index
     bad-place =
         f .place-is ∙ offset-is bs (f .state) (f .class) (f .symbol) (f .class-below) (f .symbol-below)
 

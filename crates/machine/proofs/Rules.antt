@@ -9,9 +9,12 @@ use native.Mathlib.Omega.{arith}
 use lib.Dec.{ltb, eqb}
 use lib.ListN.{length}
 use borrow.Author.Tests.{lt-ltb, le-ltb, eq-eqb}
+use Rattle.machine.specs.Format
 use Rattle.machine.specs.declared.Config.{Config}
+use Rattle.machine.specs.Format
 use Rattle.machine.specs.Run.{There}
-use Rattle.machine.specs.Image.{byte, states, classes, symbols, Rule, rule-at, class-under, machine}
+use Rattle.codec.specs.Bytes.{byte}
+use Rattle.machine.specs.Image.{states, classes, symbols, Rule, rule-at, class-under, machine}
 use Rattle.machine.specs.Refusals.{move-off, rule-count, Unrefused}
 use Rattle.machine.specs.Conditions.{Target-right, Rule-right, none-right, change-right, push-right, pop-right}
 use Rattle.machine.proofs.Digits.{digits-below}
@@ -28,7 +31,7 @@ unfolding class-under
 class-left bs cs zero e = refl
 class-left bs cs (suc i) e = absurd (omega arith)
 
-pub class-byte : (bs cs : List ℕ) (i : ℕ) → (i ≡ 0 → ⊥) → i - 1 < length cs → class-under bs cs i ≡ byte bs (32 + byte cs (i - 1))
+pub class-byte : (bs cs : List ℕ) (i : ℕ) → (i ≡ 0 → ⊥) → i - 1 < length cs → class-under bs cs i ≡ byte bs (Format.map-offset + byte cs (i - 1))
 unfolding class-under
 class-byte bs cs zero h k = absurd (h refl)
 class-byte bs cs (suc i) h k = rw (sub-one (suc i)) (rw (lt-ltb i (length cs) (rw (sub-one (suc i)) at k)))
@@ -43,7 +46,7 @@ unfolding class-under
 class-below {bs} {cs} u zero = omega arith
 class-below {bs} {cs} u (suc i) = go (ltb i (length cs)) refl
   where
-    go : (b : Bool) → ltb i (length cs) ≡ b → cond b (byte bs (32 + byte cs i)) (classes bs + 1) < classes bs + 2
+    go : (b : Bool) → ltb i (length cs) ≡ b → cond b (byte bs (Format.map-offset + byte cs i)) (classes bs + 1) < classes bs + 2
     go true e = omega (arith, good u .map-below (byte cs i) (u .bytes i))
     go false e = omega arith
 
@@ -111,7 +114,7 @@ module _ {bs cs : List ℕ} (u : Unrefused bs cs) {c : Config} (t : There (machi
   pub rule-there : Good-rule bs (class-under bs cs (c .head)) (rule-of bs cs c)
   rule-there = good-rule rule-right
 
-  pub rule-whole : 288 + 4 * rule-index bs cs c + 4 ≤ length bs
+  pub rule-whole : Format.rules-offset + Format.rule-length * rule-index bs cs c + Format.rule-length ≤ length bs
   rule-whole = omega (arith, good {bs = bs} {cs = cs} u .length-is, rule-index-below)
 
   -- no rule moves left off the left marker

@@ -8,6 +8,8 @@ use native.Mathlib.Nat.{add-zero, add-suc}
 use native.Mathlib.Decide.{decLt}
 use native.Mathlib.Omega.{arith}
 use Rattle.machine.specs.declared.Config.{Config}
+use Rattle.machine.specs.declared.Reason.{Reason}
+use Rattle.machine.specs.declared.Reason.the-variants.{Missing}
 use Rattle.machine.specs.declared.Action.{Action}
 use Rattle.machine.specs.declared.Action.the-variants.{Stop, Change, Push, Pop}
 use Rattle.machine.specs.Run.{
@@ -17,7 +19,7 @@ use Rattle.machine.specs.Run.{
   Instant,
   instant,
   Outcome,
-  stuck,
+  stopped,
   over,
   next,
   returned,
@@ -53,7 +55,7 @@ further-from M none z e = let k : _≡_ {A = ℕ} 0 1 = cc in absurd (omega arit
 further-from M (some y) z e = (y, refl, go (step M y) e)
   where
     go : (o : Outcome) → only-next o ≡ some z → o ≡ next z
-    go stuck f = cc
+    go (stopped r) f = cc
     go (over p i) f = cc
     go (next u) f = cc
 
@@ -109,7 +111,8 @@ unfolding config-of top
 config-over c i base = refl
 
 -- ONE STEP, by the action of the configuration
-pub step-stop : (M : Machine) (c : Config) (i : ℕ) (base : List Entry) → M .action c ≡ Stop → step M (over-base c i base) ≡ stuck
+pub step-stop :
+    (M : Machine) (c : Config) (i : ℕ) (base : List Entry) {r : Reason} → M .action c ≡ Stop r → step M (over-base c i base) ≡ stopped r
 unfolding step step-on step-by
 step-stop M c i base e = ap (λ (a : Action). step-by a (c .head) (entry (c .symbol) i) base) e
 
@@ -138,7 +141,7 @@ unfolding step step-on step-by
 step-pop-last M c i h = ap (λ (a : Action). step-by a (c .head) (entry (c .symbol) i) []) h
 
 -- with no entry left there is no step
-pub step-none : (M : Machine) (p i : ℕ) → step M (instant p i []) ≡ stuck
+pub step-none : (M : Machine) (p i : ℕ) → step M (instant p i []) ≡ stopped Missing
 unfolding step step-on
 step-none M p i = refl
 
@@ -146,9 +149,9 @@ step-none M p i = refl
 abbrev pub Halted : Machine → Instant → Type 0
 Halted M x = only-next (step M x) ≡ none
 
-pub halted-stuck : (M : Machine) (x : Instant) → step M x ≡ stuck → Halted M x
+pub halted-stopped : (M : Machine) (x : Instant) {r : Reason} → step M x ≡ stopped r → Halted M x
 unfolding only-next
-halted-stuck M x e = ap only-next e
+halted-stopped M x e = ap only-next e
 
 pub halted-over : (M : Machine) (x : Instant) {p i : ℕ} → step M x ≡ over p i → Halted M x
 unfolding only-next
@@ -209,7 +212,7 @@ next-same e = cc
 
 next-topped : (a : Action) (i : ℕ) (e : Entry) (es : List Entry) {z : Instant} → step-by a i e es ≡ next z → Topped z
 unfolding step-by
-next-topped Stop i e es h = let k : _≡_ {A = ℕ} 0 1 = cc in absurd (omega arith)
+next-topped (Stop r) i e es h = let k : _≡_ {A = ℕ} 0 1 = cc in absurd (omega arith)
 next-topped (Change c) i e es h =
     subst Topped (next-same h) (instant-topped (c .state) (c .head) (entry (c .symbol) (e .pointer)) es)
 next-topped (Push c) i e es h =

@@ -58,7 +58,7 @@ over-by :
     (M : Machine) (p i : ℕ) (a : Action) (e : Entry) (es : List Entry) {q j : ℕ} → M .action (config p i (e .symbol)) ≡ a →
     step-by a i e es ≡ over q j → Popped-last M (instant p i (e ∷ es)) q
 unfolding step-by config-of top
-over-by M p i Stop e es h k = let z : _≡_ {A = ℕ} 0 1 = cc in absurd (omega arith)
+over-by M p i (Stop r) e es h k = let z : _≡_ {A = ℕ} 0 1 = cc in absurd (omega arith)
 over-by M p i (Change c) e es h k = let z : _≡_ {A = ℕ} 0 1 = cc in absurd (omega arith)
 over-by M p i (Push c) e es h k = let z : _≡_ {A = ℕ} 0 1 = cc in absurd (omega arith)
 over-by M p i (Pop s r) e [] h k = record { returns = r; action-is = h ∙ ap (λ (t : ℕ). Pop t r) (over-state k); one-left = refl }

@@ -4,23 +4,25 @@ use mathlib.Core.List.{List}
 use Prim.Native.Nat.{ℕ, _+_, _*_, _-_, _/_, _%_, _^_, _<_, _≤_}
 use lib.ListN.{length}
 use Rattle.machine.specs.Format
-use Rattle.machine.specs.Image.{byte, four, states, classes, symbols, Rule, rule-offset, rule-at}
+use Rattle.codec.specs.Bytes.{byte}
+use Rattle.codec.specs.Numbers.{u32-at, pair-at}
+use Rattle.machine.specs.Image.{states, classes, symbols, Rule, rule-offset, rule-at}
 
 -- THE DIRECTORY: the pair of 32-bit numbers at a place
 pub record Pair-right (bs : List ℕ) (at offset long : ℕ) : Type 0 where
-  pub offset-is : four bs at ≡ offset
-  pub length-is : four bs (at + 4) ≡ long
+  pub offset-is : pair-at bs at .offset ≡ offset
+  pub length-is : pair-at bs at .long ≡ long
 
 abbrev pub Counts-pair-right : List ℕ → Type 0
-Counts-pair-right bs = Pair-right bs 0 Format.counts-offset Format.counts-length
+Counts-pair-right bs = Pair-right bs Format.counts-pair Format.counts-offset Format.counts-length
 
 abbrev pub Map-pair-right : List ℕ → Type 0
-Map-pair-right bs = Pair-right bs 8 Format.map-offset Format.map-length
+Map-pair-right bs = Pair-right bs Format.map-pair Format.map-offset Format.map-length
 
--- the third length is what the image has from 288 on; under 288 bytes the third pair is always wrong
+-- the third length is what the image has from the rules' offset on; of a shorter image the third pair is always wrong
 pub record Rules-pair-right (bs : List ℕ) : Type 0 where
   pub long-enough : Format.rules-offset ≤ length bs
-  pub pair : Pair-right bs 16 Format.rules-offset (length bs - Format.rules-offset)
+  pub pair : Pair-right bs Format.rules-pair Format.rules-offset (length bs - Format.rules-offset)
 
 pub record Directory-right (bs : List ℕ) : Type 0 where
   pub counts-pair : Counts-pair-right bs
@@ -43,37 +45,37 @@ Symbols-right bs = Count-right (symbols bs) Format.max-symbols
 
 -- bit s is for state s; bits from Q up are zero
 abbrev pub Finals-right : List ℕ → Type 0
-Finals-right bs = (s : ℕ) → states bs ≤ s → four bs Format.finals-offset / 2 ^ s % 2 ≡ 0
+Finals-right bs = (s : ℕ) → states bs ≤ s → u32-at bs Format.finals-offset / 2 ^ s % 2 ≡ 0
 
 pub record Counts-right (bs : List ℕ) : Type 0 where
   pub states-right : States-right bs
   pub classes-right : Classes-right bs
   pub symbols-right : Symbols-right bs
-  pub zero-right : byte bs 27 ≡ 0
+  pub zero-right : byte bs Format.zero-offset ≡ 0
   pub finals-right : Finals-right bs
 
--- THE LENGTH: Q (K + 2) G rules of four bytes, from 288 on
+-- THE LENGTH: Q (K + 2) G rules of four bytes, from the rules' offset on
 abbrev pub Length-right : List ℕ → Type 0
-Length-right bs = length bs ≡ Format.rules-offset + 4 * states bs * (classes bs + 2) * symbols bs
+Length-right bs = length bs ≡ Format.rules-offset + Format.rule-length * states bs * (classes bs + 2) * symbols bs
 
 -- THE CLASS MAP: the class of each byte value is below K
 abbrev pub Map-right : List ℕ → Type 0
 Map-right bs = (v : ℕ) → v < Format.map-length → byte bs (Format.map-offset + v) < classes bs
 
--- A RULE for a class, where K is the left marker and K + 1 the right one. Of a change or a push: state and symbol are in range, the move is known (0 stay, 1 right, 2 left), and it is not left on the left marker nor right on the right one
+-- A RULE for a class, where K is the left marker and K + 1 the right one. Of a change or a push: state and symbol are in range, the move is known (stay, right, left), and it is not left on the left marker nor right on the right one
 pub record Target-right (bs : List ℕ) (class : ℕ) (r : Rule) : Type 0 where
   pub state-below : r .state < states bs
   pub symbol-below : r .symbol < symbols bs
-  pub move-known : r .move ≤ 2
-  pub not-off-left : class ≡ classes bs → r .move ≡ 2 → ⊥
-  pub not-off-right : class ≡ classes bs + 1 → r .move ≡ 1 → ⊥
+  pub move-known : r .move ≤ Format.move-left
+  pub not-off-left : class ≡ classes bs → r .move ≡ Format.move-left → ⊥
+  pub not-off-right : class ≡ classes bs + 1 → r .move ≡ Format.move-right → ⊥
 
--- by its kind: 0 none, with no other byte set; 1 change; 2 push; 3 pop, whose symbol byte is 0 and whose move is 0 stay or 1 return. No other kind is right
+-- by its kind: none, with no other byte set; change; push; pop, whose symbol byte is 0 and whose direction is stay or return. No other kind is right
 pub data Rule-right (bs : List ℕ) (class : ℕ) (r : Rule) : Type 0 where
-  none-right : r .kind ≡ 0 → r .state ≡ 0 → r .symbol ≡ 0 → r .move ≡ 0 → Rule-right bs class r
-  change-right : r .kind ≡ 1 → Target-right bs class r → Rule-right bs class r
-  push-right : r .kind ≡ 2 → Target-right bs class r → Rule-right bs class r
-  pop-right : r .kind ≡ 3 → r .state < states bs → r .symbol ≡ 0 → r .move ≤ 1 → Rule-right bs class r
+  none-right : r .kind ≡ Format.kind-none → r .state ≡ 0 → r .symbol ≡ 0 → r .move ≡ 0 → Rule-right bs class r
+  change-right : r .kind ≡ Format.kind-change → Target-right bs class r → Rule-right bs class r
+  push-right : r .kind ≡ Format.kind-push → Target-right bs class r → Rule-right bs class r
+  pop-right : r .kind ≡ Format.kind-pop → r .state < states bs → r .symbol ≡ 0 → r .move ≤ Format.pop-return → Rule-right bs class r
 
 -- THE RULES: the one of each state, class and symbol; the two markers are classes too
 abbrev pub Rules-right : List ℕ → Type 0
@@ -91,18 +93,18 @@ pub record Image-right (bs : List ℕ) : Type 0 where
 
 -- THE FIRST THAT IS WRONG, by its place: a pair of the directory,
 pub data First-wrong-pair (bs : List ℕ) : (place : ℕ) → Type 0 where
-  counts-pair-wrong : (Counts-pair-right bs → ⊥) → First-wrong-pair bs 0
-  map-pair-wrong : Counts-pair-right bs → (Map-pair-right bs → ⊥) → First-wrong-pair bs 8
-  rules-pair-wrong : Counts-pair-right bs → Map-pair-right bs → (Rules-pair-right bs → ⊥) → First-wrong-pair bs 16
+  counts-pair-wrong : (Counts-pair-right bs → ⊥) → First-wrong-pair bs Format.counts-pair
+  map-pair-wrong : Counts-pair-right bs → (Map-pair-right bs → ⊥) → First-wrong-pair bs Format.map-pair
+  rules-pair-wrong : Counts-pair-right bs → Map-pair-right bs → (Rules-pair-right bs → ⊥) → First-wrong-pair bs Format.rules-pair
 
--- a count, byte 27 or the finals,
+-- a count, the byte after the counts or the finals,
 pub data First-wrong-count (bs : List ℕ) : (place : ℕ) → Type 0 where
-  states-wrong : (States-right bs → ⊥) → First-wrong-count bs 24
-  classes-wrong : States-right bs → (Classes-right bs → ⊥) → First-wrong-count bs 25
-  symbols-wrong : States-right bs → Classes-right bs → (Symbols-right bs → ⊥) → First-wrong-count bs 26
-  zero-wrong : States-right bs → Classes-right bs → Symbols-right bs → (byte bs 27 ≡ 0 → ⊥) → First-wrong-count bs 27
+  states-wrong : (States-right bs → ⊥) → First-wrong-count bs Format.states-offset
+  classes-wrong : States-right bs → (Classes-right bs → ⊥) → First-wrong-count bs Format.classes-offset
+  symbols-wrong : States-right bs → Classes-right bs → (Symbols-right bs → ⊥) → First-wrong-count bs Format.symbols-offset
+  zero-wrong : States-right bs → Classes-right bs → Symbols-right bs → (byte bs Format.zero-offset ≡ 0 → ⊥) → First-wrong-count bs Format.zero-offset
   finals-wrong :
-      States-right bs → Classes-right bs → Symbols-right bs → byte bs 27 ≡ 0 → (Finals-right bs → ⊥) → First-wrong-count bs 28
+      States-right bs → Classes-right bs → Symbols-right bs → byte bs Format.zero-offset ≡ 0 → (Finals-right bs → ⊥) → First-wrong-count bs Format.finals-offset
 
 -- a byte of the class map,
 pub record First-wrong-class (bs : List ℕ) (place : ℕ) : Type 0 where
@@ -132,7 +134,7 @@ pub data Image-row (bs : List ℕ) : (number place : ℕ) → Type 0 where
   short-image : length bs < Format.map-offset → Image-row bs 1 (length bs)
   wrong-pair : {place : ℕ} → Format.map-offset ≤ length bs → First-wrong-pair bs place → Image-row bs 2 place
   wrong-count : {place : ℕ} → Directory-right bs → First-wrong-count bs place → Image-row bs 3 place
-  wrong-length : Directory-right bs → Counts-right bs → (Length-right bs → ⊥) → Image-row bs 4 20
+  wrong-length : Directory-right bs → Counts-right bs → (Length-right bs → ⊥) → Image-row bs 4 Format.rules-size
   wrong-class :
       {place : ℕ} → Directory-right bs → Counts-right bs → Length-right bs → First-wrong-class bs place → Image-row bs 5 place
   bad-rule :

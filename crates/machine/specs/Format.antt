@@ -36,6 +36,10 @@ zero-offset = 27
 abbrev pub finals-offset : ℕ
 finals-offset = 28
 
+-- the finals, a bit for each state
+abbrev pub finals-length : ℕ
+finals-length = 4
+
 abbrev pub map-offset : ℕ
 map-offset = 32
 
@@ -49,6 +53,37 @@ rules-offset = 288
 abbrev pub rule-length : ℕ
 rule-length = 4
 
+-- its kinds
+abbrev pub kind-none : ℕ
+kind-none = 0
+
+abbrev pub kind-change : ℕ
+kind-change = 1
+
+abbrev pub kind-push : ℕ
+kind-push = 2
+
+abbrev pub kind-pop : ℕ
+kind-pop = 3
+
+-- the directions of a change or a push
+abbrev pub move-stay : ℕ
+move-stay = 0
+
+abbrev pub move-right : ℕ
+move-right = 1
+
+abbrev pub move-left : ℕ
+move-left = 2
+
+-- the directions of a pop: the head stays, or returns to the entry's pointer
+abbrev pub pop-stay : ℕ
+pop-stay = 0
+
+abbrev pub pop-return : ℕ
+pop-return = 1
+
+-- limits
 abbrev pub max-states : ℕ
 max-states = 32
 

@@ -7,6 +7,8 @@ use Prim.Native.Nat.{ℕ, suc, _+_, _≤_}
 use lib.ListN.{length}
 use Rattle.machine.specs.declared.Config.{Config}
 use Rattle.machine.specs.declared.Action.the-variants.{Pop}
+use Rattle.machine.specs.declared.Note.{Note}
+use Rattle.machine.specs.declared.Note.the-variants.{Open, Closed}
 use Rattle.machine.specs.Run.{Machine, There, Entry, Instant, start, after, number}
 use Rattle.machine.specs.Verdicts.{over-base}
 
@@ -18,7 +20,7 @@ pub record Removed (M : Machine) (n i : ℕ) (base : List Entry) (d : Config) : 
   pub never-lower :
       (m : ℕ) (x : Instant) → n ≤ m → m ≤ n + wait → after m M start ≡ some x → suc (length base) ≤ length (x .stack)
 
--- what a note tells of the run, each time that it enters the note's configuration: 1, the entry then on top is never removed; else, from where it is
-pub data Tells (M : Machine) (n i : ℕ) (base : List Entry) : (cell : ℕ) → Type 0 where
-  kept : ((d : Config) → Removed M n i base d → ⊥) → Tells M n i base 1
-  removed : {d : Config} → There M d → Removed M n i base d → Tells M n i base (2 + number M d)
+-- what a note tells of the run, each time that it enters the note's configuration: open, the entry then on top is never removed; closed, from where it is
+pub data Note-tells (M : Machine) (n i : ℕ) (base : List Entry) : Note → Type 0 where
+  kept : ((d : Config) → Removed M n i base d → ⊥) → Note-tells M n i base Open
+  removed : {d : Config} → There M d → Removed M n i base d → Note-tells M n i base (Closed (number M d))

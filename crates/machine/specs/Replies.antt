@@ -4,7 +4,7 @@ use Rattle.machine.specs.declared.Config.{Config}
 use Rattle.machine.specs.declared.Refusal.{Refusal}
 use Rattle.machine.specs.declared.Reply.{Reply}
 use Rattle.machine.specs.declared.Verdict.{Verdict}
-use Rattle.machine.specs.declared.Verdict.the-variants.{Accepted, Ended, Stuck, Looping, Spent, Deep}
+use Rattle.machine.specs.declared.Verdict.the-variants.{Accepted, Ended, Stuck, Looping}
 use Rattle.machine.specs.declared.Checked.{Checked}
 use Rattle.machine.specs.declared.Checked.the-variants.{Good, Refused}
 
@@ -14,24 +14,22 @@ verdict-number Accepted = 1
 verdict-number Ended = 2
 verdict-number Stuck = 3
 verdict-number Looping = 4
-verdict-number Spent = 5
-verdict-number Deep = 6
 
 abbrev pub no-config : Config
 no-config = record { state = 0; head = 0; symbol = 0 }
 
 -- a refused call gives number and place, and no verdict; an answered one gives refusal 0
-abbrev pub refused : Refusal → Reply
-refused f = record { refusal = f .number; place = f .place; verdict = 0; count = 0; end = no-config }
+abbrev pub refusal-reply : Refusal → Reply
+refusal-reply f = record { refusal = f .number; place = f .place; verdict = 0; count = 0; end = no-config }
 
-abbrev pub answered : (verdict count : ℕ) → Config → Reply
-answered v n c = record { refusal = 0; place = 0; verdict = v; count = n; end = c }
+abbrev pub answer-reply : (verdict count : ℕ) → Config → Reply
+answer-reply v n c = record { refusal = 0; place = 0; verdict = v; count = n; end = c }
 
 -- an answer that is a count alone
-abbrev pub counted : (count : ℕ) → Reply
-counted n = answered 0 n no-config
+abbrev pub count-reply : (count : ℕ) → Reply
+count-reply n = answer-reply 0 n no-config
 
 -- THE CHECK of an image, or of a grammar
 unfoldable pub of-checked : Checked → Reply
-of-checked Good = counted 0
-of-checked (Refused f) = refused f
+of-checked Good = count-reply 0
+of-checked (Refused f) = refusal-reply f

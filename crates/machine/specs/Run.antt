@@ -4,8 +4,11 @@ use mathlib.Core.List.{List, [], _∷_}
 use mathlib.Core.Option.{Option, none, some}
 use Prim.Native.Nat.{ℕ, zero, suc, _+_, _*_, _/_, _%_, _<_}
 use Rattle.machine.specs.declared.Config.{Config}
-use Rattle.machine.specs.declared.Sizes.{Sizes}
 use Rattle.machine.specs.declared.Action.{Action}
+use Rattle.machine.specs.declared.Reason.{Reason}
+use Rattle.machine.specs.declared.Reason.the-variants.{Missing}
+use Rattle.machine.specs.declared.Halt.{Halt}
+use Rattle.machine.specs.declared.Halt.the-variants.{Over, Stopped}
 use Rattle.machine.specs.declared.Action.the-variants.{Stop, Change, Push, Pop}
 
 abbrev pub config : (state head symbol : ℕ) → Config
@@ -19,20 +22,20 @@ pub record Machine : Type 0 where
   pub action : Config → Action
   pub accepting : (state head : ℕ) → Bool
 
--- a configuration's number: (p (n + 2) + i) G + A
+-- a configuration's number, by the counts of tape places and symbols: (p (n + 2) + i) G + A
+unfoldable pub number-by : (places symbols : ℕ) → Config → ℕ
+number-by m g c = (c .state * m + c .head) * g + c .symbol
+
 unfoldable pub number : Machine → Config → ℕ
-number M c = (c .state * M .places + c .head) * M .symbols + c .symbol
+number M c = number-by (M .places) (M .symbols) c
+
+-- the configuration of a number
+unfoldable pub config-by : (places symbols : ℕ) → (number : ℕ) → Config
+config-by m g k = config (k / g / m) (k / g % m) (k % g)
 
 -- N, the count of configurations
 unfoldable pub how-many : Machine → ℕ
 how-many M = M .states * M .places * M .symbols
-
--- a configuration's number by the counts that a lookup keeps, and the configuration of a number
-unfoldable pub config-number : Sizes → Config → ℕ
-config-number s c = (c .state * s .places + c .head) * s .symbols + c .symbol
-
-unfoldable pub config-from : Sizes → (number : ℕ) → Config
-config-from s k = config (k / s .symbols / s .places) (k / s .symbols % s .places) (k % s .symbols)
 
 pub record There (M : Machine) (c : Config) : Type 0 where
   pub state-below : c .state < M .states
@@ -55,9 +58,9 @@ entry a i = record { symbol = a; pointer = i }
 abbrev pub instant : (state head : ℕ) → List Entry → Instant
 instant p i es = record { state = p; head = i; stack = es }
 
--- one step: stuck, over with the last entry gone, or on
+-- one step: a rule stops the run, it is over with the last entry gone, or it is on
 pub data Outcome : Type 0 where
-  stuck : Outcome
+  stopped : Reason → Outcome
   over : (state head : ℕ) → Outcome
   next : Instant → Outcome
 
@@ -66,14 +69,14 @@ abbrev pub returned : (returns : Bool) → (pointer head : ℕ) → ℕ
 returned b i j = cond b i j
 
 unfoldable pub step-by : Action → (head : ℕ) → Entry → List Entry → Outcome
-step-by Stop i e es = stuck
+step-by (Stop r) i e es = stopped r
 step-by (Change c) i e es = next (instant (c .state) (c .head) (entry (c .symbol) (e .pointer) ∷ es))
 step-by (Push c) i e es = next (instant (c .state) (c .head) (entry (c .symbol) (c .head) ∷ e ∷ es))
 step-by (Pop p r) i e [] = over p (returned r (e .pointer) i)
 step-by (Pop p r) i e (f ∷ es) = next (instant p (returned r (e .pointer) i) (f ∷ es))
 
 unfoldable pub step-on : Machine → (state head : ℕ) → List Entry → Outcome
-step-on M p i [] = stuck
+step-on M p i [] = stopped Missing
 step-on M p i (e ∷ es) = step-by (M .action (config p i (e .symbol))) i e es
 
 unfoldable pub step : Machine → Instant → Outcome
@@ -82,9 +85,15 @@ step M x = step-on M (x .state) (x .head) (x .stack)
 unfoldable pub start : Instant
 start = instant 0 0 (entry 0 0 ∷ [])
 
+-- how a run halts there, if it does
+unfoldable pub halt : Machine → Outcome → Option Halt
+halt M (stopped r) = some (Stopped r)
+halt M (over p i) = some (Over (M .accepting p i))
+halt M (next y) = none
+
 -- where a run is after so many steps, if it goes on so far
 unfoldable pub only-next : Outcome → Option Instant
-only-next stuck = none
+only-next (stopped r) = none
 only-next (over p i) = none
 only-next (next y) = some y
 

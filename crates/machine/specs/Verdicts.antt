@@ -1,15 +1,19 @@
 -- What a run enters, terminators, verdicts with their end configurations, and notes; all of the run alone. Assumes nothing: these are definitions.
 use mathlib.Core.Path.{_≡_}
-use mathlib.Core.Bool.{true, false, cond}
+use mathlib.Core.Bool.{cond}
 use mathlib.Core.List.{List, [], _∷_, List·Memᴰ}
 use mathlib.Core.Option.{some}
 use Prim.Native.Nat.{ℕ, zero, suc, _+_, _<_, _≤_}
 use lib.Dec.{eqb}
 use lib.ListN.{length, getD}
 use Rattle.machine.specs.declared.Config.{Config}
+use Rattle.machine.specs.declared.Note.{Note}
+use Rattle.machine.specs.declared.Note.the-variants.{Unseen, Open, Closed}
 use Rattle.machine.specs.declared.Verdict.{Verdict}
-use Rattle.machine.specs.declared.Verdict.the-variants.{Accepted, Ended, Stuck, Looping, Spent, Deep}
-use Rattle.machine.specs.Run.{Machine, There, Instant, instant, entry, stuck, over, step, start, after, config-of, number}
+use Rattle.machine.specs.declared.Halt.{Halt}
+use Rattle.machine.specs.declared.Verdict.the-variants.{Looping}
+use Rattle.machine.specs.Halting.{halt-verdict}
+use Rattle.machine.specs.Run.{Machine, There, Instant, instant, entry, over, step, start, halt, after, config-of, number}
 
 -- ENTERED: the run is in it after some number of steps
 pub record Entered (M : Machine) (c : Config) : Type 0 where
@@ -36,20 +40,13 @@ Ends-at M c d = Ends-with M c 0 d
 abbrev pub No-end : Machine → Config → Type 0
 No-end M c = (d : Config) → Ends-at M c d → ⊥
 
--- VERDICTS. The run is over: d popped the last entry, with state p and head i then
-pub record Over (M : Machine) (d : Config) (p i : ℕ) : Type 0 where
+-- VERDICTS. The run halts at d, in the way h
+pub record Halts-at (M : Machine) (d : Config) (h : Halt) : Type 0 where
   pub steps : ℕ
   pub place : Instant
   pub reached : after steps M start ≡ some place
   pub is : config-of place ≡ d
-  pub last : step M place ≡ over p i
-
-pub record Stuck-at (M : Machine) (d : Config) : Type 0 where
-  pub steps : ℕ
-  pub place : Instant
-  pub reached : after steps M start ≡ some place
-  pub is : config-of place ≡ d
-  pub last : step M place ≡ stuck
+  pub last : halt M (step M place) ≡ some h
 
 abbrev pub Goes-on : Machine → Type 0
 Goes-on M = (n : ℕ) → (x : Instant) × (after n M start ≡ some x)
@@ -71,23 +68,31 @@ pub record First-again (M : Machine) (d : Config) : Type 0 where
   pub first : (j : ℕ) → j < at-step → Again M j → ⊥
   pub is : config-of (again .now-at) ≡ d
 
--- for looping d is the first configuration to come again; spent and deep are no verdicts of a run
-abbrev pub Says : Machine → Verdict → Config → Type 0
-Says M Accepted d = (p : ℕ) × (i : ℕ) × Over M d p i × (M .accepting p i ≡ true)
-Says M Ended d = (p : ℕ) × (i : ℕ) × Over M d p i × (M .accepting p i ≡ false)
-Says M Stuck d = Stuck-at M d
-Says M Looping d = Goes-on M × First-again M d
-Says M Spent d = ⊥
-Says M Deep d = ⊥
+-- a run's verdict v and end configuration d: the run halts at d, and v is the verdict of how it halts; or it goes on for ever, d is the first configuration to come again, and v is looping
+pub data Says (M : Machine) (v : Verdict) (d : Config) : Type 0 where
+  halts : {h : Halt} → Halts-at M d h → v ≡ halt-verdict h → Says M v d
+  loops : Goes-on M → First-again M d → v ≡ Looping → Says M v d
 
--- NOTES, the memo table: 0 never entered, 1 entered without a terminator, else 2 and the terminator's number
-pub data Note (M : Machine) (c : Config) : (cell : ℕ) → Type 0 where
-  never : (Entered M c → ⊥) → Note M c 0
-  unended : Entered M c → No-end M c → Note M c 1
-  ended : {d : Config} → Entered M c → There M d → Ends-at M c d → Note M c (2 + number M d)
+-- NOTES, the memo table. What a cell says: 0 unseen, 1 open, else 2 more than the number that the note is closed with
+unfoldable pub note-of : (cell : ℕ) → Note
+note-of zero = Unseen
+note-of (suc zero) = Open
+note-of (suc (suc k)) = Closed k
+
+-- and back
+unfoldable pub note-cell : Note → ℕ
+note-cell Unseen = 0
+note-cell Open = 1
+note-cell (Closed k) = k + 2
+
+-- a note is right: unseen if never entered, open if entered and without a terminator, else closed with the terminator's number
+pub data Note-right (M : Machine) (c : Config) : Note → Type 0 where
+  never : (Entered M c → ⊥) → Note-right M c Unseen
+  unended : Entered M c → No-end M c → Note-right M c Open
+  ended : {d : Config} → Entered M c → There M d → Ends-at M c d → Note-right M c (Closed (number M d))
 
 abbrev pub Noted : Machine → (notes : List ℕ) → Type 0
-Noted M notes = (c : Config) → There M c → Note M c (getD notes (number M c) 0)
+Noted M notes = (c : Config) → There M c → Note-right M c (note-of (getD notes (number M c) 0))
 
 -- READINGS: how many of the first so many notes are not 0
 unfoldable pub nonzero : (count : ℕ) → List ℕ → ℕ

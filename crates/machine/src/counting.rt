@@ -2,7 +2,7 @@
 use crate::Selector;
 ghost use mathlib.Core.Path.{_≡_};
 ghost use Prim.Native.Nat.{_<_};
-ghost use Rattle.machine.specs.Counting.{first-selector, next-selector, Counts-on};
+ghost use Rattle.machine.specs.code.Counting.{first-selector, next-selector, Counts-on};
 
 // What selects the rule with index 0.
 pub fn first() -> Selector

@@ -34,6 +34,28 @@ pub const ZERO_OFFSET: usize = 27;
 // A rule is four bytes: kind, state, symbol, move.
 pub const RULE_LENGTH: usize = 4;
 
+// Its kinds.
+pub const KIND_NONE: u8 = 0;
+
+pub const KIND_CHANGE: u8 = 1;
+
+pub const KIND_PUSH: u8 = 2;
+
+pub const KIND_POP: u8 = 3;
+
+// The directions of a change or a push.
+pub const MOVE_STAY: u8 = 0;
+
+pub const MOVE_RIGHT: u8 = 1;
+
+pub const MOVE_LEFT: u8 = 2;
+
+// The directions of a pop: the head stays, or returns to the entry's pointer.
+pub const POP_STAY: u8 = 0;
+
+pub const POP_RETURN: u8 = 1;
+
+// Limits.
 pub const MAX_STATES: u8 = 32;
 
 pub const MAX_CLASSES: u8 = 64;

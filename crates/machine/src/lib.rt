@@ -2,8 +2,9 @@
 // Everything that runs a machine stands on these types.
 pub mod counting;
 pub mod format;
-pub mod little_endian;
+pub mod halting;
 pub mod lookup;
+pub mod notes;
 
 // A surface configuration: state p, head i, top symbol A.
 pub struct Config {
@@ -12,22 +13,38 @@ pub struct Config {
     pub symbol: u32,
 }
 
+// Why a rule stops a run: there is none.
+pub enum Reason {
+    Missing,
+}
+
 // What a configuration's rule does. A change and a push name the configuration that they lead to.
 pub enum Action {
-    Stop,
+    Stop(Reason),
     Change(Config),
     Push(Config),
     Pop { state: u32, returns: bool },
 }
 
-// How a run ends, or why it was broken off.
+// How a run halts: its last entry is popped, or a rule stops it.
+pub enum Halt {
+    Over { accepting: bool },
+    Stopped(Reason),
+}
+
+// How a run ends.
 pub enum Verdict {
     Accepted,
     Ended,
     Stuck,
     Looping,
-    Spent,
-    Deep,
+}
+
+// What a note's cell says of its configuration: never looked at, looked at and without a known terminator, or closed with its terminator's number.
+pub enum Note {
+    Unseen,
+    Open,
+    Closed(u32),
 }
 
 // A refusal: its number in the table of refusals, and the place that it blames.

@@ -1,26 +1,25 @@
 // Lookups: what an image says of one configuration. Each is a few reads; none has a loop.
 use crate::Action;
 use crate::Config;
+use crate::Reason;
 use crate::Sizes;
-use crate::Verdict;
 use crate::format::CLASSES_OFFSET;
 use crate::format::FINALS_OFFSET;
 use crate::format::MAP_OFFSET;
 use crate::format::RULE_LENGTH;
 use crate::format::RULES_OFFSET;
 use crate::format::SYMBOLS_OFFSET;
-use crate::little_endian::four;
+use codec::read_u32;
 ghost use mathlib.Core.Path.{_≡_};
-ghost use mathlib.Core.Bool.{_&&_, cond};
-ghost use Prim.Native.Nat.{_+_, _*_, _/_, _%_, _^_, _<_, _≤_};
-ghost use lib.Dec.{eqb};
+ghost use Prim.Native.Nat.{_+_, _*_, _<_, _≤_};
 ghost use lib.ListN.{length};
-ghost use Rattle.machine.specs.Format.{finals-offset, rules-offset};
-ghost use Rattle.machine.specs.Run.{config-number, config-from, returned as returned-to};
-ghost use Rattle.machine.specs.declared.Verdict.the-variants.{Accepted, Ended};
-ghost use Rattle.machine.specs.Image.{four as four-of, sizes-of, class-under, rule-from, moved, led-to, action-by, action};
+ghost use Rattle.machine.specs.Format;
+ghost use Rattle.machine.specs.Halting.{accepts-by};
+ghost use Rattle.machine.specs.Run.{returned as returned-to, number-by, config-by};
+ghost use Rattle.codec.specs.Numbers.{u32-at};
+ghost use Rattle.machine.specs.Image.{sizes-of, class-under, rule-from, moved, led-to, action-by, action};
 ghost use Rattle.machine.specs.Refusals.{Unrefused};
-ghost use Rattle.machine.specs.Lookup.{Counted, Lookup-ready, Digits-fit, Head-moves, Rule-ready};
+ghost use Rattle.machine.specs.code.Lookup.{Counted, Lookup-ready, Digits-fit, offset-by, Head-moves, Rule-ready};
 
 // A byte as a number of 32 bits.
 fn wide(b: u8) -> u32
@@ -45,10 +44,10 @@ pub fn sizes_of(image: &[u8], capture: &[u8]) -> Sizes
 
 // The final states, a bit for each.
 pub fn finals_of(image: &[u8]) -> u32
-    requires { ⌜ 32 ≤ length (now image) ⌝ }
-    ensures { λ r. ⌜ r ≡ four-of (now (image .entry)) finals-offset ⌝ }
+    requires { ⌜ Format.map-offset ≤ length (now image) ⌝ }
+    ensures { λ r. ⌜ r ≡ u32-at (now (image .entry)) Format.finals-offset ⌝ }
 {
-    four(image, FINALS_OFFSET)
+    read_u32(image, FINALS_OFFSET)
 }
 
 // The class under the head: K on the left marker, K + 1 on the right one.
@@ -80,7 +79,7 @@ fn of_digits(p: u32, i: u32, a: u32, m: u32, g: u32) -> u32
 // Where the rule for a state, a class and a symbol stands.
 fn rule_offset(sizes: Sizes, state: u32, class: u32, symbol: u32) -> usize
     requires { ⌜ Digits-fit state class symbol (sizes .classes + 2) (sizes .symbols) ⌝ }
-    ensures { λ r. ⌜ r ≡ rules-offset + 4 * ((state * (sizes .classes + 2) + class) * sizes .symbols + symbol) ⌝ }
+    ensures { λ r. ⌜ r ≡ offset-by sizes state class symbol ⌝ }
 {
     let lines = sizes.classes + 2;
     let index = of_digits(state, class, symbol, lines, sizes.symbols);
@@ -130,7 +129,7 @@ fn action_at(image: &[u8], offset: usize, head: u32) -> Action
         let returns = image[offset + 3] == 1;
         return Action::Pop { state, returns };
     }
-    Action::Stop
+    Action::Stop(Reason::Missing)
 }
 
 // What a configuration's rule does. It reads that one rule and no count.
@@ -145,9 +144,9 @@ pub fn action_of(image: &[u8], capture: &[u8], sizes: Sizes, c: Config) -> Actio
 }
 
 // Whether a run that ends with this state and head accepts.
-fn accepts(finals: u32, places: u32, state: u32, head: u32) -> bool
-    requires { ⌜ (state < 32) × (head < 65537) ⌝ }
-    ensures { λ r. ⌜ r ≡ (eqb (finals / 2 ^ state % 2) 1 && eqb (head + 1) places) ⌝ }
+pub fn accepts(finals: u32, places: u32, state: u32, head: u32) -> bool
+    requires { ⌜ (state < Format.max-states) × (head < Format.max-places) ⌝ }
+    ensures { λ r. ⌜ r ≡ accepts-by finals places state head ⌝ }
 {
     let bit = (finals >> state) % 2;
     let next = head + 1;
@@ -157,7 +156,7 @@ fn accepts(finals: u32, places: u32, state: u32, head: u32) -> bool
 // A configuration's number.
 pub fn number(sizes: Sizes, c: Config) -> u32
     requires { ⌜ Digits-fit (c .state) (c .head) (c .symbol) (sizes .places) (sizes .symbols) ⌝ }
-    ensures { λ r. ⌜ r ≡ config-number sizes c ⌝ }
+    ensures { λ r. ⌜ r ≡ number-by (sizes .places) (sizes .symbols) c ⌝ }
 {
     of_digits(c.state, c.head, c.symbol, sizes.places, sizes.symbols)
 }
@@ -165,7 +164,7 @@ pub fn number(sizes: Sizes, c: Config) -> u32
 // The configuration of a number.
 pub fn config_from(sizes: Sizes, k: u32) -> Config
     requires { ⌜ (0 < sizes .places) × (0 < sizes .symbols) ⌝ }
-    ensures { λ r. ⌜ r ≡ config-from sizes k ⌝ }
+    ensures { λ r. ⌜ r ≡ config-by (sizes .places) (sizes .symbols) k ⌝ }
 {
     let upper = k / sizes.symbols;
     let state = upper / sizes.places;
@@ -183,16 +182,4 @@ pub fn returned(returns: bool, pointer: u32, head: u32) -> u32
     ensures { λ x. ⌜ x ≡ returned-to returns pointer head ⌝ }
 {
     if returns { pointer } else { head }
-}
-
-// The verdict of a run that is over, by its last state and head.
-pub fn verdict_over(finals: u32, places: u32, state: u32, head: u32) -> Verdict
-    requires { ⌜ (state < 32) × (head < 65537) ⌝ }
-    ensures { λ x. ⌜ x ≡ cond (eqb (finals / 2 ^ state % 2) 1 && eqb (head + 1) places) Accepted Ended ⌝ }
-{
-    if accepts(finals, places, state, head) {
-        Verdict::Accepted
-    } else {
-        Verdict::Ended
-    }
 }

@@ -6,11 +6,12 @@ use native.Mathlib.Omega.{arith}
 use lib.ListN.{length, getD}
 use Rattle.machine.specs.declared.Config.{Config}
 use Rattle.machine.specs.declared.Verdict.{Verdict}
-use Rattle.machine.specs.declared.Verdict.the-variants.{Accepted, Ended, Stuck, Looping, Spent, Deep}
+use Rattle.machine.specs.declared.Verdict.the-variants.{Accepted, Ended, Stuck, Looping}
 use Rattle.machine.specs.Run.{Machine, start}
 use Rattle.machine.specs.Image.{machine}
 use Rattle.machine.specs.Verdicts.{Says}
 use Rattle.machine.specs.Replies.{verdict-number}
+use Rattle.simulator.specs.declared.Judgement.{Judgement}
 use Rattle.simulator.specs.declared.Judged.{Judged}
 use Rattle.simulator.specs.declared.Judged.the-variants.{Answer, Refused}
 use Rattle.simulator.specs.Calls.{Judge-says}
@@ -21,7 +22,7 @@ use Rattle.interpreter.specs.Replies.{of-ran}
 use Rattle.interpreter.proofs.Answered.{run-refused, run-answered, run-holds}
 use Rattle.grammar.specs.Replies.{of-built}
 use Rattle.grammar.proofs.Answered.{build-refused}
-use Rattle.answer.specs.Text.{Lined}
+use Rattle.text.specs.Line.{Lined}
 use Rattle.answer.specs.Calls.{Answer-says}
 use Rattle.answer.proofs.Answered.{input-refused}
 use Rattle.sejimakpu.specs.Cells.{cells}
@@ -53,7 +54,8 @@ pub judge-answers : Judge-answers
 unfolding of-judged
 judge-answers bs cs r a a-now b b-now fine says =
     let x = judged-right bs cs r a a-now b b-now fine says in
-    (x .verdict, x .readings, x .end, x .answers, ap of-judged (x .answers))
+    let j = x .judgement in
+    (j .verdict, j .readings, j .end, x .answers, ap of-judged (x .answers))
 
 pub run-answers : Run-answers
 unfolding of-ran
@@ -68,24 +70,23 @@ only-accepted Accepted e = refl
 only-accepted Ended e = absurd (omega arith)
 only-accepted Stuck e = absurd (omega arith)
 only-accepted Looping e = absurd (omega arith)
-only-accepted Spent e = absurd (omega arith)
-only-accepted Deep e = absurd (omega arith)
 
 accepted-by :
     (bs cs notes notes-now work work-now : List ℕ) (r : Judged) → Judge-says bs cs r notes notes-now work work-now →
     of-judged r .verdict ≡ 1 → (of-judged r .refusal ≡ 0) × Says (machine bs cs) Accepted (of-judged r .end)
 unfolding of-judged
 accepted-by bs cs notes notes-now work work-now (Refused f) says e = absurd (omega arith)
-accepted-by bs cs notes notes-now work work-now (Answer v n d) says e =
-    let right = judged-right bs cs (Answer v n d) notes notes-now work work-now (answered-fine bs cs notes notes-now work work-now v n d says) says in
-    (refl, accepted-said (machine bs cs) v (right .verdict) n (right .readings) d (right .end) (only-accepted v e) (right .answers) (right .says))
+accepted-by bs cs notes notes-now work work-now (Answer j) says e =
+    let fine = answered-fine bs cs notes notes-now work work-now (j .verdict) (j .readings) (j .end) says in
+    let right = judged-right bs cs (Answer j) notes notes-now work work-now fine says in
+    (refl, accepted-said (machine bs cs) j (right .judgement) (only-accepted (j .verdict) e) (right .answers) (right .right .says))
   where
     accepted-said :
-        (M : Machine) (v w : Verdict) (n m : ℕ) (d e : Config) → v ≡ Accepted → Answer v n d ≡ Answer w m e → Says M w e → Says M Accepted d
-    accepted-said M v w n m d e p q s =
-        let verdicts : w ≡ Accepted = cc in
-        let ends : d ≡ e = cc in
-        rw ends (subst (λ (u : Verdict). Says M u e) verdicts s)
+        (M : Machine) (j k : Judgement) → j .verdict ≡ Accepted → Answer j ≡ Answer k → Says M (k .verdict) (k .end) →
+        Says M Accepted (j .end)
+    accepted-said M j k p q s =
+        let same : k ≡ j = cc in
+        subst (λ (v : Verdict). Says M v (j .end)) p (subst (λ (x : Judgement). Says M (x .verdict) (x .end)) same s)
 
 pub accepted-told : Accepted-told
 unfolding cells

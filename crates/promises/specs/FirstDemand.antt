@@ -9,7 +9,7 @@ use Rattle.machine.specs.Refusals.{refusal, image-refusal, capture-refusal}
 use Rattle.machine.specs.Conditions.{Image-row, Capture-row}
 use Rattle.machine.specs.Run.{how-many}
 use Rattle.machine.specs.Image.{machine}
-use Rattle.machine.specs.Replies.{refused}
+use Rattle.machine.specs.Replies.{refusal-reply}
 use Rattle.simulator.specs.declared.Judged.{Judged}
 use Rattle.simulator.specs.Calls.{judge-refusal, Judge-says}
 use Rattle.simulator.specs.Conditions.{Judging-row}
@@ -24,7 +24,7 @@ use Rattle.grammar.specs.Conditions.{Grammar-row, Building-row}
 use Rattle.grammar.specs.Image.{built-length}
 use Rattle.grammar.specs.Calls.{build-refusal, Build-says}
 use Rattle.grammar.specs.Replies.{of-built}
-use Rattle.answer.specs.Text.{refusal-line, Lined}
+use Rattle.text.specs.Line.{refusal-line, Lined}
 use Rattle.answer.specs.Input.{input-refusal, input-grammar, input-capture}
 use Rattle.answer.specs.Conditions.{Input-row, Answering-row}
 use Rattle.answer.specs.Calls.{Lent, answer-refusal, Answer-says, Same-room, Same-cells}
@@ -61,17 +61,17 @@ abbrev pub Judge-refuses : Type 0
 Judge-refuses =
     (bs cs : List ℕ) (r : Judged) (a a-now b b-now : List ℕ) → Judge-says bs cs r a a-now b b-now →
     (judge-refusal bs cs (length a) (length b) .number ≡ 0 → ⊥) →
-    (of-judged r ≡ refused (judge-refusal bs cs (length a) (length b))) × (a-now ≡ a) × (b-now ≡ b)
+    (of-judged r ≡ refusal-reply (judge-refusal bs cs (length a) (length b))) × (a-now ≡ a) × (b-now ≡ b)
 
 abbrev pub Run-refuses : Type 0
 Run-refuses =
     (bs cs : List ℕ) (budget : ℕ) (r : Ran) (a a-now : List ℕ) → Run-says bs cs budget r a a-now →
-    (run-refusal bs cs (length a) .number ≡ 0 → ⊥) → (of-ran r ≡ refused (run-refusal bs cs (length a))) × (a-now ≡ a)
+    (run-refusal bs cs (length a) .number ≡ 0 → ⊥) → (of-ran r ≡ refusal-reply (run-refusal bs cs (length a))) × (a-now ≡ a)
 
 abbrev pub Build-refuses : Type 0
 Build-refuses =
     (gs : List ℕ) (r : Built) (a a-now : List ℕ) → Build-says gs r a a-now → (build-refusal gs (length a) .number ≡ 0 → ⊥) →
-    (of-built r ≡ refused (build-refusal gs (length a))) × (a-now ≡ a)
+    (of-built r ≡ refusal-reply (build-refusal gs (length a))) × (a-now ≡ a)
 
 abbrev pub Answer-refuses : Type 0
 Answer-refuses =

@@ -11,18 +11,19 @@ use Rattle.machine.specs.declared.Verdict.{Verdict}
 use Rattle.machine.specs.declared.Verdict.the-variants.{Accepted, Ended, Stuck, Looping}
 use Rattle.machine.specs.Format.{max-capture}
 use Rattle.machine.specs.Run.{Machine, start, how-many}
-use Rattle.machine.specs.Image.{Bytes, machine}
+use Rattle.codec.specs.Bytes.{Bytes}
+use Rattle.machine.specs.Image.{machine}
 use Rattle.machine.specs.Verdicts.{Says, Goes-on}
 use Rattle.machine.specs.Refusals.{Unrefused, image-refusal}
-use Rattle.machine.specs.Replies.{verdict-number, answered}
+use Rattle.machine.specs.Replies.{verdict-number, answer-reply}
 use Rattle.simulator.specs.declared.Judged.{Judged}
 use Rattle.simulator.specs.declared.Judged.the-variants.{Answer}
-use Rattle.simulator.specs.Calls.{cells-needed, judge-refusal, Judge-says}
+use Rattle.simulator.specs.Calls.{cells-needed, judgement, judge-refusal, Judge-says}
 use Rattle.simulator.specs.Replies.{of-judged}
 use Rattle.interpreter.specs.declared.Ran.{Ran}
 use Rattle.interpreter.specs.PlainRun.{Run-end, run-on, True-end}
 use Rattle.interpreter.specs.Calls.{run-refusal, Run-says}
-use Rattle.interpreter.specs.Replies.{of-ran}
+use Rattle.interpreter.specs.Replies.{exit-number, of-ran}
 use Rattle.grammar.specs.declared.Built.{Built}
 use Rattle.grammar.specs.declared.Built.the-variants.{Image}
 use Rattle.grammar.specs.Grammar.{expression, grammar-refusal}
@@ -45,18 +46,18 @@ abbrev pub Judge-answers : Type 0
 Judge-answers =
     (bs cs : List ℕ) (r : Judged) (a a-now b b-now : List ℕ) → judge-refusal bs cs (length a) (length b) .number ≡ 0 →
     Judge-says bs cs r a a-now b b-now →
-    (v : Verdict) × (n : ℕ) × (d : Config) × (r ≡ Answer v n d) × (of-judged r ≡ answered (verdict-number v) n d)
+    (v : Verdict) × (n : ℕ) × (d : Config) × (r ≡ Answer (judgement v n d)) × (of-judged r ≡ answer-reply (verdict-number v) n d)
 
 -- ACCEPTED, ENDED, STUCK, LOOPING EXACTLY WHERE THE RUN ENDS SO, and at the run's end configuration
 abbrev pub Judge-exact : Type 0
 Judge-exact =
-    (bs cs a a-now b b-now : List ℕ) (v : Verdict) (n : ℕ) (d : Config) → Bytes cs → Judge-says bs cs (Answer v n d) a a-now b b-now →
+    (bs cs a a-now b b-now : List ℕ) (v : Verdict) (n : ℕ) (d : Config) → Bytes cs → Judge-says bs cs (Answer (judgement v n d)) a a-now b b-now →
     (w : Verdict) (e : Config) → Says (machine bs cs) w e ↔ (w ≡ v) × (e ≡ d)
 
 -- LOOPING ONLY WHERE IT HAS NO END, and always there
 abbrev pub Looping-endless : Type 0
 Looping-endless =
-    (bs cs a a-now b b-now : List ℕ) (v : Verdict) (n : ℕ) (d : Config) → Bytes cs → Judge-says bs cs (Answer v n d) a a-now b b-now →
+    (bs cs a a-now b b-now : List ℕ) (v : Verdict) (n : ℕ) (d : Config) → Bytes cs → Judge-says bs cs (Answer (judgement v n d)) a a-now b b-now →
     (v ≡ Looping) ↔ Goes-on (machine bs cs)
 
 -- A MACHINE BUILT FROM A GRAMMAR is never refused,
@@ -108,7 +109,7 @@ abbrev pub Run-answers : Type 0
 Run-answers =
     (bs cs : List ℕ) (budget : ℕ) (r : Ran) (a a-now : List ℕ) → run-refusal bs cs (length a) .number ≡ 0 →
     Run-says bs cs budget r a a-now →
-    (e : Run-end) × (of-ran r ≡ answered (verdict-number (e .verdict)) (e .steps) (e .reached)) × True-end (machine bs cs) budget (length a) e
+    (e : Run-end) × (of-ran r ≡ answer-reply (exit-number (e .exit)) (e .steps) (e .reached)) × True-end (machine bs cs) budget (length a) e
     × (a-now ≡ replicate (length a) 0)
 
 -- ONE MEANING FOR TWO FORMULAS: an image's length and N, by the numbers that a call works with

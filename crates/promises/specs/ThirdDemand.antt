@@ -8,23 +8,24 @@ use Rattle.machine.specs.declared.Config.{Config}
 use Rattle.machine.specs.declared.Verdict.{Verdict}
 use Rattle.machine.specs.Format
 use Rattle.machine.specs.Run.{Machine, There, Entry, start, after, number, how-many}
-use Rattle.machine.specs.Image.{Bytes, four, sizes-of, machine}
-use Rattle.machine.specs.Verdicts.{Entered, over-base, Ends-with, Ends-at, Note, Noted, nonzero, All-entered}
-use Rattle.machine.specs.Removal.{Removed, Tells}
+use Rattle.codec.specs.Bytes.{Bytes}
+use Rattle.codec.specs.Numbers.{u32-at}
+use Rattle.machine.specs.Image.{machine}
+use Rattle.machine.specs.Verdicts.{Entered, over-base, Ends-with, Ends-at, Noted, nonzero, All-entered, note-of, Note-right}
+use Rattle.machine.specs.Removal.{Removed, Note-tells}
 use Rattle.machine.specs.Implications.{Noted-by-implication}
 use Rattle.machine.specs.Refusals.{Unrefused}
-use Rattle.chain.specs.declared.Record.{Record}
-use Rattle.chain.specs.Ready.{start-record}
-use Rattle.chain.specs.Chain.{Judges, begin-record, chain, reached}
+use Rattle.chain.specs.declared.JudgeState.{JudgeState}
+use Rattle.chain.specs.Chain.{Chain-correct, start-in, environment-of, start-state, chain, reached}
 use Rattle.simulator.specs.declared.Judged.the-variants.{Answer}
-use Rattle.simulator.specs.Calls.{Chain-ends, Judge-says}
+use Rattle.simulator.specs.Calls.{judgement, Chain-ends, Judge-says}
 use Rattle.grammar.specs.Grammar.{rules, grammar-refusal}
 use Rattle.grammar.specs.Image.{built}
 
 -- READINGS ARE EXACTLY THE NUMBER OF DIFFERENT CONFIGURATIONS THAT THE RUN ENTERS, endless runs included: the length of a list without repeats of exactly those; every such list is as long; and as many notes are not 0
 abbrev pub Readings-entered : Type 0
 Readings-entered =
-    (bs cs a a-now b b-now : List ℕ) (v : Verdict) (n : ℕ) (d : Config) → Bytes cs → Judge-says bs cs (Answer v n d) a a-now b b-now →
+    (bs cs a a-now b b-now : List ℕ) (v : Verdict) (n : ℕ) (d : Config) → Bytes cs → Judge-says bs cs (Answer (judgement v n d)) a a-now b b-now →
     All-entered (machine bs cs) n
 
 abbrev pub One-count : Type 0
@@ -33,7 +34,7 @@ One-count =
 
 abbrev pub Readings-noted : Type 0
 Readings-noted =
-    (bs cs a a-now b b-now : List ℕ) (v : Verdict) (n : ℕ) (d : Config) → Bytes cs → Judge-says bs cs (Answer v n d) a a-now b b-now →
+    (bs cs a a-now b b-now : List ℕ) (v : Verdict) (n : ℕ) (d : Config) → Bytes cs → Judge-says bs cs (Answer (judgement v n d)) a a-now b b-now →
     n ≡ nonzero (how-many (machine bs cs)) a-now
 
 -- FOR A GRAMMAR of m rules and n bytes at most 6 m (n + 1) + 2
@@ -51,27 +52,27 @@ Entered-numbered =
 -- for each one entered the note names the one that pops its entry, or that none does,
 abbrev pub Notes-left : Type 0
 Notes-left =
-    (bs cs a a-now b b-now : List ℕ) (v : Verdict) (n : ℕ) (d : Config) → Bytes cs → Judge-says bs cs (Answer v n d) a a-now b b-now →
-    (c : Config) → Entered (machine bs cs) c → Note (machine bs cs) c (getD a-now (number (machine bs cs) c) 0)
+    (bs cs a a-now b b-now : List ℕ) (v : Verdict) (n : ℕ) (d : Config) → Bytes cs → Judge-says bs cs (Answer (judgement v n d)) a a-now b b-now →
+    (c : Config) → Entered (machine bs cs) c → Note-right (machine bs cs) c (note-of (getD a-now (number (machine bs cs) c) 0))
 
 -- and every other is marked as never entered
 abbrev pub Others-zero : Type 0
 Others-zero =
-    (bs cs a a-now b b-now : List ℕ) (v : Verdict) (n : ℕ) (d : Config) → Bytes cs → Judge-says bs cs (Answer v n d) a a-now b b-now →
+    (bs cs a a-now b b-now : List ℕ) (v : Verdict) (n : ℕ) (d : Config) → Bytes cs → Judge-says bs cs (Answer (judgement v n d)) a a-now b b-now →
     (c : Config) → There (machine bs cs) c → (Entered (machine bs cs) c → ⊥) → getD a-now (number (machine bs cs) c) 0 ≡ 0
 
 -- a note speaks of the run itself: each time that the run enters its configuration, of the entry then on top
 abbrev pub Notes-tell : Type 0
 Notes-tell =
-    (bs cs a a-now b b-now : List ℕ) (v : Verdict) (n : ℕ) (d : Config) → Bytes cs → Judge-says bs cs (Answer v n d) a a-now b b-now →
+    (bs cs a a-now b b-now : List ℕ) (v : Verdict) (n : ℕ) (d : Config) → Bytes cs → Judge-says bs cs (Answer (judgement v n d)) a a-now b b-now →
     (m i : ℕ) (c : Config) (base : List Entry) → after m (machine bs cs) start ≡ some (over-base c i base) →
-    Tells (machine bs cs) m i base (getD a-now (number (machine bs cs) c) 0)
+    Note-tells (machine bs cs) m i base (note-of (getD a-now (number (machine bs cs) c) 0))
 
 -- so does it in any machine, for each of its configurations
 abbrev pub Notes-of-run : Type 0
 Notes-of-run =
     (M : Machine) (notes : List ℕ) → Noted M notes → (n i : ℕ) (c : Config) (base : List Entry) → There M c →
-    after n M start ≡ some (over-base c i base) → Tells M n i base (getD notes (number M c) 0)
+    after n M start ≡ some (over-base c i base) → Note-tells M n i base (note-of (getD notes (number M c) 0))
 
 -- notes, one statement a cell, imply document 03's three implications
 abbrev pub Notes-imply : Type 0
@@ -96,30 +97,30 @@ Same-each-time =
 
 -- THE JUDGE'S OWN STEPS, one chain, reach the verdict within 4 r + 1, adding one to the readings exactly where a zero note turns nonzero,
 abbrev pub Chain-judges : Type 0
-Chain-judges = (bs cs : List ℕ) → Unrefused bs cs → Judges Record chain bs cs
+Chain-judges = (bs cs : List ℕ) → Unrefused bs cs → Chain-correct JudgeState chain bs cs
 
 -- from a start made without any rule or captured byte: of the counts' eight bytes and the capture's length,
 abbrev pub Start-made : Type 0
 Start-made =
     (bs cs : List ℕ) →
-    start-record (sizes-of bs cs) (four bs Format.finals-offset)
-    ≡ begin-record (take Format.counts-length (drop Format.counts-offset bs)) (length cs)
+    start-in (environment-of bs cs)
+    ≡ start-state (take Format.counts-length (drop Format.counts-offset bs)) (length cs)
 
 -- and the call's answer and notes are those that the chain ends with, within 4 r + 1 steps
 abbrev pub Judge-by-chain : Type 0
 Judge-by-chain =
-    (bs cs a a-now b b-now : List ℕ) (v : Verdict) (n : ℕ) (d : Config) → Bytes cs → Judge-says bs cs (Answer v n d) a a-now b b-now →
+    (bs cs a a-now b b-now : List ℕ) (v : Verdict) (n : ℕ) (d : Config) → Bytes cs → Judge-says bs cs (Answer (judgement v n d)) a a-now b b-now →
     Chain-ends bs cs v n d (take (how-many (machine bs cs)) a-now)
 
 -- the number itself: with n readings the chain's first verdict stands after 4 n + 1 steps at most, and it is the call's
 abbrev pub Few-steps : Type 0
 Few-steps =
-    (bs cs a a-now b b-now : List ℕ) (v : Verdict) (n : ℕ) (d : Config) → Bytes cs → Judge-says bs cs (Answer v n d) a a-now b b-now →
-    (k : ℕ) × (k ≤ 4 * n + 1) × (chain .verdict (reached chain bs cs k .now-at) ≡ some v)
-    × ((m : ℕ) → m < k → chain .verdict (reached chain bs cs m .now-at) ≡ none)
+    (bs cs a a-now b b-now : List ℕ) (v : Verdict) (n : ℕ) (d : Config) → Bytes cs → Judge-says bs cs (Answer (judgement v n d)) a a-now b b-now →
+    (k : ℕ) × (k ≤ 4 * n + 1) × (chain .verdict (reached chain bs cs k .state) ≡ some v)
+    × ((m : ℕ) → m < k → chain .verdict (reached chain bs cs m .state) ≡ none)
 
 -- THE FIRST N WORK CELLS ARE 0
 abbrev pub Work-cleared : Type 0
 Work-cleared =
-    (bs cs a a-now b b-now : List ℕ) (v : Verdict) (n : ℕ) (d : Config) → Bytes cs → Judge-says bs cs (Answer v n d) a a-now b b-now →
+    (bs cs a a-now b b-now : List ℕ) (v : Verdict) (n : ℕ) (d : Config) → Bytes cs → Judge-says bs cs (Answer (judgement v n d)) a a-now b b-now →
     take (how-many (machine bs cs)) b-now ≡ replicate (how-many (machine bs cs)) 0

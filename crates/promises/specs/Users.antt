@@ -7,13 +7,14 @@ use lib.ListN.{length, getD, take, drop}
 use Rattle.machine.specs.declared.Verdict.the-variants.{Accepted}
 use Rattle.machine.specs.Format.{max-capture}
 use Rattle.machine.specs.Run.{config, how-many}
-use Rattle.machine.specs.Image.{Bytes, machine}
+use Rattle.codec.specs.Bytes.{Bytes}
+use Rattle.machine.specs.Image.{machine}
 use Rattle.machine.specs.Verdicts.{Says}
 use Rattle.machine.specs.Refusals.{refusal, or-else, refuse-if}
 use Rattle.simulator.specs.Calls.{judge-refusal}
 use Rattle.grammar.specs.Grammar.{grammar-refusal}
 use Rattle.grammar.specs.Image.{built}
-use Rattle.answer.specs.Text.{line-feed, field, refused-word, max-line, Lined}
+use Rattle.text.specs.Line.{line-feed, field, refused-word, max-line, Lined}
 use Rattle.answer.specs.Input.{input-grammar, input-capture}
 use Rattle.answer.specs.Conditions.{Input-right, Input-parts}
 use Rattle.answer.specs.Calls.{Lent, answer-refusal, Input-says, Answer-says}

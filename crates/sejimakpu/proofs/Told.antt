@@ -4,11 +4,11 @@ use mathlib.Core.List.{List}
 use Prim.Native.Nat.{ℕ}
 use Rattle.machine.specs.declared.Reply.{Reply}
 use Rattle.machine.specs.declared.Config.{Config}
-use Rattle.machine.specs.Replies.{answered}
-use Rattle.sejimakpu.specs.Cells.{Tells}
+use Rattle.machine.specs.Replies.{answer-reply}
+use Rattle.sejimakpu.specs.Cells.{Reply-written}
 
-pub told-as : {p q : Reply} {r : ℕ} {answer : List ℕ} → p ≡ q → Tells p r answer → Tells q r answer
+pub told-as : {p q : Reply} {r : ℕ} {answer : List ℕ} → p ≡ q → Reply-written p r answer → Reply-written q r answer
 told-as e t = rw (← e) t
 
-pub numbered : {p : Reply} {v w n : ℕ} {end : Config} → v ≡ w → p ≡ answered v n end → p ≡ answered w n end
+pub numbered : {p : Reply} {v w n : ℕ} {end : Config} → v ≡ w → p ≡ answer-reply v n end → p ≡ answer-reply w n end
 numbered e h = rw (← e) h

@@ -8,6 +8,6 @@ use Rattle.machine.specs.declared.Reply.{Reply}
 unfoldable pub cells : Reply → List ℕ
 cells p = p .place ∷ p .verdict ∷ p .count ∷ p .end .state ∷ p .end .head ∷ p .end .symbol ∷ []
 
-pub record Tells (p : Reply) (returned : ℕ) (answer : List ℕ) : Type 0 where
+pub record Reply-written (p : Reply) (returned : ℕ) (answer : List ℕ) : Type 0 where
   pub number : returned ≡ p .refusal
   pub written : answer ≡ cells p

@@ -1,40 +1,34 @@
 // The library for C and Rust: each call on numbers and slices, its answer in six cells. include/sejimakpu.h declares these functions.
 // A slice is never null, not even an empty one: hence the names. The header's inline functions let C pass null with length 0.
-pub mod telling;
+pub mod reply;
 
 use grammar::build::build_image;
 use interpreter::plain_run;
+use reply::build_reply;
+use reply::cells_reply;
+use reply::check_reply;
+use reply::judge_reply;
+use reply::run_reply;
+use reply::write_reply;
 use simulator::judge::cells;
 use simulator::judge::judge;
-use telling::build_reply;
-use telling::cells_reply;
-use telling::check_reply;
-use telling::judge_reply;
-use telling::run_reply;
-use telling::tell;
 use validator::check::check_image;
-ghost use Rattle.machine.specs.Refusals.{image-refusal, capture-refusal};
-ghost use Rattle.machine.specs.Calls.{checked};
-ghost use Rattle.simulator.specs.Calls.{cells-needed, needs};
-ghost use Rattle.machine.specs.Replies.{of-checked};
-ghost use Rattle.simulator.specs.Replies.{of-needs};
-ghost use Rattle.sejimakpu.specs.Cells.{Tells};
-ghost use Rattle.sejimakpu.specs.Calls.{Judge-tells, Run-tells, Build-tells};
+ghost use Rattle.sejimakpu.specs.Calls.{Check-tells, Cells-tells, Judge-tells, Run-tells, Build-tells};
 
 // Whether an image is good.
 #[no_mangle]
 pub extern "C" fn sejimakpu_check_nonnull(image: &[u8], answer: &mut [u64; 6]) -> u32
-    ensures { λ r. ⌜ Tells (of-checked (checked (image-refusal (now (image .entry))))) r (now (answer .exit)) ⌝ }
+    ensures { λ r. ⌜ Check-tells (now (image .entry)) r (now (answer .exit)) ⌝ }
 {
-    tell(answer, check_reply(check_image(image)))
+    write_reply(answer, check_reply(check_image(image)))
 }
 
 // How many cells the judging of a capture of n bytes needs.
 #[no_mangle]
 pub extern "C" fn sejimakpu_cells_nonnull(image: &[u8], n: usize, answer: &mut [u64; 6]) -> u32
-    ensures { λ r. ⌜ Tells (of-needs (needs (capture-refusal (now (image .entry)) n) (cells-needed (now (image .entry)) n))) r (now (answer .exit)) ⌝ }
+    ensures { λ r. ⌜ Cells-tells (now (image .entry)) n r (now (answer .exit)) ⌝ }
 {
-    tell(answer, cells_reply(cells(image, n)))
+    write_reply(answer, cells_reply(cells(image, n)))
 }
 
 // Judging.
@@ -46,10 +40,12 @@ pub extern "C" fn sejimakpu_judge_nonnull(
     work: &mut [u32],
     answer: &mut [u64; 6],
 ) -> u32
-    ensures { λ r. ⌜ Judge-tells (now (image .entry)) (now (capture .entry)) (now (notes .entry)) (now (notes .exit)) (now (work .entry)) (now (work .exit)) r (now (answer .exit)) ⌝ }
+    ensures { λ r. ⌜ Judge-tells (now (image .entry)) (now (capture .entry))
+        (now (notes .entry)) (now (notes .exit)) (now (work .entry)) (now (work .exit))
+        r (now (answer .exit)) ⌝ }
 {
     let judged = judge(image, capture, notes, work);
-    tell(answer, judge_reply(judged))
+    write_reply(answer, judge_reply(judged))
 }
 
 // The plain run.
@@ -61,10 +57,11 @@ pub extern "C" fn sejimakpu_plain_run_nonnull(
     stack: &mut [u32],
     answer: &mut [u64; 6],
 ) -> u32
-    ensures { λ r. ⌜ Run-tells (now (image .entry)) (now (capture .entry)) budget (now (stack .entry)) (now (stack .exit)) r (now (answer .exit)) ⌝ }
+    ensures { λ r. ⌜ Run-tells (now (image .entry)) (now (capture .entry)) budget
+        (now (stack .entry)) (now (stack .exit)) r (now (answer .exit)) ⌝ }
 {
     let ran = plain_run(image, capture, budget, stack);
-    tell(answer, run_reply(ran))
+    write_reply(answer, run_reply(ran))
 }
 
 // Building.
@@ -77,5 +74,5 @@ pub extern "C" fn sejimakpu_build_nonnull(
     ensures { λ r. ⌜ Build-tells (now (grammar .entry)) (now (image .entry)) (now (image .exit)) r (now (answer .exit)) ⌝ }
 {
     let built = build_image(grammar, image);
-    tell(answer, build_reply(built))
+    write_reply(answer, build_reply(built))
 }

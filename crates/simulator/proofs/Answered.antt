@@ -9,16 +9,17 @@ use Rattle.machine.specs.declared.Config.{Config}
 use Rattle.machine.specs.declared.Refusal.{Refusal}
 use Rattle.machine.specs.declared.Verdict.{Verdict}
 use Rattle.machine.specs.Run.{how-many}
-use Rattle.machine.specs.Image.{byte, machine}
+use Rattle.codec.specs.Bytes.{byte}
+use Rattle.machine.specs.Image.{machine}
 use Rattle.machine.specs.Refusals.{Unrefused, capture-refusal}
 use Rattle.machine.proofs.Refused.{neither, unrefused-by}
 use Rattle.simulator.specs.declared.Judged.{Judged}
 use Rattle.simulator.specs.declared.Judged.the-variants.{Refused, Answer}
-use Rattle.simulator.specs.Calls.{judge-refusal, Right, Judge-as, Judge-says}
+use Rattle.simulator.specs.Calls.{judgement, judge-refusal, Judged-right, Judge-as, Judge-says}
 
 right-as :
     (k : ℕ) (f : Refusal) (bs cs : List ℕ) (r : Judged) (a a-now b b-now : List ℕ) → k ≡ 0 → Judge-as k f bs cs r a a-now b b-now →
-    Right bs cs r a a-now b b-now
+    Judged-right bs cs r a a-now b b-now
 unfolding Judge-as
 right-as zero f bs cs r a a-now b b-now e s = s
 right-as (suc k) f bs cs r a a-now b b-now e s = absurd (omega arith)
@@ -26,7 +27,7 @@ right-as (suc k) f bs cs r a a-now b b-now e s = absurd (omega arith)
 -- not refused, the answer is right
 pub judged-right :
     (bs cs : List ℕ) (r : Judged) (a a-now b b-now : List ℕ) → judge-refusal bs cs (length a) (length b) .number ≡ 0 →
-    Judge-says bs cs r a a-now b b-now → Right bs cs r a a-now b b-now
+    Judge-says bs cs r a a-now b b-now → Judged-right bs cs r a a-now b b-now
 unfolding Judge-says
 judged-right bs cs r a a-now b b-now e s =
     right-as (judge-refusal bs cs (length a) (length b) .number) (judge-refusal bs cs (length a) (length b)) bs cs r a a-now b b-now e s
@@ -54,19 +55,19 @@ capture-fine bs cs a b e = neither (capture-refusal bs (length cs)) _ (record { 
 -- WHAT AN ANSWER COMES TO
 pub record Answered (bs cs : List ℕ) (v : Verdict) (n : ℕ) (d : Config) (a a-now b b-now : List ℕ) : Type 0 where
   pub unrefused : Unrefused bs cs
-  pub right : Right bs cs (Answer v n d) a a-now b b-now
+  pub right : Judged-right bs cs (Answer (judgement v n d)) a a-now b b-now
 
 answered-as :
     (k : ℕ) (f : Refusal) (bs cs a a-now b b-now : List ℕ) (v : Verdict) (n : ℕ) (d : Config) →
-    Judge-as k f bs cs (Answer v n d) a a-now b b-now → k ≡ 0
+    Judge-as k f bs cs (Answer (judgement v n d)) a a-now b b-now → k ≡ 0
 unfolding Judge-as
 answered-as zero f bs cs a a-now b b-now v n d s = refl
 answered-as (suc k) f bs cs a a-now b b-now v n d s =
-    let clash : Answer v n d ≡ Refused f = s .0 in
+    let clash : Answer (judgement v n d) ≡ Refused f = s .0 in
     absurd (let z : _≡_ {A = ℕ} 0 1 = cc in omega arith)
 
 pub answered-fine :
-    (bs cs a a-now b b-now : List ℕ) (v : Verdict) (n : ℕ) (d : Config) → Judge-says bs cs (Answer v n d) a a-now b b-now →
+    (bs cs a a-now b b-now : List ℕ) (v : Verdict) (n : ℕ) (d : Config) → Judge-says bs cs (Answer (judgement v n d)) a a-now b b-now →
     judge-refusal bs cs (length a) (length b) .number ≡ 0
 unfolding Judge-says
 answered-fine bs cs a a-now b b-now v n d s =
@@ -74,12 +75,12 @@ answered-fine bs cs a a-now b b-now v n d s =
 
 pub answered :
     (bs cs a a-now b b-now : List ℕ) (v : Verdict) (n : ℕ) (d : Config) → ((i : ℕ) → byte cs i < 256) →
-    Judge-says bs cs (Answer v n d) a a-now b b-now → Answered bs cs v n d a a-now b b-now
+    Judge-says bs cs (Answer (judgement v n d)) a a-now b b-now → Answered bs cs v n d a a-now b b-now
 answered bs cs a a-now b b-now v n d bytes s =
     let e = answered-fine bs cs a a-now b b-now v n d s in
     record {
       unrefused = unrefused-by bs cs bytes (capture-fine bs cs (length a) (length b) e);
-      right = judged-right bs cs (Answer v n d) a a-now b b-now e s;
+      right = judged-right bs cs (Answer (judgement v n d)) a a-now b b-now e s;
     }
 
 -- the cells after the first N are as they were, whatever the call says
@@ -90,8 +91,8 @@ later-as :
 unfolding Judge-as
 later-as zero f bs cs r a a-now b b-now s =
     let n = how-many (machine bs cs) in (
-      ap (drop n) (s .notes-now) ∙ drop-at (s .notes) (drop n a) n (s .noted-cells),
-      ap (drop n) (s .work-now) ∙ drop-at (replicate n 0) (drop n b) n (length-replicate n 0),
+      ap (drop n) (s .notes-now) ∙ drop-at (s .notes) (drop n a) n (s .right .noted-cells),
+      ap (drop n) (s .work-now) ∙ drop-at (s .work) (drop n b) n (ap length (s .right .work-zero) ∙ length-replicate n 0),
     )
 later-as (suc k) f bs cs r a a-now b b-now s =
     (ap (drop (how-many (machine bs cs))) (s .1), ap (drop (how-many (machine bs cs))) (s .2))

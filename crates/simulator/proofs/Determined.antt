@@ -9,35 +9,47 @@ use Rattle.machine.specs.declared.Refusal.{Refusal}
 use Rattle.machine.specs.Run.{how-many}
 use Rattle.machine.specs.Image.{machine}
 use Rattle.machine.specs.Verdicts.{nonzero}
-use Rattle.machine.proofs.Notes.{one-notes}
+use Rattle.machine.proofs.RightNotes.{one-notes}
 use Rattle.machine.proofs.OneVerdict.{one-verdict}
 use Rattle.simulator.specs.declared.Judged.{Judged}
 use Rattle.simulator.specs.declared.Judged.the-variants.{Answer}
-use Rattle.simulator.specs.Calls.{Right, Judge-as, Judge-says, judge-refusal}
+use Rattle.simulator.specs.Calls.{judgement, Judged-right, Judge-as, Judge-says, judge-refusal}
 
 -- two right answers for one image and capture, whatever the cells held before
-record Same-answer (r s : Judged) (f-notes g-notes : List ℕ) : Type 0 where
+record Same-answer (r s : Judged) (f-notes g-notes f-work g-work : List ℕ) : Type 0 where
   answers : r ≡ s
   notes : f-notes ≡ g-notes
+  work : f-work ≡ g-work
 
 same-answer :
-    (bs cs a b a′ b′ : List ℕ) (r s : Judged) (x y x′ y′ : List ℕ) (f : Right bs cs r a x b y) (g : Right bs cs s a′ x′ b′ y′) →
-    Same-answer r s (f .notes) (g .notes)
+    (bs cs a b a′ b′ : List ℕ) (r s : Judged) (x y x′ y′ : List ℕ) (f : Judged-right bs cs r a x b y) (g : Judged-right bs cs s a′ x′ b′ y′) →
+    Same-answer r s (f .notes) (g .notes) (f .work) (g .work)
 same-answer bs cs a b a′ b′ r s x y x′ y′ f g =
     let M = machine bs cs in
-    let (verdicts, ends) = one-verdict M (f .verdict) (g .verdict) (f .end) (g .end) (f .says) (g .says) in
-    let notes : f .notes ≡ g .notes = one-notes M (f .notes) (g .notes) (f .noted) (g .noted) (f .noted-cells) (g .noted-cells) in
-    let readings : f .readings ≡ g .readings = f .counted ∙ ap (nonzero (how-many M)) notes ∙ sym (g .counted) in
-    let answers : Answer (f .verdict) (f .readings) (f .end) ≡ Answer (g .verdict) (g .readings) (g .end) = cc in
-    record { answers = f .answers ∙ answers ∙ sym (g .answers); notes = notes }
+    let j = f .judgement in
+    let k = g .judgement in
+    let (verdicts, ends) = one-verdict M (j .verdict) (k .verdict) (j .end) (k .end) (f .right .says) (g .right .says) in
+    let notes : f .notes ≡ g .notes =
+    one-notes M (f .notes) (g .notes) (f .right .noted) (g .right .noted) (f .right .noted-cells) (g .right .noted-cells)
+    in
+    let readings : j .readings ≡ k .readings = f .right .counted ∙ ap (nonzero (how-many M)) notes ∙ sym (g .right .counted) in
+    let answers : Answer (judgement (j .verdict) (j .readings) (j .end)) ≡ Answer (judgement (k .verdict) (k .readings) (k .end)) =
+    rw (verdicts, readings, ends)
+    in
+    record {
+      answers = f .answers ∙ answers ∙ sym (g .answers);
+      notes = notes;
+      work = f .right .work-zero ∙ sym (g .right .work-zero);
+    }
 
 right-determined :
-    (bs cs a b : List ℕ) (r s : Judged) (x y x′ y′ : List ℕ) → Right bs cs r a x b y → Right bs cs s a x′ b y′ →
+    (bs cs a b : List ℕ) (r s : Judged) (x y x′ y′ : List ℕ) → Judged-right bs cs r a x b y → Judged-right bs cs s a x′ b y′ →
     (r ≡ s) × (x ≡ x′) × (y ≡ y′)
 right-determined bs cs a b r s x y x′ y′ f g =
     let same = same-answer bs cs a b a b r s x y x′ y′ f g in
     let cells = ap (λ (l : List ℕ). l ++ drop (how-many (machine bs cs)) a) (same .notes) in
-    (same .answers, f .notes-now ∙ cells ∙ sym (g .notes-now), f .work-now ∙ sym (g .work-now))
+    let zeros = ap (λ (l : List ℕ). l ++ drop (how-many (machine bs cs)) b) (same .work) in
+    (same .answers, f .notes-now ∙ cells ∙ sym (g .notes-now), f .work-now ∙ zeros ∙ sym (g .work-now))
 
 by-number :
     (n : ℕ) (z : Refusal) (bs cs a b : List ℕ) (r s : Judged) (x y x′ y′ : List ℕ) → Judge-as n z bs cs r a x b y →
@@ -68,11 +80,11 @@ unfolding Judge-as Independent
 independent-by zero z bs cs a b a′ b′ r s x y x′ y′ f g =
     let n = how-many (machine bs cs) in
     let same = same-answer bs cs a b a′ b′ r s x y x′ y′ f g in
-    let first = ap (take n) (f .notes-now) ∙ take-at (f .notes) (drop n a) n (f .noted-cells) in
-    let second = ap (take n) (g .notes-now) ∙ take-at (g .notes) (drop n a′) n (g .noted-cells) in
-    let zeros = ap (take n) (f .work-now) ∙ take-at (replicate n 0) (drop n b) n (length-replicate n 0) in
-    let zeros′ = ap (take n) (g .work-now) ∙ take-at (replicate n 0) (drop n b′) n (length-replicate n 0) in
-    (same .answers, λ e. (first ∙ same .notes ∙ sym second, zeros ∙ sym zeros′))
+    let first = ap (take n) (f .notes-now) ∙ take-at (f .notes) (drop n a) n (f .right .noted-cells) in
+    let second = ap (take n) (g .notes-now) ∙ take-at (g .notes) (drop n a′) n (g .right .noted-cells) in
+    let zeros = ap (take n) (f .work-now) ∙ take-at (f .work) (drop n b) n (ap length (f .right .work-zero) ∙ length-replicate n 0) in
+    let zeros′ = ap (take n) (g .work-now) ∙ take-at (g .work) (drop n b′) n (ap length (g .right .work-zero) ∙ length-replicate n 0) in
+    (same .answers, λ e. (first ∙ same .notes ∙ sym second, zeros ∙ same .work ∙ sym zeros′))
 independent-by (suc k) z bs cs a b a′ b′ r s x y x′ y′ f g = (f .0 ∙ sym (g .0), λ e. absurd (omega arith))
 
 pub judge-independent :

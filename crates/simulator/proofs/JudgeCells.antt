@@ -4,6 +4,7 @@ use mathlib.Core.List.{List, _++_, append-nil}
 use Prim.Native.Nat.{ℕ, _≤_}
 use native.Mathlib.Omega.{arith}
 use lib.ListN.{length, drop, replicate, drop-of-length-le}
+use Rattle.simulator.specs.Checked.{Checked, Cleared}
 
 -- a list that is filled to its end
 pub all-filled :
@@ -14,5 +15,9 @@ all-filled i n d l e h k f =
     let w : List ℕ = replicate i 0 in
     f ∙ rw (drop-of-length-le d g) (append-nil w ∙ rw q)
 
-pub as-many : {l : List ℕ} {k n : ℕ} → l ≡ replicate k 0 → k ≡ n → l ≡ replicate n 0
-as-many e q = rw (← q) e
+-- the lent cells after clearing
+pub all-zero :
+    {bs cs ns ws ns′ ws′ : List ℕ} → Checked bs cs ns ws → ns′ ≡ replicate (length ns) 0 → ws′ ≡ replicate (length ws) 0 →
+    Cleared bs cs ns′ ws′
+all-zero c e f =
+    record { unrefused = c .unrefused; notes-zero = rw (← c .notes-long) e; work-zero = rw (← c .work-long) f }

@@ -1,18 +1,23 @@
 -- Which refusal the call `judge` gives, by the tests that its code makes, and what its answer says then. Assumes nothing.
 use mathlib.Core.Path.{_≡_, refl, sym, ap, _∙_}
-use mathlib.Core.List.{List, [], _++_, append-nil}
+use mathlib.Core.List.{List, _++_}
 use Prim.Native.Nat.{ℕ, zero, suc, _<_, _≤_}
 use native.Mathlib.Omega.{arith}
-use lib.ListN.{length, drop}
-use lib.Seq.{drop-nil}
+use lib.ListN.{length, take, drop}
+use lib.Seq.{length-take-le}
 use borrow.Author.Tests.{lt-ltb, le-ltb, eq-eqb, ne-eqb}
 use Rattle.machine.specs.declared.Refusal.{Refusal}
 use Rattle.machine.specs.Run.{how-many}
+use Rattle.codec.specs.Bytes.{byte}
 use Rattle.machine.specs.Image.{machine}
+use Rattle.machine.proofs.Refused.{unrefused-by}
 use Rattle.machine.specs.Refusals.{refusal, fine, or-else, refuse-if, capture-refusal}
+use Rattle.simulator.specs.declared.Judgement.{Judgement}
 use Rattle.simulator.specs.declared.Judged.{Judged}
-use Rattle.simulator.specs.declared.Judged.the-variants.{Refused}
-use Rattle.simulator.specs.Calls.{judge-refusal, Right, Judge-as, Judge-says}
+use Rattle.simulator.specs.declared.Judged.the-variants.{Refused, Answer}
+use Rattle.simulator.specs.Checked.{Checked, Sized}
+use Rattle.simulator.proofs.Needing.{cells-are}
+use Rattle.simulator.specs.Calls.{judge-refusal, Judgement-right, Judge-as, Judge-says}
 
 module _ (bs cs : List ℕ) (a b : ℕ) where
   pub cells-refused : (capture-refusal bs (length cs) .number ≡ 0 → ⊥) → judge-refusal bs cs a b ≡ capture-refusal bs (length cs)
@@ -46,6 +51,21 @@ refused-says :
 unfolding Judge-says
 refused-says bs cs x y {r} {f} e h q = rw e (as-refused (f .number) h bs cs x y q)
 
+-- the cells that image and capture need
+enough-are : {bs cs : List ℕ} {n : ℕ} → Sized bs cs n → n ≡ how-many (machine bs cs)
+enough-are {bs} {cs} sized = sized .counted ∙ cells-are bs cs
+
+-- what judging of checked input asks, of the lent parts
+pub checked :
+    (bs cs x y : List ℕ) {n : ℕ} → Sized bs cs n → ((i : ℕ) → byte cs i < 256) → n ≤ length x → n ≤ length y →
+    Checked bs cs (take n x) (take n y)
+checked bs cs x y {n} sized bytes h k =
+    record {
+      unrefused = unrefused-by bs cs bytes (sized .fine);
+      notes-long = length-take-le n x h ∙ enough-are sized;
+      work-long = length-take-le n y k ∙ enough-are sized;
+    }
+
 module _ (bs cs x y : List ℕ) {r : Judged} where
   pub cells-says :
       {f : Refusal} → f ≡ capture-refusal bs (length cs) → (f .number ≡ 0 → ⊥) → r ≡ Refused f → Judge-says bs cs r x x y y
@@ -53,34 +73,32 @@ module _ (bs cs x y : List ℕ) {r : Judged} where
       let h : capture-refusal bs (length cs) .number ≡ 0 → ⊥ = λ z. some (ap (λ (g : Refusal). g .number) e ∙ z) in
       refused-says bs cs x y (cells-refused bs cs (length x) (length y) h ∙ sym e) some q
 
-  module _ (g : capture-refusal bs (length cs) .number ≡ 0) {n : ℕ} (e : n ≡ how-many (machine bs cs)) where
+  module _ {n : ℕ} (sized : Sized bs cs n) where
     pub notes-says : length x < n → r ≡ Refused (refusal 8 n) → Judge-says bs cs r x x y y
     notes-says h q =
-        refused-says bs cs x y (notes-refused bs cs (length x) (length y) g (omega arith)) (λ z. omega arith) (rw e at q)
+        let e : n ≡ how-many (machine bs cs) = enough-are sized in
+        refused-says bs cs x y (notes-refused bs cs (length x) (length y) (sized .fine) (omega arith)) (λ z. omega arith) (rw e at q)
 
     pub work-says : n ≤ length x → length y < n → r ≡ Refused (refusal 9 n) → Judge-says bs cs r x x y y
     work-says h k q =
-        refused-says bs cs x y (work-refused bs cs (length x) (length y) g (omega arith) (omega arith)) (λ z. omega arith) (rw e at q)
+        let e : n ≡ how-many (machine bs cs) = enough-are sized in
+        refused-says bs cs x y (work-refused bs cs (length x) (length y) (sized .fine) (omega arith) (omega arith)) (λ z. omega arith) (rw e at q)
 
     -- an answer over the lent part is one over the whole
     pub answer-says :
-        n ≤ length x → n ≤ length y → {x′ y′ : List ℕ} → Right bs cs r [] x′ [] y′ →
+        n ≤ length x → n ≤ length y → {x′ y′ : List ℕ} {j : Judgement} → r ≡ Answer j → Judgement-right bs cs j x′ y′ →
         Judge-says bs cs r x (x′ ++ drop n x) y (y′ ++ drop n y)
     unfolding Judge-says Judge-as
-    answer-says h k a =
+    answer-says h k {x′} {y′} {j} q a =
+        let e : n ≡ how-many (machine bs cs) = enough-are sized in
         rw
-        (not-refused bs cs (length x) (length y) g (omega arith) (omega arith))
+        (not-refused bs cs (length x) (length y) (sized .fine) (omega arith) (omega arith))
         (record {
-          verdict = a .verdict;
-          readings = a .readings;
-          end = a .end;
-          notes = a .notes;
-          answers = a .answers;
-          says = a .says;
-          noted = a .noted;
-          counted = a .counted;
-          noted-cells = a .noted-cells;
-          notes-now = rw (a .notes-now, drop-nil, append-nil (a .notes), e);
-          work-now = rw (a .work-now, drop-nil, append-nil, e);
-          by-chain = a .by-chain;
+          judgement = j;
+          notes = x′;
+          work = y′;
+          answers = q;
+          right = a;
+          notes-now = rw e;
+          work-now = rw e;
         })

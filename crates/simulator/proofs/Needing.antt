@@ -36,10 +36,10 @@ module _ (bs : List ℕ) (n : ℕ) (g : image-refusal bs .number ≡ 0) (s : n �
         bytes = λ i. let z = zeros n i in omega (arith, z);
       }
 
-  pub few-places-of : states bs * (n + 2) ≤ 2097184
+  pub few-places-of : states bs * (n + 2) ≤ Format.max-states * Format.max-places
   few-places-of = let f = few-places some-capture in rw (length-replicate {A = ℕ} n 0) at f
 
-  pub few-cells-of : states bs * (n + 2) * symbols bs ≤ 268439552
+  pub few-cells-of : states bs * (n + 2) * symbols bs ≤ Format.max-states * Format.max-places * Format.max-symbols
   unfolding how-many machine
   few-cells-of = let f = few-cells some-capture in rw (length-replicate {A = ℕ} n 0) at f
 

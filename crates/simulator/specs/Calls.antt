@@ -15,6 +15,7 @@ use Rattle.machine.specs.Verdicts.{Says, Noted, nonzero}
 use Rattle.machine.specs.Refusals.{refusal, or-else, refuse-if, capture-refusal}
 use Rattle.simulator.specs.declared.Needs.{Needs}
 use Rattle.simulator.specs.declared.Needs.the-variants.{Cells, Refused as Unneeded}
+use Rattle.simulator.specs.declared.Judgement.{Judgement}
 use Rattle.simulator.specs.declared.Judged.{Judged}
 use Rattle.simulator.specs.declared.Judged.the-variants.{Refused, Answer}
 use Rattle.chain.specs.Chain.{reached, chain}
@@ -37,31 +38,38 @@ judge-refusal bs cs a b =
 -- the chain comes to this answer and these notes, within 4 r + 1 steps, and to no verdict before
 pub record Chain-ends (bs cs : List ℕ) (v : Verdict) (readings : ℕ) (end : Config) (notes : List ℕ) : Type 0 where
   pub steps : ℕ
-  pub verdict-is : chain .verdict (reached chain bs cs steps .now-at) ≡ some v
-  pub readings-are : chain .readings (reached chain bs cs steps .now-at) ≡ readings
-  pub end-is : chain .end (reached chain bs cs steps .now-at) ≡ end
+  pub verdict-is : chain .verdict (reached chain bs cs steps .state) ≡ some v
+  pub readings-are : chain .readings (reached chain bs cs steps .state) ≡ readings
+  pub end-is : chain .end (reached chain bs cs steps .state) ≡ end
   pub notes-are : reached chain bs cs steps .notes ≡ notes
   pub few : steps ≤ 4 * readings + 1
-  pub not-before : (n : ℕ) → n < steps → chain .verdict (reached chain bs cs n .now-at) ≡ none
+  pub not-before : (n : ℕ) → n < steps → chain .verdict (reached chain bs cs n .state) ≡ none
 
--- an answer: the run's verdict and end, its notes and their count, all as the chain ends; later cells as they were, the work cells 0
-pub record Right (bs cs : List ℕ) (r : Judged) (a a-now b b-now : List ℕ) : Type 0 where
-  pub verdict : Verdict
-  pub readings : ℕ
-  pub end : Config
-  pub notes : List ℕ
-  pub answers : r ≡ Answer verdict readings end
-  pub says : Says (machine bs cs) verdict end
+abbrev pub judgement : Verdict → (readings : ℕ) → (end : Config) → Judgement
+judgement v n d = record { verdict = v; readings = n; end = d }
+
+-- a judgement: the run's verdict and end, with its N notes and their count, all as the chain ends, and the work cells 0
+pub record Judgement-right (bs cs : List ℕ) (j : Judgement) (notes work : List ℕ) : Type 0 where
+  pub says : Says (machine bs cs) (j .verdict) (j .end)
   pub noted : Noted (machine bs cs) notes
-  pub counted : readings ≡ nonzero (how-many (machine bs cs)) notes
+  pub counted : j .readings ≡ nonzero (how-many (machine bs cs)) notes
   pub noted-cells : length notes ≡ how-many (machine bs cs)
+  pub work-zero : work ≡ replicate (how-many (machine bs cs)) 0
+  pub by-chain : Chain-ends bs cs (j .verdict) (j .readings) (j .end) notes
+
+-- an answer: a right judgement in the first N cells; later cells as they were
+pub record Judged-right (bs cs : List ℕ) (r : Judged) (a a-now b b-now : List ℕ) : Type 0 where
+  pub judgement : Judgement
+  pub notes : List ℕ
+  pub work : List ℕ
+  pub answers : r ≡ Answer judgement
+  pub right : Judgement-right bs cs judgement notes work
   pub notes-now : a-now ≡ notes ++ drop (how-many (machine bs cs)) a
-  pub work-now : b-now ≡ replicate (how-many (machine bs cs)) 0 ++ drop (how-many (machine bs cs)) b
-  pub by-chain : Chain-ends bs cs verdict readings end notes
+  pub work-now : b-now ≡ work ++ drop (how-many (machine bs cs)) b
 
 -- a refusal changes no cell
 unfoldable pub Judge-as : (number : ℕ) → Refusal → (bs cs : List ℕ) → Judged → (a a-now b b-now : List ℕ) → Type 0
-Judge-as zero f bs cs r a x b y = Right bs cs r a x b y
+Judge-as zero f bs cs r a x b y = Judged-right bs cs r a x b y
 Judge-as (suc n) f bs cs r a x b y = (r ≡ Refused f) × (x ≡ a) × (y ≡ b)
 
 unfoldable pub Judge-says : (image capture : List ℕ) → Judged → (a a-now b b-now : List ℕ) → Type 0

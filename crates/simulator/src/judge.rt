@@ -1,8 +1,11 @@
-// The call `judge`: checks, then the chain of steps from the start record, over exactly as many cells as there are configurations.
+// The call `judge`: checks, then the chain of steps from the start state, over exactly as many cells as there are configurations.
 use crate::Judged;
+use crate::Judgement;
 use crate::Needs;
+use chain::Environment;
+use chain::JudgeState;
 use chain::Mode;
-use chain::Record;
+use chain::Registers;
 use chain::step::step;
 use machine::Config;
 use machine::Refusal;
@@ -12,35 +15,36 @@ use machine::format::SYMBOLS_OFFSET;
 use machine::lookup;
 use validator::check::capture_refusal;
 ghost use mathlib.Core.Path.{_≡_};
-ghost use mathlib.Core.List.{[]};
-ghost use Prim.Native.Nat.{_<_, _≤_};
+ghost use Prim.Native.Nat.{_≤_};
 ghost use lib.ListN.{length, replicate};
 ghost use Rattle.machine.specs.declared.Refusal.{Refusal};
 ghost use Rattle.machine.specs.Format.{max-capture};
-ghost use Rattle.machine.specs.Run.{how-many};
-ghost use Rattle.machine.specs.Image.{machine};
-ghost use Rattle.machine.specs.Refusals.{Unrefused, image-refusal, capture-refusal, refusal};
+ghost use Rattle.machine.specs.Refusals.{image-refusal, capture-refusal, refusal};
 ghost use Rattle.simulator.specs.declared.Judged.the-variants.{Refused};
-ghost use Rattle.chain.specs.Ready.{start-record};
-ghost use Rattle.simulator.specs.Calls.{cells-needed, needs, Right, Judge-says};
+ghost use Rattle.chain.specs.Chain.{start-in, environment-by};
+ghost use Rattle.simulator.specs.Calls.{cells-needed, needs, Judgement-right, Judge-says};
+ghost use Rattle.simulator.specs.Checked.{Checked, Cleared, Sized};
 
-// The start record, from the image's counts and finals and the capture's length.
-pub fn start(sizes: Sizes, finals: u32) -> Record
-    ensures { λ r. ⌜ r ≡ start-record sizes finals ⌝ }
+// The start state, from the image's counts and finals and the capture's length.
+pub fn start(sizes: Sizes, finals: u32) -> JudgeState
+    ensures { λ r. ⌜ r ≡ start-in (environment-by sizes finals) ⌝ }
 {
     let at = Config {
         state: 0,
         head: 0,
         symbol: 0,
     };
-    Record {
-        sizes,
-        finals,
+    let environment = Environment { sizes, finals };
+    let registers = Registers {
         mode: Mode::Look,
         at,
         pushed: true,
         top: 0,
         readings: 0,
+    };
+    JudgeState {
+        environment,
+        registers,
     }
 }
 
@@ -57,33 +61,35 @@ fn zero(cells: &mut [u32])
 }
 
 // The chain: steps until the verdict stands.
-fn run(image: &[u8], capture: &[u8], notes: &mut [u32], work: &mut [u32]) -> Judged
-    requires { ⌜ Unrefused (now image) (now capture) × (now notes ≡ replicate (how-many (machine (now image) (now capture))) 0) × (now work ≡ replicate (how-many (machine (now image) (now capture))) 0) ⌝ }
-    ensures { λ r. ⌜ Right (now (image .entry)) (now (capture .entry)) r [] (now (notes .exit)) [] (now (work .exit)) ⌝ }
+fn run(image: &[u8], capture: &[u8], notes: &mut [u32], work: &mut [u32]) -> Judgement
+    requires { ⌜ Cleared (now image) (now capture) (now notes) (now work) ⌝ }
+    ensures { λ r. ⌜ Judgement-right (now (image .entry)) (now (capture .entry)) r (now (notes .exit)) (now (work .exit)) ⌝ }
 {
     let sizes = lookup::sizes_of(image, capture);
     let finals = lookup::finals_of(image);
-    let mut r = start(sizes, finals);
+    let first = start(sizes, finals);
+    let environment = first.environment;
+    let mut r = first.registers;
     let mut steps: u32 = 0;
     loop {
         let mode = r.mode;
         if let Mode::Done(verdict) = mode {
             let end = r.at;
-            return Judged::Answer {
+            return Judgement {
                 verdict,
                 readings: r.readings,
                 end,
             };
         }
-        r = step(image, capture, r, notes, work);
+        r = step(image, capture, environment, r, notes, work);
         steps += 1;
     }
 }
 
 // Judging of checked input, lent exactly as many cells as there are configurations.
-fn judge_checked(image: &[u8], capture: &[u8], notes: &mut [u32], work: &mut [u32]) -> Judged
-    requires { ⌜ Unrefused (now image) (now capture) × (length (now notes) ≡ how-many (machine (now image) (now capture))) × (length (now work) ≡ how-many (machine (now image) (now capture))) ⌝ }
-    ensures { λ r. ⌜ Right (now (image .entry)) (now (capture .entry)) r [] (now (notes .exit)) [] (now (work .exit)) ⌝ }
+pub fn judge_checked(image: &[u8], capture: &[u8], notes: &mut [u32], work: &mut [u32]) -> Judgement
+    requires { ⌜ Checked (now image) (now capture) (now notes) (now work) ⌝ }
+    ensures { λ r. ⌜ Judgement-right (now (image .entry)) (now (capture .entry)) r (now (notes .exit)) (now (work .exit)) ⌝ }
 {
     zero(notes);
     zero(work);
@@ -126,7 +132,7 @@ fn judge_sized(
     notes: &mut [u32],
     work: &mut [u32],
 ) -> Judged
-    requires { ⌜ (capture-refusal (now image) (length (now capture)) .number ≡ 0) × (cells ≡ cells-needed (now image) (length (now capture))) ⌝ }
+    requires { ⌜ Sized (now image) (now capture) cells ⌝ }
     ensures { λ r. ⌜ Judge-says (now (image .entry)) (now (capture .entry)) r (now (notes .entry)) (now (notes .exit)) (now (work .entry)) (now (work .exit)) ⌝ }
 {
     if notes.len() < cells {
@@ -135,7 +141,8 @@ fn judge_sized(
     if work.len() < cells {
         return refused(9, cells);
     }
-    judge_checked(image, capture, &mut notes[..cells], &mut work[..cells])
+    let judgement = judge_checked(image, capture, &mut notes[..cells], &mut work[..cells]);
+    Judged::Answer(judgement)
 }
 
 // Judges a capture by an image: verdict, readings and end configuration, with the notes of every configuration in the lent cells, or a refusal.

@@ -5,14 +5,17 @@ use machine::Config;
 use machine::Refusal;
 use machine::Verdict;
 
-// The answer of judging.
+// What judging comes to: the run's verdict, how many configurations it enters, and its end configuration.
+pub struct Judgement {
+    pub verdict: Verdict,
+    pub readings: u32,
+    pub end: Config,
+}
+
+// The answer of the call `judge`.
 pub enum Judged {
     Refused(Refusal),
-    Answer {
-        verdict: Verdict,
-        readings: u32,
-        end: Config,
-    },
+    Answer(Judgement),
 }
 
 // How many notes and how many work cells judging needs.

@@ -7,9 +7,11 @@ use native.Mathlib.Omega.{arith}
 use lib.ListN.{length}
 use borrow.Author.Tests.{le-leb, lt-leb}
 use Rattle.machine.specs.declared.Selector.{Selector}
-use Rattle.machine.specs.Image.{byte, classes, symbols, rule-from}
-use Rattle.machine.specs.Refusals.{refusal, fine, map-from, rule-bad, index-class, rules-from, rule-count}
-use Rattle.machine.specs.Counting.{first-selector, next-selector, Selects, Counts-on}
+use Rattle.machine.specs.Format
+use Rattle.codec.specs.Bytes.{byte}
+use Rattle.machine.specs.Image.{classes, symbols, rule-from}
+use Rattle.machine.specs.Refusals.{refusal, fine, map-from, rule-bad, index-class, rule-count, rules-refusal-from}
+use Rattle.machine.specs.code.Counting.{first-selector, next-selector, Selects, Counts-on}
 use Rattle.machine.proofs.CountingOn.{selects-first, selects-next, class-of, counts-on}
 
 -- THE CLASS MAP, with the bytes from i on still to be checked
@@ -26,53 +28,53 @@ unfolding map-from
 map-empty i bs = refl
 
 abbrev pub Map-left : (bs : List ℕ) → (at : ℕ) → Type 0
-Map-left bs at = map-from 256 32 bs ≡ map-from (288 - at) at bs
+Map-left bs at = map-from Format.map-length Format.map-offset bs ≡ map-from (Format.rules-offset - at) at bs
 
-pub map-stop : (bs : List ℕ) (at : ℕ) → Map-left bs at → at < 288 → classes bs ≤ byte bs at → refusal 5 at ≡ map-from 256 32 bs
+pub map-stop : (bs : List ℕ) (at : ℕ) → Map-left bs at → at < Format.rules-offset → classes bs ≤ byte bs at → refusal 5 at ≡ map-from Format.map-length Format.map-offset bs
 map-stop bs at e h bad =
-    let one-more : 288 - at ≡ suc (287 - at) = omega arith in
-    sym (e ∙ ap (λ (k : ℕ). map-from k at bs) one-more ∙ map-refused (287 - at) at bs bad)
+    let one-more : Format.rules-offset - at ≡ suc (Format.rules-offset - suc at) = omega arith in
+    sym (e ∙ ap (λ (k : ℕ). map-from k at bs) one-more ∙ map-refused (Format.rules-offset - suc at) at bs bad)
 
-pub map-next : (bs : List ℕ) (at : ℕ) → Map-left bs at → at < 288 → byte bs at < classes bs → Map-left bs (at + 1)
+pub map-next : (bs : List ℕ) (at : ℕ) → Map-left bs at → at < Format.rules-offset → byte bs at < classes bs → Map-left bs (at + 1)
 map-next bs at e h good =
-    let one-more : 288 - at ≡ suc (287 - at) = omega arith in
-    let less : 287 - at ≡ 288 - (at + 1) = omega arith in
+    let one-more : Format.rules-offset - at ≡ suc (Format.rules-offset - suc at) = omega arith in
+    let less : Format.rules-offset - suc at ≡ Format.rules-offset - (at + 1) = omega arith in
     let further : suc at ≡ at + 1 = omega arith in
-    e ∙ ap (λ (k : ℕ). map-from k at bs) one-more ∙ map-passed (287 - at) at bs good
+    e ∙ ap (λ (k : ℕ). map-from k at bs) one-more ∙ map-passed (Format.rules-offset - suc at) at bs good
     ∙ ap (λ (k : ℕ). map-from k (suc at) bs) less
-    ∙ ap (λ (i : ℕ). map-from (288 - (at + 1)) i bs) further
+    ∙ ap (λ (i : ℕ). map-from (Format.rules-offset - (at + 1)) i bs) further
 
-pub map-end : (bs : List ℕ) (at : ℕ) → Map-left bs at → 288 ≤ at → fine ≡ map-from 256 32 bs
+pub map-end : (bs : List ℕ) (at : ℕ) → Map-left bs at → Format.rules-offset ≤ at → fine ≡ map-from Format.map-length Format.map-offset bs
 map-end bs at e h =
-    let nothing : 288 - at ≡ 0 = omega arith in
+    let nothing : Format.rules-offset - at ≡ 0 = omega arith in
     sym (e ∙ ap (λ (k : ℕ). map-from k at bs) nothing ∙ map-empty at bs)
 
 -- THE RULES, with those from the one at a place on still to be checked; s selects that one
 pub record Rules-left (bs : List ℕ) (s : Selector) (at : ℕ) : Type 0 where
   pub index : ℕ
   pub left : ℕ
-  pub at-is : at ≡ 288 + 4 * index
+  pub at-is : at ≡ Format.rules-offset + Format.rule-length * index
   pub left-is : index + left ≡ rule-count bs
   pub selects : Selects s (classes bs + 2) (symbols bs) index
-  pub same : rules-from (rule-count bs) 0 bs ≡ rules-from left index bs
+  pub same : rules-refusal-from (rule-count bs) 0 bs ≡ rules-refusal-from left index bs
 
 rules-refused :
-    (n i : ℕ) (bs : List ℕ) → rule-bad bs (index-class bs i) (rule-from bs (288 + 4 * i)) ≡ true →
-    rules-from (suc n) i bs ≡ refusal 6 (288 + 4 * i)
-unfolding rules-from
+    (n i : ℕ) (bs : List ℕ) → rule-bad bs (index-class bs i) (rule-from bs (Format.rules-offset + Format.rule-length * i)) ≡ true →
+    rules-refusal-from (suc n) i bs ≡ refusal 6 (Format.rules-offset + Format.rule-length * i)
+unfolding rules-refusal-from
 rules-refused n i bs e = simp e
 
 rules-passed :
-    (n i : ℕ) (bs : List ℕ) → rule-bad bs (index-class bs i) (rule-from bs (288 + 4 * i)) ≡ false →
-    rules-from (suc n) i bs ≡ rules-from n (suc i) bs
-unfolding rules-from
+    (n i : ℕ) (bs : List ℕ) → rule-bad bs (index-class bs i) (rule-from bs (Format.rules-offset + Format.rule-length * i)) ≡ false →
+    rules-refusal-from (suc n) i bs ≡ rules-refusal-from n (suc i) bs
+unfolding rules-refusal-from
 rules-passed n i bs e = simp e
 
-rules-empty : (i : ℕ) (bs : List ℕ) → rules-from 0 i bs ≡ fine
-unfolding rules-from
+rules-empty : (i : ℕ) (bs : List ℕ) → rules-refusal-from 0 i bs ≡ fine
+unfolding rules-refusal-from
 rules-empty i bs = refl
 
-pub rules-start : (bs : List ℕ) → 1 ≤ symbols bs → Rules-left bs first-selector 288
+pub rules-start : (bs : List ℕ) → 1 ≤ symbols bs → Rules-left bs first-selector Format.rules-offset
 rules-start bs h =
     record {
       index = 0;
@@ -91,37 +93,37 @@ unfolding index-class
 index-class-is bs s at w = class-of s (classes bs + 2) (symbols bs) (w .index) (w .selects)
 
 -- the turn of the loop at which these are left
-module _ (bs : List ℕ) (s : Selector) (at : ℕ) (w : Rules-left bs s at) (long : length bs ≡ 288 + 4 * rule-count bs) where
+module _ (bs : List ℕ) (s : Selector) (at : ℕ) (w : Rules-left bs s at) (long : length bs ≡ Format.rules-offset + Format.rule-length * rule-count bs) where
   at-index :
       (t : Bool) → t ≡ rule-bad bs (s .class) (rule-from bs at) →
-      rule-bad bs (index-class bs (w .index)) (rule-from bs (288 + 4 * w .index)) ≡ t
+      rule-bad bs (index-class bs (w .index)) (rule-from bs (Format.rules-offset + Format.rule-length * w .index)) ≡ t
   at-index t e = rw (index-class-is bs s at w, ← w .at-is) (sym e)
 
-  pub rules-end : length bs ≤ at → fine ≡ rules-from (rule-count bs) 0 bs
+  pub rules-end : length bs ≤ at → fine ≡ rules-refusal-from (rule-count bs) 0 bs
   rules-end h =
       let nothing : w .left ≡ 0 = omega arith in
-      sym (w .same ∙ ap (λ (n : ℕ). rules-from n (w .index) bs) nothing ∙ rules-empty (w .index) bs)
+      sym (w .same ∙ ap (λ (n : ℕ). rules-refusal-from n (w .index) bs) nothing ∙ rules-empty (w .index) bs)
 
   module _ (more : at < length bs) where
     one-more : w .left ≡ suc (w .left - 1)
     one-more = omega arith
 
-    pub whole-rule : at + 4 ≤ length bs
+    pub whole-rule : at + Format.rule-length ≤ length bs
     whole-rule = omega arith
 
     -- there are few rules, so that counting on fits
     pub rules-count : rule-count bs ≤ 4294967295 → Counts-on s (classes bs + 2) (symbols bs)
     rules-count h = counts-on s (classes bs + 2) (symbols bs) (w .index) (w .selects) (omega (arith, w .at-is))
 
-    pub rules-stop : true ≡ rule-bad bs (s .class) (rule-from bs at) → refusal 6 at ≡ rules-from (rule-count bs) 0 bs
+    pub rules-stop : true ≡ rule-bad bs (s .class) (rule-from bs at) → refusal 6 at ≡ rules-refusal-from (rule-count bs) 0 bs
     rules-stop e =
         sym
-        (w .same ∙ ap (λ (n : ℕ). rules-from n (w .index) bs) one-more
+        (w .same ∙ ap (λ (n : ℕ). rules-refusal-from n (w .index) bs) one-more
         ∙ rules-refused (w .left - 1) (w .index) bs (at-index true e)
         ∙ ap (refusal 6) (sym (w .at-is)))
 
     pub rules-next :
-        false ≡ rule-bad bs (s .class) (rule-from bs at) → Rules-left bs (next-selector s (classes bs + 2) (symbols bs)) (at + 4)
+        false ≡ rule-bad bs (s .class) (rule-from bs at) → Rules-left bs (next-selector s (classes bs + 2) (symbols bs)) (at + Format.rule-length)
     rules-next good =
         record {
           index = w .index + 1;
@@ -130,7 +132,7 @@ module _ (bs : List ℕ) (s : Selector) (at : ℕ) (w : Rules-left bs s at) (lon
           left-is = omega (arith, one-more, w .left-is);
           selects = selects-next s (classes bs + 2) (symbols bs) (w .index) (w .selects);
           same =
-              w .same ∙ ap (λ (n : ℕ). rules-from n (w .index) bs) one-more
+              w .same ∙ ap (λ (n : ℕ). rules-refusal-from n (w .index) bs) one-more
               ∙ rules-passed (w .left - 1) (w .index) bs (at-index false good)
-              ∙ ap (λ (i : ℕ). rules-from (w .left - 1) i bs) (omega arith);
+              ∙ ap (λ (i : ℕ). rules-refusal-from (w .left - 1) i bs) (omega arith);
         }

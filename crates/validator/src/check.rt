@@ -1,43 +1,48 @@
 // The check of an image and of a capture's length: refusals 1 to 7, in the order of the table, for every byte string of any length.
 use crate::rule_check::rules;
+use codec::read_pair;
+use codec::read_u32;
 use machine::Checked;
 use machine::Refusal;
 use machine::format::CLASSES_OFFSET;
 use machine::format::COUNTS_LENGTH;
 use machine::format::COUNTS_OFFSET;
+use machine::format::COUNTS_PAIR;
 use machine::format::FINALS_OFFSET;
 use machine::format::MAP_LENGTH;
 use machine::format::MAP_OFFSET;
+use machine::format::MAP_PAIR;
 use machine::format::MAX_CAPTURE;
 use machine::format::MAX_CLASSES;
 use machine::format::MAX_STATES;
 use machine::format::MAX_SYMBOLS;
 use machine::format::RULE_LENGTH;
 use machine::format::RULES_OFFSET;
+use machine::format::RULES_PAIR;
+use machine::format::RULES_SIZE;
 use machine::format::STATES_OFFSET;
 use machine::format::SYMBOLS_OFFSET;
 use machine::format::ZERO_OFFSET;
-use machine::little_endian::four;
 ghost use mathlib.Core.Path.{_≡_};
 ghost use mathlib.Core.Bool.{cond};
 ghost use Prim.Native.Nat.{_+_, _*_, _^_, _<_, _≤_};
 ghost use lib.Dec.{ltb};
 ghost use lib.ListN.{length};
+ghost use Rattle.codec.specs.Numbers.{pair-width};
 ghost use Rattle.machine.specs.Format.{map-offset, map-length, rules-offset, max-states};
-ghost use Rattle.machine.specs.Refusals.{refusal, fine, pair-is, directory as directory-of, count-wrong, counts as counts-of, map-from, rule-count, image-refusal, capture-refusal};
+ghost use Rattle.machine.specs.Refusals.{refusal, fine, pair-is, directory as directory-of, count-wrong, counts as counts-of, map-from, rule-count, body-refusal, image-refusal, capture-refusal};
 ghost use Rattle.machine.specs.Calls.{checked};
+ghost use Rattle.validator.specs.code.Checking.{Counts-checked};
 
 // Whether the directory's pair at a place is this offset and length.
 fn pair_is(image: &[u8], at: usize, offset: usize, long: usize) -> bool
-    requires { ⌜ at + 7 < length (now image) ⌝ }
+    requires { ⌜ at + pair-width ≤ length (now image) ⌝ }
     ensures { λ r. ⌜ r ≡ pair-is (now (image .entry)) at offset long ⌝ }
 {
-    let first = four(image, at) as usize;
-    if first != offset {
-        return false;
-    }
-    let second = four(image, at + 4) as usize;
-    second == long
+    let pair = read_pair(image, at);
+    let first = pair.offset as usize;
+    let second = pair.long as usize;
+    first == offset && second == long
 }
 
 // A refusal, or number 0 where a test is passed.
@@ -59,26 +64,30 @@ fn directory(image: &[u8]) -> Refusal
     requires { ⌜ map-offset ≤ length (now image) ⌝ }
     ensures { λ r. ⌜ r ≡ directory-of (now (image .entry)) ⌝ }
 {
-    if !pair_is(image, 0, COUNTS_OFFSET, COUNTS_LENGTH) {
+    if !pair_is(image, COUNTS_PAIR, COUNTS_OFFSET, COUNTS_LENGTH) {
         return Refusal {
             number: 2,
-            place: 0,
+            place: COUNTS_PAIR,
         };
     }
-    if !pair_is(image, 8, MAP_OFFSET, MAP_LENGTH) {
+    if !pair_is(image, MAP_PAIR, MAP_OFFSET, MAP_LENGTH) {
         return Refusal {
             number: 2,
-            place: 8,
+            place: MAP_PAIR,
         };
     }
     let long = image.len();
     if long < RULES_OFFSET {
         return Refusal {
             number: 2,
-            place: 16,
+            place: RULES_PAIR,
         };
     }
-    refuse_unless(pair_is(image, 16, RULES_OFFSET, long - RULES_OFFSET), 2, 16)
+    refuse_unless(
+        pair_is(image, RULES_PAIR, RULES_OFFSET, long - RULES_OFFSET),
+        2,
+        RULES_PAIR,
+    )
 }
 
 // Whether a count is 0 or over its limit.
@@ -91,7 +100,7 @@ fn count_wrong(count: u8, limit: u8) -> bool
     limit < count
 }
 
-// Refusal 3: a count, byte 27 or the finals.
+// Refusal 3: a count, the byte after the counts or the finals.
 fn counts(image: &[u8]) -> Refusal
     requires { ⌜ map-offset ≤ length (now image) ⌝ }
     ensures { λ r. ⌜ r ≡ counts-of (now (image .entry)) ⌝ }
@@ -122,7 +131,11 @@ fn counts(image: &[u8]) -> Refusal
             place: ZERO_OFFSET,
         };
     }
-    refuse_unless(within(four(image, FINALS_OFFSET), states), 3, FINALS_OFFSET)
+    refuse_unless(
+        within(read_u32(image, FINALS_OFFSET), states),
+        3,
+        FINALS_OFFSET,
+    )
 }
 
 // Whether the finals name only states that are there.
@@ -168,6 +181,27 @@ fn rule_count(image: &[u8]) -> u32
     states * (classes + 2) * symbols
 }
 
+// Refusals 4 to 6, where directory and counts are right: the length, the class map, the rules.
+fn body_refusal(image: &[u8]) -> Refusal
+    requires { ⌜ Counts-checked (now image) ⌝ }
+    ensures { λ r. ⌜ r ≡ body-refusal (now (image .entry)) ⌝ }
+{
+    let long = image.len();
+    let count = rule_count(image) as usize;
+    let expected = RULES_OFFSET + RULE_LENGTH * count;
+    if long != expected {
+        return Refusal {
+            number: 4,
+            place: RULES_SIZE,
+        };
+    }
+    let map_refusal = class_map(image);
+    if map_refusal.number != 0 {
+        return map_refusal;
+    }
+    rules(image)
+}
+
 // The first refusal of an image, or number 0.
 fn first_refusal(image: &[u8]) -> Refusal
     ensures { λ r. ⌜ r ≡ image-refusal (now (image .entry)) ⌝ }
@@ -187,19 +221,7 @@ fn first_refusal(image: &[u8]) -> Refusal
     if counts_refusal.number != 0 {
         return counts_refusal;
     }
-    let count = rule_count(image) as usize;
-    let expected = RULES_OFFSET + RULE_LENGTH * count;
-    if long != expected {
-        return Refusal {
-            number: 4,
-            place: 20,
-        };
-    }
-    let map_refusal = class_map(image);
-    if map_refusal.number != 0 {
-        return map_refusal;
-    }
-    rules(image)
+    body_refusal(image)
 }
 
 // Whether an image is good, and else why not and where.

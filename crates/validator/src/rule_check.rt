@@ -2,6 +2,11 @@
 use machine::Refusal;
 use machine::counting;
 use machine::format::CLASSES_OFFSET;
+use machine::format::KIND_NONE;
+use machine::format::KIND_POP;
+use machine::format::MOVE_LEFT;
+use machine::format::MOVE_RIGHT;
+use machine::format::POP_RETURN;
 use machine::format::RULE_LENGTH;
 use machine::format::RULES_OFFSET;
 use machine::format::STATES_OFFSET;
@@ -11,11 +16,12 @@ ghost use mathlib.Core.Bool.{not, _&&_, _||_};
 ghost use Prim.Native.Nat.{_+_, _*_, _<_, _≤_};
 ghost use lib.Dec.{eqb, ltb};
 ghost use lib.ListN.{length};
-ghost use Rattle.machine.specs.Format.{map-offset, rules-offset};
-ghost use Rattle.machine.specs.Image.{symbols as symbols-of, rule-from};
-ghost use Rattle.machine.specs.Refusals.{move-off, rule-bad, rules-from, rule-count};
+ghost use Rattle.machine.specs.Format.{map-offset, pop-return};
+ghost use Rattle.machine.specs.Image.{rule-from};
+ghost use Rattle.machine.specs.Refusals.{move-off, rule-bad, rules-refusal-from, rule-count};
+ghost use Rattle.validator.specs.code.Checking.{Rule-inside, Length-checked};
 
-// Whether a rule of kind 0 says anything.
+// Whether a rule of no kind says anything.
 fn says_more(state: u8, symbol: u8, direction: u8) -> bool
     ensures { λ r. ⌜ r ≡ not (eqb state 0 && (eqb symbol 0 && eqb direction 0)) ⌝ }
 {
@@ -28,14 +34,14 @@ fn says_more(state: u8, symbol: u8, direction: u8) -> bool
     direction != 0
 }
 
-// Whether a pop has a symbol, or a move that is neither 0 nor 1.
+// Whether a pop has a symbol, or a direction that is none of a pop.
 fn pop_wrong(symbol: u8, direction: u8) -> bool
-    ensures { λ r. ⌜ r ≡ (not (eqb symbol 0) || ltb 1 direction) ⌝ }
+    ensures { λ r. ⌜ r ≡ (not (eqb symbol 0) || ltb pop-return direction) ⌝ }
 {
     if symbol != 0 {
         return true;
     }
-    1 < direction
+    POP_RETURN < direction
 }
 
 // Whether a move leaves the tape: left from the left marker, or right from the right one.
@@ -45,42 +51,42 @@ fn move_off(image: &[u8], class: u32, direction: u8) -> bool
 {
     let left = image[CLASSES_OFFSET] as u32;
     if class == left {
-        return direction == 2;
+        return direction == MOVE_LEFT;
     }
     let right = left + 1;
     if class == right {
-        return direction == 1;
+        return direction == MOVE_RIGHT;
     }
     false
 }
 
 // Whether the rule at a place is bad; class is the one that it stands for.
 fn rule_bad(image: &[u8], at: usize, class: u32) -> bool
-    requires { ⌜ (map-offset ≤ length (now image)) × (at + 3 < length (now image)) ⌝ }
+    requires { ⌜ Rule-inside (now image) at ⌝ }
     ensures { λ r. ⌜ r ≡ rule-bad (now (image .entry)) class (rule-from (now (image .entry)) at) ⌝ }
 {
     let kind = image[at];
     let state = image[at + 1];
     let symbol = image[at + 2];
     let direction = image[at + 3];
-    if 3 < kind {
+    if KIND_POP < kind {
         return true;
     }
-    if kind == 0 {
+    if kind == KIND_NONE {
         return says_more(state, symbol, direction);
     }
     let states = image[STATES_OFFSET];
     if states <= state {
         return true;
     }
-    if kind == 3 {
+    if kind == KIND_POP {
         return pop_wrong(symbol, direction);
     }
     let symbols = image[SYMBOLS_OFFSET];
     if symbols <= symbol {
         return true;
     }
-    if 2 < direction {
+    if MOVE_LEFT < direction {
         return true;
     }
     move_off(image, class, direction)
@@ -88,8 +94,8 @@ fn rule_bad(image: &[u8], at: usize, class: u32) -> bool
 
 // Refusal 6: the rules in order.
 pub fn rules(image: &[u8]) -> Refusal
-    requires { ⌜ (1 ≤ symbols-of (now image)) × (length (now image) ≡ rules-offset + 4 * rule-count (now image)) ⌝ }
-    ensures { λ r. ⌜ r ≡ rules-from (rule-count (now (image .entry))) 0 (now (image .entry)) ⌝ }
+    requires { ⌜ Length-checked (now image) ⌝ }
+    ensures { λ r. ⌜ r ≡ rules-refusal-from (rule-count (now (image .entry))) 0 (now (image .entry)) ⌝ }
 {
     let columns = image[CLASSES_OFFSET] as u32 + 2;
     let symbols = image[SYMBOLS_OFFSET] as u32;

@@ -1,5 +1,5 @@
 -- `answer::put_judged` meets its contract. Assumes nothing.
-use Rattle.answer.specs.Text.{judged-line}
+use Rattle.answer.specs.Calls.{judged-line}
 use borrow.Author.Needs.{needs}
 use Rattle.answer.proofs.put_judged.Statement.{statement}
 use Rattle.answer.proofs.put_judged.Tie as tie
@@ -21,14 +21,20 @@ same-length c = search needs
 
 returns : tie.Need-returns
 unfolding judged-line
-returns c = rw (c .before .before .before .before .before .judged .given .1) (c .before .before .put-refusal .ensures)
+returns c =
+    let at-put-refusal = c .before .before in
+    let at-judged = at-put-refusal .before .before .before in
+    rw (at-judged .judged .given .1) (at-put-refusal .put-refusal .ensures)
 
 same-length-2 : tie.Need-same-length-2
 same-length-2 c = search needs
 
 returns-2 : tie.Need-returns-2
 unfolding judged-line
-returns-2 c = rw (c .before .before .before .before .before .judged2 .given .1) (c .before .before .put-answer .ensures)
+returns-2 c =
+    let at-put-answer = c .before .before in
+    let at-judged2 = at-put-answer .before .before .before in
+    rw (at-judged2 .judged2 .given .1) (at-put-answer .put-answer .ensures)
 
 pub put-judged-spec : {M : Type 1} → statement M
 put-judged-spec =

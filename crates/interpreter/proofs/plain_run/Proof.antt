@@ -27,10 +27,11 @@ same-length c = search needs
 
 returns-2 : tie.Need-returns-2
 returns-2 c =
-    let ran = c .before .before .before .before .before .before in
+    let cleared = c .before .before in
+    let ran = cleared .before .before .before .before in
     let tested = ran .before .before in
     says-answer _ _ _ _ _ _ (ap (λ r. r .number) (sym (tested .before .before .refusal-of .ensures)) ∙ tested .if1 .left)
-    (ran .run .ensures) (c .before .before .clear .ensures ∙ ap (λ (n : ℕ). replicate n 0) (ran .run .kept .1 .1 .1 .0))
+    (ran .run .ensures) (cleared .clear .ensures ∙ ap (λ (n : ℕ). replicate n 0) (ran .run .kept .1 .1 .1 .0))
 
 pub plain-run-spec : {M : Type 1} → statement M
 plain-run-spec =

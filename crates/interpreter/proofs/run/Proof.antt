@@ -1,4 +1,4 @@
--- `run` meets its contract. The invariant: the plain run of the call is the one that goes on from the spot. The measure is what is left of the budget. Assumes nothing.
+-- `run` meets its contract. The invariant: the plain run of the call is the one that goes on from the here. The measure is what is left of the budget. Assumes nothing.
 use mathlib.Core.Path.{_∙_}
 use Prim.Native.Nat.{_-_}
 use borrow.Author.Needs.{needs}
@@ -9,10 +9,10 @@ use Rattle.interpreter.proofs.run.Statement.{statement}
 use Rattle.interpreter.proofs.run.Tie as tie
 
 abbrev Inv-loop : tie.InvT-loop
-Inv-loop image capture budget stack₀ sizes finals spot₀ stack spot = Walked (machine image capture) budget stack₀ spot stack
+Inv-loop image capture budget stack₀ sizes finals here₀ stack here = Walked image capture sizes finals budget stack₀ here stack
 
 abbrev μ-loop : tie.MeasureT-loop
-μ-loop image capture budget stack₀ sizes finals spot₀ stack spot = budget - spot .steps
+μ-loop image capture budget stack₀ sizes finals here₀ stack here = budget - here .steps
 
 sizes-of-requires : tie.Need-sizes-of-requires Inv-loop μ-loop
 sizes-of-requires c κs = c .before .before .before .pre .unrefused
@@ -22,49 +22,42 @@ finals-of-requires c κs = image-long _ _ (c .before .before .before .before .pr
 
 loop-holds : tie.Need-loop-holds Inv-loop μ-loop
 loop-holds c =
-    let start = c .before .before .before .before .before in
-    walk-starts _ _ _ _ (start .pre .unrefused) (start .pre .some-cell)
+    let counted = c .before in
+    walk-starts _ _ _ _ _ _ (counted .before .before .before .before .pre) (counted .sizes-of .ensures) (c .finals-of .ensures)
 
 step-requires : tie.Need-step-requires Inv-loop μ-loop
-step-requires c κs =
-    let here = c .before in
-    record {
-      unrefused = here .before .before .before .before .before .before .pre .unrefused;
-      counts = here .before .before .sizes-of .ensures;
-      finals-are = here .before .finals-of .ensures;
-      within = here .loop .inv .within;
-      ready = here .loop .inv .ready;
-    }
+step-requires c κs = c .before .loop .inv .needs
 
-enum-known-went : tie.Need-enum-known-went Inv-loop μ-loop
-enum-known-went c = search needs
+enum-known-result : tie.Need-enum-known-result Inv-loop μ-loop
+enum-known-result c = search needs
 
 loop-less : tie.Need-loop-less Inv-loop μ-loop
 loop-less c =
-    let stepped = c .before .before .before .before .before in
-    let here = stepped .before .before in
-    walks-less (goes-on (here .before .before .before .before .before .before .pre .unrefused) (here .loop .inv) (c .before .went .given .1) (stepped .step .ensures))
+    let matched = c .before in
+    let stepped = matched .before .before .before .before in
+    walks-less (goes-on (stepped .before .before .loop .inv) (matched .result .given .1) (stepped .step .ensures))
 
 loop-again : tie.Need-loop-again Inv-loop μ-loop
 loop-again c =
-    let stepped = c .before .before .before .before .before in
+    let matched = c .before in
+    let stepped = matched .before .before .before .before in
     let here = stepped .before .before in
-    walks-on (here .loop .inv)
-    (goes-on (here .before .before .before .before .before .before .pre .unrefused) (here .loop .inv) (c .before .went .given .1) (stepped .step .ensures))
+    walks-on (here .loop .inv) (goes-on (here .loop .inv) (matched .result .given .1) (stepped .step .ensures))
 
-enum-known-went-2 : tie.Need-enum-known-went-2 Inv-loop μ-loop
-enum-known-went-2 c = search needs
+enum-known-result-2 : tie.Need-enum-known-result-2 Inv-loop μ-loop
+enum-known-result-2 c = search needs
 
 same-length : tie.Need-same-length Inv-loop μ-loop
 same-length c =
-    let stepped = c .before .before .before .before .before .before in
+    let matched = c .before .before in
+    let stepped = matched .before .before .before .before in
     stepped .step .kept .1 .1 .1 .1 .1 .1 .0 ∙ stepped .before .before .loop .inv .long
 
 returns : tie.Need-returns Inv-loop μ-loop
 returns c =
-    let stepped = c .before .before .before .before .before .before in
-    let here = stepped .before .before in
-    answers (here .before .before .before .before .before .before .pre .unrefused) (here .loop .inv) (c .before .before .went2 .given .1) (stepped .step .ensures)
+    let matched = c .before .before in
+    let stepped = matched .before .before .before .before in
+    answers (stepped .before .before .loop .inv) (matched .result2 .given .1) (stepped .step .ensures)
 
 pub run-spec : {M : Type 1} → statement M
 run-spec =
@@ -76,9 +69,9 @@ run-spec =
     finals-of-requires
     loop-holds
     step-requires
-    enum-known-went
+    enum-known-result
     loop-less
     loop-again
-    enum-known-went-2
+    enum-known-result-2
     same-length
     returns)

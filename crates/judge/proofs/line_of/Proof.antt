@@ -7,7 +7,10 @@ use Rattle.judge.proofs.line_of.Statement.{statement}
 use Rattle.judge.proofs.line_of.Tie as tie
 
 slice-aggregate-answer : tie.Need-slice-aggregate-answer
-slice-aggregate-answer c = sym (length-take-le _ _ (c .before .before .before .before .before .before .pre .input-read))
+slice-aggregate-answer c =
+    let at-parts = c .before .before .before .before in
+    let start = at-parts .before .before in
+    sym (length-take-le _ _ (start .pre .input-read))
 
 answer-requires : tie.Need-answer-requires
 answer-requires c κs = search needs
@@ -25,7 +28,13 @@ same-length-4 : tie.Need-same-length-4
 same-length-4 c = search needs
 
 returns : tie.Need-returns
-returns c = prints _ _ _ _ _ _ (c .before .before .before .before .before .before .before .before .before .before .before .before .before .before .before .before .before .before .before .pre .line-long) (c .before .before .before .before .before .before .before .before .answer .kept .1 .1 .1 .1 .0) (c .before .before .before .before .before .before .before .before .answer .ensures)
+returns c =
+    let after-answer = c .before .before .before .before in
+    let at-answer = after-answer .before .before .before .before in
+    let at-input = at-answer .before .before .before .before in
+    let after-start = at-input .before .before .before .before in
+    let start = after-start .before .before .before in
+    prints _ _ _ _ _ _ (start .pre .line-long) (at-answer .answer .kept .1 .1 .1 .1 .0) (at-answer .answer .ensures)
 
 pub line-of-spec : {M : Type 1} → statement M
 line-of-spec =

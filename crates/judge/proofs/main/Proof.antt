@@ -33,7 +33,10 @@ array-share-prefix-line : tie.Need-array-share-prefix-line
 array-share-prefix-line c = search needs
 
 slice-aggregate-write-on : tie.Need-slice-aggregate-write-on
-slice-aggregate-write-on c = sym (length-take-le _ _ (c .before .before .before .before .before .line-of .ensures .within))
+slice-aggregate-write-on c =
+    let after-line-of = c .before .before .before .before in
+    let at-line-of = after-line-of .before in
+    sym (length-take-le _ _ (at-line-of .line-of .ensures .within))
 
 write-on-requires : tie.Need-write-on-requires
 write-on-requires c κs = search needs

@@ -10,16 +10,23 @@ build-image-requires c κs = search needs
 build-reply-requires : tie.Need-build-reply-requires
 build-reply-requires c κs = search needs
 
-tell-requires : tie.Need-tell-requires
-tell-requires c κs = search needs
+write-reply-requires : tie.Need-write-reply-requires
+write-reply-requires c κs = search needs
 
 same-length : tie.Need-same-length
 same-length c = search needs
 
 returns : tie.Need-returns
-returns c = record { built = _; says = c .before .before .before .before .before .build-image .ensures; tells = told-as (c .before .build-reply .ensures) (c .tell .ensures) }
+returns c =
+    let after-call = c .before .before .before .before in
+    let at-call = after-call .before in
+    record {
+      built = _;
+      says = at-call .build-image .ensures;
+      tells = told-as (c .before .build-reply .ensures) (c .write-reply .ensures);
+    }
 
 pub sejimakpu-build-nonnull-spec : {M : Type 1} → statement M
 sejimakpu-build-nonnull-spec =
     tie.close
-    (tie.spec build-image-requires build-reply-requires tell-requires same-length returns)
+    (tie.spec build-image-requires build-reply-requires write-reply-requires same-length returns)

@@ -12,12 +12,12 @@ cells-requires c κs = search needs
 cells-reply-requires : tie.Need-cells-reply-requires
 cells-reply-requires c κs = search needs
 
-tell-requires : tie.Need-tell-requires
-tell-requires c κs = search needs
+write-reply-requires : tie.Need-write-reply-requires
+write-reply-requires c κs = search needs
 
 returns : tie.Need-returns
-returns c = told-as (c .before .cells-reply .ensures ∙ ap of-needs (c .before .before .cells .ensures)) (c .tell .ensures)
+returns c = told-as (c .before .cells-reply .ensures ∙ ap of-needs (c .before .before .cells .ensures)) (c .write-reply .ensures)
 
 pub sejimakpu-cells-nonnull-spec : {M : Type 1} → statement M
 sejimakpu-cells-nonnull-spec =
-    tie.close (tie.spec cells-requires cells-reply-requires tell-requires returns)
+    tie.close (tie.spec cells-requires cells-reply-requires write-reply-requires returns)

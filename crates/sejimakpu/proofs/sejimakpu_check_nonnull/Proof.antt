@@ -12,12 +12,12 @@ check-image-requires c κs = search needs
 check-reply-requires : tie.Need-check-reply-requires
 check-reply-requires c κs = search needs
 
-tell-requires : tie.Need-tell-requires
-tell-requires c κs = search needs
+write-reply-requires : tie.Need-write-reply-requires
+write-reply-requires c κs = search needs
 
 returns : tie.Need-returns
-returns c = told-as (c .before .check-reply .ensures ∙ ap of-checked (c .before .before .check-image .ensures)) (c .tell .ensures)
+returns c = told-as (c .before .check-reply .ensures ∙ ap of-checked (c .before .before .check-image .ensures)) (c .write-reply .ensures)
 
 pub sejimakpu-check-nonnull-spec : {M : Type 1} → statement M
 sejimakpu-check-nonnull-spec =
-    tie.close (tie.spec check-image-requires check-reply-requires tell-requires returns)
+    tie.close (tie.spec check-image-requires check-reply-requires write-reply-requires returns)

@@ -10,8 +10,8 @@ judge-requires c κs = search needs
 judge-reply-requires : tie.Need-judge-reply-requires
 judge-reply-requires c κs = search needs
 
-tell-requires : tie.Need-tell-requires
-tell-requires c κs = search needs
+write-reply-requires : tie.Need-write-reply-requires
+write-reply-requires c κs = search needs
 
 same-length : tie.Need-same-length
 same-length c = search needs
@@ -20,9 +20,16 @@ same-length-2 : tie.Need-same-length-2
 same-length-2 c = search needs
 
 returns : tie.Need-returns
-returns c = record { judged = _; says = c .before .before .before .before .before .before .before .judge .ensures; tells = told-as (c .before .judge-reply .ensures) (c .tell .ensures) }
+returns c =
+    let after-call = c .before .before .before .before in
+    let at-call = after-call .before .before .before in
+    record {
+      judged = _;
+      says = at-call .judge .ensures;
+      tells = told-as (c .before .judge-reply .ensures) (c .write-reply .ensures);
+    }
 
 pub sejimakpu-judge-nonnull-spec : {M : Type 1} → statement M
 sejimakpu-judge-nonnull-spec =
     tie.close
-    (tie.spec judge-requires judge-reply-requires tell-requires same-length same-length-2 returns)
+    (tie.spec judge-requires judge-reply-requires write-reply-requires same-length same-length-2 returns)

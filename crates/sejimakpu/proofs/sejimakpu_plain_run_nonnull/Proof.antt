@@ -10,15 +10,22 @@ plain-run-requires c κs = search needs
 run-reply-requires : tie.Need-run-reply-requires
 run-reply-requires c κs = search needs
 
-tell-requires : tie.Need-tell-requires
-tell-requires c κs = search needs
+write-reply-requires : tie.Need-write-reply-requires
+write-reply-requires c κs = search needs
 
 same-length : tie.Need-same-length
 same-length c = search needs
 
 returns : tie.Need-returns
-returns c = record { ran = _; says = c .before .before .before .before .before .plain-run .ensures; tells = told-as (c .before .run-reply .ensures) (c .tell .ensures) }
+returns c =
+    let after-call = c .before .before .before .before in
+    let at-call = after-call .before in
+    record {
+      ran = _;
+      says = at-call .plain-run .ensures;
+      tells = told-as (c .before .run-reply .ensures) (c .write-reply .ensures);
+    }
 
 pub sejimakpu-plain-run-nonnull-spec : {M : Type 1} → statement M
 sejimakpu-plain-run-nonnull-spec =
-    tie.close (tie.spec plain-run-requires run-reply-requires tell-requires same-length returns)
+    tie.close (tie.spec plain-run-requires run-reply-requires write-reply-requires same-length returns)

@@ -1,12 +1,11 @@
 -- `answer::input::second_pair_right` meets its contract. Assumes nothing.
-use borrow.Author.Tests.{eq-eqb, ne-eqb}
-use Rattle.answer.specs.Input.{second-pair-right}
 use borrow.Author.Needs.{needs}
+use Rattle.answer.proofs.InputLaws.{second-offset-wrong, second-offset-right}
 use Rattle.answer.proofs.input.second_pair_right.Statement.{statement}
 use Rattle.answer.proofs.input.second_pair_right.Tie as tie
 
-four-requires : tie.Need-four-requires
-four-requires c κs = search needs
+read-pair-requires : tie.Need-read-pair-requires
+read-pair-requires c κs = search needs
 
 cast-offset : tie.Need-cast-offset
 cast-offset c = search needs
@@ -15,11 +14,9 @@ capture-offset-requires : tie.Need-capture-offset-requires
 capture-offset-requires c κs = search needs
 
 returns : tie.Need-returns
-unfolding second-pair-right
-returns c = simp (← c .before .before .four .ensures, ← c .before .capture-offset .ensures, ne-eqb _ _ (c .if1 .taken))
-
-four-requires-2 : tie.Need-four-requires-2
-four-requires-2 c κs = search needs
+returns c =
+    let middle = c .before in
+    second-offset-wrong _ _ (middle .before .before .read-pair .ensures) _ (middle .capture-offset .ensures) (c .if1 .taken)
 
 cast-long : tie.Need-cast-long
 cast-long c = search needs
@@ -28,18 +25,11 @@ add-end : tie.Need-add-end
 add-end c = search needs
 
 returns-2 : tie.Need-returns-2
-unfolding second-pair-right
-returns-2 c = simp (← c .before .before .before .four .ensures, ← c .before .before .capture-offset .ensures, eq-eqb _ _ (c .before .if1 .left), ← c .four2 .ensures)
+returns-2 c =
+    let test = c .before in
+    let middle = test .before in
+    second-offset-right _ _ (middle .before .before .read-pair .ensures) _ (middle .capture-offset .ensures) (test .if1 .left)
 
 pub second-pair-right-spec : {M : Type 1} → statement M
 second-pair-right-spec =
-    tie.close
-    (tie.spec
-    four-requires
-    cast-offset
-    capture-offset-requires
-    returns
-    four-requires-2
-    cast-long
-    add-end
-    returns-2)
+    tie.close (tie.spec read-pair-requires cast-offset capture-offset-requires returns cast-long add-end returns-2)

@@ -1,30 +1,73 @@
 -- `chain::step::look` meets its contract. Assumes nothing.
-use Rattle.chain.proofs.StepSafe.{at-fits, note-there, first-ready, counts-some, closed-ready, closed-resumes}
-use Rattle.chain.specs.Turn
+use Rattle.chain.specs.Step
+use Rattle.chain.proofs.StepSafe.{at-fits, note-there, first-ready, counts-some, closable}
+use mathlib.Core.Path.{sym, _∙_}
 use Rattle.machine.specs.Image.{machine}
-use borrow.Author.Tests.{eq-eqb, ne-eqb}
-use mathlib.Core.Path.{sym}
+use Rattle.chain.proofs.LookBy.{look-unseen, look-open, look-closed}
 use borrow.Author.Needs.{needs}
 use Rattle.chain.proofs.step.look.Statement.{statement}
 use Rattle.chain.proofs.step.look.Tie as tie
+use Rattle.chain.proofs.step.closed.Reads as closed-reads
+use Rattle.chain.proofs.step.first_look.Reads as first-look-reads
+use Rattle.chain.proofs.step.registers_of.Reads as registers-of-reads
+use Rattle.machine.proofs.lookup.action_of.Reads as action-of-reads
+use Rattle.machine.proofs.lookup.config_from.Reads as config-from-reads
+use Rattle.machine.proofs.lookup.number.Reads as number-reads
+use Rattle.machine.proofs.notes.note_of.Reads as note-of-reads
 
 number-requires : tie.Need-number-requires
-number-requires c κs = at-fits (c .before .before .before .before .before .before .pre)
+number-requires c κs =
+    let back4 = c .before .before .before .before in
+    at-fits (back4 .before .pre)
 
 cast-i : tie.Need-cast-i
 cast-i c = search needs
 
-mul-note : tie.Need-mul-note
-mul-note c = search needs
+mul-note-of : tie.Need-mul-note-of
+mul-note-of c = search needs
 
-slice-read-note : tie.Need-slice-read-note
-slice-read-note c = note-there (c .before .before .before .before .before .before .before .before .pre) (c .before .number .ensures)
+slice-read-note-of : tie.Need-slice-read-note-of
+slice-read-note-of c =
+    let back4 = c .before .before .before .before in
+    note-there (back4 .before .before .before .pre) (c .before .number .ensures)
+
+note-of-requires : tie.Need-note-of-requires
+note-of-requires c κs = search needs
+
+enum-told : tie.Need-enum-told
+enum-told c = search needs
 
 action-of-requires : tie.Need-action-of-requires
 action-of-requires c κs = search needs
 
 first-look-requires : tie.Need-first-look-requires
-first-look-requires c κs = first-ready (c .before .before .before .before .before .before .before .before .before .before .before .before .pre) (c .before .before .before .before .before .number .ensures) (c .before .before .action-of .ensures)
+first-look-requires c κs =
+    let back4 = c .before .before .before .before in
+    let back8 = back4 .before .before .before .before in
+    let back12 = back8 .before .before .before .before in
+    first-ready (back12 .before .pre) (back4 .before .before .before .number .ensures) (c .before .before .action-of .ensures)
+
+enum-told-2 : tie.Need-enum-told-2
+enum-told-2 c = search needs
+
+registers-of-requires : tie.Need-registers-of-requires
+registers-of-requires c κs = search needs
+
+enum-known-note : tie.Need-enum-known-note
+enum-known-note c = search needs
+
+config-from-requires : tie.Need-config-from-requires
+config-from-requires c κs =
+    let back4 = c .before .before .before .before in
+    let back8 = back4 .before .before .before .before in
+    counts-some (back8 .before .before .before .pre)
+
+closed-requires : tie.Need-closed-requires
+closed-requires c κs =
+    let back4 = c .before .before .before .before in
+    let back8 = back4 .before .before .before .before in
+    let back12 = back8 .before .before .before .before in
+    closable (back12 .pre) _ _ (sym (c .before .before .before .before .note-of .ensures) ∙ c .before .before .note .given .1) (c .config-from .ensures)
 
 same-length : tie.Need-same-length
 same-length c = search needs
@@ -33,38 +76,23 @@ same-length-2 : tie.Need-same-length-2
 same-length-2 c = search needs
 
 returns : tie.Need-returns
-unfolding Turn.turn-by Turn.look machine
-returns c = simp (sym (c .before .before .before .before .before .before .before .before .before .before .number .ensures), eq-eqb _ _ (c .before .before .before .before .before .before .before .before .if1 .taken)) (rw (← c .before .before .before .before .before .before .before .action-of .ensures) (c .before .before .before .before .first-look .ensures))
-
-with-now-requires : tie.Need-with-now-requires
-with-now-requires c κs = search needs
+returns c =
+    let back4 = c .before .before .before .before in
+    let back8 = back4 .before .before .before .before in
+    let back12 = back8 .before .before .before .before in
+    look-unseen (back12 .number .ensures) (sym (back8 .before .before .note-of .ensures) ∙ back8 .enum-told .given .1)
+    (back4 .before .before .before .action-of .ensures) (c .before .before .before .before .first-look .ensures)
 
 returns-2 : tie.Need-returns-2
-unfolding Turn.turn-by Turn.look machine
-returns-2 c = simp (sym (c .before .before .before .before .number .ensures), ne-eqb _ _ (c .before .before .if1 .left), eq-eqb _ _ (c .before .if2 .taken)) (rw (c .with-now .ensures))
-
-sub-config-from : tie.Need-sub-config-from
-sub-config-from c = search needs
-
-config-from-requires : tie.Need-config-from-requires
-config-from-requires c κs = counts-some (c .before .before .before .before .before .before .before .before .before .before .pre)
-
-action-of-requires-2 : tie.Need-action-of-requires-2
-action-of-requires-2 c κs = closed-ready (c .before .before .before .before .before .before .before .before .before .before .before .before .pre) _ (c .before .config-from .ensures)
-
-resumed-requires : tie.Need-resumed-requires
-resumed-requires c κs = closed-resumes (c .before .before .before .before .before .before .before .before .before .before .before .before .before .pre) _ (c .before .before .config-from .ensures) (c .action-of2 .ensures)
+returns-2 c =
+    let back4 = c .before .before .before .before in
+    look-open (back4 .before .number .ensures) (sym (c .before .before .before .note-of .ensures) ∙ c .before .enum-told2 .given .1) (c .registers-of .ensures)
 
 returns-3 : tie.Need-returns-3
-unfolding Turn.turn-by Turn.look Turn.closed machine
-returns-3 c = simp (sym (c .before .before .before .before .before .before .before .number .ensures), ne-eqb _ _ (c .before .before .before .before .before .if1 .left), ne-eqb _ _ (c .before .before .before .before .if2 .left), c .before .before .if3 .taken) (rw (c .resumed .ensures, c .before .action-of2 .ensures, c .before .before .before .config-from .ensures))
-
-with-now-requires-2 : tie.Need-with-now-requires-2
-with-now-requires-2 c κs = search needs
-
-returns-4 : tie.Need-returns-4
-unfolding Turn.turn-by Turn.look Turn.closed machine
-returns-4 c = simp (sym (c .before .before .before .before .before .before .number .ensures), ne-eqb _ _ (c .before .before .before .before .if1 .left), ne-eqb _ _ (c .before .before .before .if2 .left), c .before .if3 .left) (rw (c .with-now2 .ensures, c .before .before .config-from .ensures))
+returns-3 c =
+    let back4 = c .before .before .before .before in
+    look-closed (back4 .before .before .before .number .ensures) (sym (back4 .before .note-of .ensures) ∙ c .before .before .before .note .given .1)
+    (c .before .config-from .ensures) (c .closed .ensures)
 
 pub look-spec : {M : Type 1} → statement M
 look-spec =
@@ -72,19 +100,19 @@ look-spec =
     (tie.spec
     number-requires
     cast-i
-    mul-note
-    slice-read-note
+    mul-note-of
+    slice-read-note-of
+    note-of-requires
+    enum-told
     action-of-requires
     first-look-requires
+    enum-told-2
+    registers-of-requires
+    enum-known-note
+    config-from-requires
+    closed-requires
     same-length
     same-length-2
     returns
-    with-now-requires
     returns-2
-    sub-config-from
-    config-from-requires
-    action-of-requires-2
-    resumed-requires
-    returns-3
-    with-now-requires-2
-    returns-4)
+    returns-3)

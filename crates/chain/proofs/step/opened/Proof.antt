@@ -3,6 +3,8 @@ use mathlib.Core.Path.{refl}
 use borrow.Author.Needs.{needs}
 use Rattle.chain.proofs.step.opened.Statement.{statement}
 use Rattle.chain.proofs.step.opened.Tie as tie
+use Rattle.chain.proofs.step.link.Reads as link-reads
+use Rattle.chain.proofs.step.registers_of.Reads as registers-of-reads
 
 mul-notes : tie.Need-mul-notes
 mul-notes c = search needs
@@ -25,8 +27,8 @@ add-top c = search needs
 add-readings : tie.Need-add-readings
 add-readings c = search needs
 
-with-now-requires : tie.Need-with-now-requires
-with-now-requires c κs = search needs
+registers-of-requires : tie.Need-registers-of-requires
+registers-of-requires c κs = search needs
 
 same-length : tie.Need-same-length
 same-length c = search needs
@@ -35,7 +37,7 @@ same-length-2 : tie.Need-same-length-2
 same-length-2 c = search needs
 
 returns : tie.Need-returns
-returns c = rw (c .with-now .ensures, c .before .before .link .ensures) refl
+returns c = record { is = rw (c .registers-of .ensures, c .before .before .link .ensures) refl }
 
 pub opened-spec : {M : Type 1} → statement M
 opened-spec =
@@ -48,7 +50,7 @@ opened-spec =
     slice-write-work
     add-top
     add-readings
-    with-now-requires
+    registers-of-requires
     same-length
     same-length-2
     returns)

@@ -1,10 +1,12 @@
 -- `chain::step::unwind` meets its contract. Assumes nothing.
+use Rattle.chain.specs.Step
+use Rattle.chain.proofs.StepSafe.{at-fits, number-room}
 use native.Mathlib.Omega.{arith}
 use borrow.Author.Needs.{needs}
-use Rattle.chain.specs.Turn
-use Rattle.chain.proofs.StepSafe.{at-fits, number-room}
 use Rattle.chain.proofs.step.unwind.Statement.{statement}
 use Rattle.chain.proofs.step.unwind.Tie as tie
+use Rattle.chain.proofs.step.unwound.Reads as unwound-reads
+use Rattle.machine.proofs.lookup.number.Reads as number-reads
 
 sub-k : tie.Need-sub-k
 sub-k c = search needs
@@ -19,10 +21,15 @@ slice-read-cell : tie.Need-slice-read-cell
 slice-read-cell c = search needs
 
 number-requires : tie.Need-number-requires
-number-requires c κs = at-fits (c .before .before .before .before .before .before .before .before .pre .0)
+number-requires c κs =
+    let back4 = c .before .before .before .before in
+    at-fits (back4 .before .before .before .pre .ready)
 
 add-note : tie.Need-add-note
-add-note c = omega (arith, number-room (c .before .before .before .before .before .before .before .before .before .pre .0) (c .number .ensures))
+add-note c =
+    let back4 = c .before .before .before .before in
+    let back8 = back4 .before .before .before .before in
+    omega (arith, number-room (back8 .pre .ready) (c .number .ensures))
 
 mul-notes : tie.Need-mul-notes
 mul-notes c = search needs
@@ -46,8 +53,8 @@ same-length-2 : tie.Need-same-length-2
 same-length-2 c = search needs
 
 returns : tie.Need-returns
-unfolding Turn.turn-by Turn.unwind
-returns c = rw (c .before .number .ensures, c .unwound .ensures)
+unfolding Step.step-by-mode Step.unwind
+returns c = record { is = rw (c .before .number .ensures, c .unwound .ensures) }
 
 pub unwind-spec : {M : Type 1} → statement M
 unwind-spec =

@@ -1,82 +1,77 @@
--- `grammar::build::write_header` meets its contract: eight parts of four bytes, each after the one before. Assumes nothing.
+-- `grammar::build::write_header` meets its contract: three pairs, the counts and the finals, each after the one before. Assumes nothing.
 use borrow.Author.Needs.{needs}
+use mathlib.Core.Path.{refl}
 use Rattle.grammar.proofs.CodeWriting.{header-written}
 use Rattle.grammar.proofs.build.write_header.Statement.{statement}
 use Rattle.grammar.proofs.build.write_header.Tie as tie
 
-cast-put-number : tie.Need-cast-put-number
-cast-put-number c = search needs
+cast-size : tie.Need-cast-size
+cast-size c = search needs
 
-put-number-requires : tie.Need-put-number-requires
-put-number-requires c κs = search needs
+mul-size : tie.Need-mul-size
+mul-size c = search needs
 
-cast-put-number-2 : tie.Need-cast-put-number-2
-cast-put-number-2 c = search needs
+cast-t9 : tie.Need-cast-t9
+cast-t9 c = search needs
 
-put-number-requires-2 : tie.Need-put-number-requires-2
-put-number-requires-2 c κs = search needs
+cast-t10 : tie.Need-cast-t10
+cast-t10 c = search needs
 
-cast-put-number-3 : tie.Need-cast-put-number-3
-cast-put-number-3 c = search needs
+cast-t9-2 : tie.Need-cast-t9-2
+cast-t9-2 c = search needs
 
-put-number-requires-3 : tie.Need-put-number-requires-3
-put-number-requires-3 c κs = search needs
+cast-t10-2 : tie.Need-cast-t10-2
+cast-t10-2 c = search needs
 
-cast-put-number-4 : tie.Need-cast-put-number-4
-cast-put-number-4 c = search needs
+cast-t9-3 : tie.Need-cast-t9-3
+cast-t9-3 c = search needs
 
-put-number-requires-4 : tie.Need-put-number-requires-4
-put-number-requires-4 c κs = search needs
+write-pair-requires : tie.Need-write-pair-requires
+write-pair-requires c κs = search needs
 
-cast-put-number-5 : tie.Need-cast-put-number-5
-cast-put-number-5 c = search needs
+write-pair-requires-2 : tie.Need-write-pair-requires-2
+write-pair-requires-2 c κs = search needs
 
-put-number-requires-5 : tie.Need-put-number-requires-5
-put-number-requires-5 c κs = search needs
+write-pair-requires-3 : tie.Need-write-pair-requires-3
+write-pair-requires-3 c κs = search needs
 
-put-number-requires-6 : tie.Need-put-number-requires-6
-put-number-requires-6 c κs = search needs
+write-four-requires : tie.Need-write-four-requires
+write-four-requires c κs = search needs
 
-put-requires : tie.Need-put-requires
-put-requires c κs = search needs
-
-put-number-requires-7 : tie.Need-put-number-requires-7
-put-number-requires-7 c κs = search needs
+write-u32-requires : tie.Need-write-u32-requires
+write-u32-requires c κs = search needs
 
 same-length : tie.Need-same-length
 same-length c = search needs
 
 returns : tie.Need-returns
 returns c =
-    let p8 = c .before .before in
-    let p7 = p8 .before .before .before .before in
-    let p6 = p7 .before .before .before .before in
-    let p5 = p6 .before .before .before .before in
-    let p4 = p5 .before .before .before .before in
-    let p3 = p4 .before .before .before .before in
-    let p2 = p3 .before .before .before .before in
-    let p1 = p2 .before .before .before .before in
-    header-written (p1 .before .before .before .args .image .now) (p1 .put-number .last .0) (p2 .put-number2 .last .0) (p3 .put-number3 .last .0) (p4 .put-number4 .last .0)
-    (p5 .put-number5 .last .0) (p6 .put-number6 .last .0) (p7 .put .last .0) (p8 .put-number7 .last .0)
-    _ _ _ (p1 .put-number .ensures) (p2 .put-number2 .ensures) (p3 .put-number3 .ensures) (p4 .put-number4 .ensures)
-    (p5 .put-number5 .ensures) (p6 .put-number6 .ensures) (p7 .put .ensures) (p8 .put-number7 .ensures)
+    let finals = c .before .before in
+    let counts = finals .before .before .before .before in
+    let third = counts .before .before .before .before in
+    let second = third .before .before .before .before in
+    let first = second .before .before .before .before in
+    let start = first .before .before .before in
+    header-written (start .args .image .now) (first .write-pair .last .0) (second .write-pair2 .last .0) (third .write-pair3 .last .0)
+    (counts .write-four .last .0) (finals .write-u32 .last .0)
+    _ _ (start .args .count) _ refl (start .pre .0) (first .write-pair .ensures) (second .write-pair2 .ensures) (third .write-pair3 .ensures)
+    (counts .write-four .ensures) (finals .write-u32 .ensures)
 
 pub write-header-spec : {M : Type 1} → statement M
 write-header-spec =
     tie.close
     (tie.spec
-    cast-put-number
-    put-number-requires
-    cast-put-number-2
-    put-number-requires-2
-    cast-put-number-3
-    put-number-requires-3
-    cast-put-number-4
-    put-number-requires-4
-    cast-put-number-5
-    put-number-requires-5
-    put-number-requires-6
-    put-requires
-    put-number-requires-7
+    cast-size
+    mul-size
+    cast-t9
+    cast-t10
+    cast-t9-2
+    cast-t10-2
+    cast-t9-3
+    write-pair-requires
+    write-pair-requires-2
+    write-pair-requires-3
+    write-four-requires
+    write-u32-requires
     same-length
     returns)

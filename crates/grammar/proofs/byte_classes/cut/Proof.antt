@@ -1,7 +1,6 @@
 -- `grammar::byte_classes::cut` meets its contract: the loop's invariant says that the rules left decide. Assumes nothing.
 use Prim.Native.Nat.{_-_}
 use native.Mathlib.Omega.{arith}
-use Rattle.grammar.specs.Classes.{cuts-at}
 use Rattle.grammar.specs.Grammar.{rules}
 use Rattle.grammar.proofs.CodeGrammar.{Cuts-left, cuts-start, cuts-stop, cuts-next, cuts-end}
 use Rattle.grammar.proofs.byte_classes.cut.Statement.{statement}
@@ -16,20 +15,14 @@ abbrev μ-loop : tie.MeasureT-loop
 loop-holds : tie.Need-loop-holds Inv-loop μ-loop
 loop-holds c = cuts-start _ _
 
-expression-of-requires : tie.Need-expression-of-requires Inv-loop μ-loop
+rule-cuts-requires : tie.Need-rule-cuts-requires Inv-loop μ-loop
 unfolding rules
-expression-of-requires c κs = omega arith
-
-cuts-at-requires : tie.Need-cuts-at-requires Inv-loop μ-loop
-cuts-at-requires c κs = tt
+rule-cuts-requires c κs = omega arith
 
 returns : tie.Need-returns Inv-loop μ-loop
 unfolding rules
 returns c =
-    let start = c .before .before .before .before .before .before in
-    cuts-stop (start .args .grammar .now) (start .args .v) (c .before .before .before .before .loop .k)
-    (c .before .before .before .before .loop .inv) (c .before .before .before .loop-test .taken) _ _
-    (c .before .before .expression-of .ensures) (c .before .cuts-at .ensures) (c .if1 .taken)
+    cuts-stop _ _ _ (c .before .before .before .loop .inv) (c .before .before .loop-test .taken) _ (c .before .rule-cuts .ensures) (c .if1 .taken)
 
 add-k : tie.Need-add-k Inv-loop μ-loop
 add-k c = omega arith
@@ -40,10 +33,7 @@ loop-less c = omega arith
 loop-again : tie.Need-loop-again Inv-loop μ-loop
 unfolding rules
 loop-again c =
-    let start = c .before .before .before .before .before .before in
-    cuts-next (start .args .grammar .now) (start .args .v) (c .before .before .before .before .loop .k)
-    (c .before .before .before .before .loop .inv) (c .before .before .before .loop-test .taken) _ _
-    (c .before .before .expression-of .ensures) (c .before .cuts-at .ensures) (c .if1 .left)
+    cuts-next _ _ _ (c .before .before .before .loop .inv) (c .before .before .loop-test .taken) _ (c .before .rule-cuts .ensures) (c .if1 .left)
 
 returns-2 : tie.Need-returns-2 Inv-loop μ-loop
 unfolding rules
@@ -58,8 +48,7 @@ cut-spec =
     Inv-loop
     μ-loop
     loop-holds
-    expression-of-requires
-    cuts-at-requires
+    rule-cuts-requires
     returns
     add-k
     loop-less

@@ -1,59 +1,38 @@
--- `grammar::byte_classes::cuts_at` meets its contract: only a range cuts. Assumes nothing.
-use borrow.Author.Needs.{needs}
+-- `grammar::byte_classes::cuts_at` meets its contract: the first byte, or the one after the last. Assumes nothing.
+use borrow.Author.Tests.{eq-eqb, ne-eqb}
 use Rattle.grammar.specs.Classes.{cuts-at}
+use borrow.Author.Needs.{needs}
 use Rattle.grammar.proofs.byte_classes.cuts_at.Statement.{statement}
 use Rattle.grammar.proofs.byte_classes.cuts_at.Tie as tie
 
+enum-known-r : tie.Need-enum-known-r
+enum-known-r c = search needs
+
 enum-told : tie.Need-enum-told
 enum-told c = search needs
-
-enum-told-2 : tie.Need-enum-told-2
-enum-told-2 c = search needs
-
-enum-told-3 : tie.Need-enum-told-3
-enum-told-3 c = search needs
-
-enum-told-4 : tie.Need-enum-told-4
-enum-told-4 c = search needs
-
-enum-known-e : tie.Need-enum-known-e
-enum-known-e c = search needs
-
-range-cuts-requires : tie.Need-range-cuts-requires
-range-cuts-requires c κs = search needs
 
 returns : tie.Need-returns
 unfolding cuts-at
 returns c = simp (c .enum-told .given .1)
 
+cast-first : tie.Need-cast-first
+cast-first c = search needs
+
 returns-2 : tie.Need-returns-2
 unfolding cuts-at
-returns-2 c = simp (c .enum-told2 .given .1)
+returns-2 c = simp (c .before .before .r .given .1, eq-eqb _ _ (c .if1 .taken))
+
+cast-after : tie.Need-cast-after
+cast-after c = search needs
+
+add-after : tie.Need-add-after
+add-after c = search needs
 
 returns-3 : tie.Need-returns-3
 unfolding cuts-at
-returns-3 c = simp (c .enum-told3 .given .1)
-
-returns-4 : tie.Need-returns-4
-unfolding cuts-at
-returns-4 c = simp (c .enum-told4 .given .1)
-
-returns-5 : tie.Need-returns-5
-unfolding cuts-at
-returns-5 c = simp (c .before .before .e .given .1) (c .range-cuts .ensures)
+returns-3 c = simp (c .before .before .r .given .1, ne-eqb _ _ (c .if1 .left))
 
 pub cuts-at-spec : {M : Type 1} → statement M
 cuts-at-spec =
     tie.close
-    (tie.spec
-    enum-told
-    enum-told-2
-    enum-told-3
-    enum-told-4
-    enum-known-e
-    range-cuts-requires
-    returns
-    returns-2
-    returns-3
-    returns-4
-    returns-5)
+    (tie.spec enum-known-r enum-told returns cast-first returns-2 cast-after add-after returns-3)

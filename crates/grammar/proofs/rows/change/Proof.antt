@@ -1,9 +1,10 @@
--- `grammar::rows::change` meets its contract: the symbol of a rule below 31 is a byte. Assumes nothing.
+-- `grammar::rows::change` meets its contract: the symbol of a rule below the most is a byte. Assumes nothing.
 use mathlib.Core.Path.{ap}
 use Prim.Native.Nat.{ℕ}
 use native.Mathlib.Omega.{arith}
 use borrow.Author.Needs.{needs}
-use Rattle.grammar.specs.Image.{rule}
+use Rattle.machine.specs.Format
+use Rattle.grammar.specs.Table.{state-work, rule}
 use Rattle.grammar.proofs.rows.change.Statement.{statement}
 use Rattle.grammar.proofs.rows.change.Tie as tie
 
@@ -14,7 +15,7 @@ add-symbol : tie.Need-add-symbol
 add-symbol c = search needs
 
 returns : tie.Need-returns
-returns c = ap (λ (a : ℕ). rule 1 1 a 0) (omega arith)
+returns c = ap (λ (a : ℕ). rule Format.kind-change state-work a Format.move-stay) (omega arith)
 
 pub change-spec : {M : Type 1} → statement M
 change-spec = tie.close (tie.spec mul-symbol add-symbol returns)

@@ -2,8 +2,9 @@
 use mathlib.Core.Path.{ap}
 use Prim.Native.Nat.{ℕ}
 use native.Mathlib.Omega.{arith}
+use Rattle.machine.specs.Format
+use Rattle.grammar.specs.Table.{state-ok, rule}
 use borrow.Author.Needs.{needs}
-use Rattle.grammar.specs.Image.{rule}
 use Rattle.grammar.proofs.rows.one_byte.Statement.{statement}
 use Rattle.grammar.proofs.rows.one_byte.Tie as tie
 
@@ -14,13 +15,10 @@ add-symbol : tie.Need-add-symbol
 add-symbol c = search needs
 
 returns : tie.Need-returns
-returns c = simp (c .if1 .taken) (ap (λ (a : ℕ). rule 1 2 a 1) (omega arith))
-
-pop-requires : tie.Need-pop-requires
-pop-requires c κs = search needs
+returns c = simp (c .if1 .taken) (ap (λ (a : ℕ). rule Format.kind-change state-ok a Format.move-right) (omega arith))
 
 returns-2 : tie.Need-returns-2
-returns-2 c = simp (c .before .if1 .left) (c .pop .ensures)
+returns-2 c = simp (c .if1 .left)
 
 pub one-byte-spec : {M : Type 1} → statement M
-one-byte-spec = tie.close (tie.spec mul-symbol add-symbol returns pop-requires returns-2)
+one-byte-spec = tie.close (tie.spec mul-symbol add-symbol returns returns-2)

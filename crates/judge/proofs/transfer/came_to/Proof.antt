@@ -26,10 +26,16 @@ bytes-requires : tie.Need-bytes-requires
 bytes-requires c κs = ltZ-no (subst (λ (b : Bool). T (not b)) (sym (c .if1 .left)) tt)
 
 returns-2 : tie.Need-returns-2
-returns-2 c = is-nothing (c .before .before .before .args .answer) (c .before .before .before .args .error) _ (c .before .bytes .ensures ∙ toZ-ofZ w64 (c .before .before .before .args .answer) (c .before .before .before .fits .answer)) (c .if2 .taken)
+returns-2 c =
+    let start = c .before .before .before in
+    let same = c .before .bytes .ensures ∙ toZ-ofZ w64 (start .args .answer) (start .fits .answer) in
+    is-nothing (start .args .answer) (start .args .error) _ same (c .if2 .taken)
 
 returns-3 : tie.Need-returns-3
-returns-3 c = is-bytes (c .before .before .before .args .answer) (c .before .before .before .args .error) _ (c .before .bytes .ensures ∙ toZ-ofZ w64 (c .before .before .before .args .answer) (c .before .before .before .fits .answer)) (c .if2 .left)
+returns-3 c =
+    let start = c .before .before .before in
+    let same = c .before .bytes .ensures ∙ toZ-ofZ w64 (start .args .answer) (start .fits .answer) in
+    is-bytes (start .args .answer) (start .args .error) _ same (c .if2 .left)
 
 pub came-to-spec : {M : Type 1} → statement M
 came-to-spec = tie.close (tie.spec why-not-requires returns bytes-requires returns-2 returns-3)

@@ -25,37 +25,64 @@ enum-known-last : tie.Need-enum-known-last Inv-loop μ-loop
 enum-known-last c = search needs
 
 add-count : tie.Need-add-count Inv-loop μ-loop
-add-count c = let more = moved-within _ _ _ _ (c .before .last .given .1) (c .before .before .before .before .before .read-once .ensures .0) in omega (arith, (c .before .before .before .before .before .read-once .kept .0), more)
+add-count c =
+    let before-end = c .before .before .before .before in
+    let at-read-once = before-end .before in
+    let more = moved-within _ _ _ _ (c .before .last .given .1) (at-read-once .read-once .ensures .0) in omega (arith, (at-read-once .read-once .kept .0), more)
 
 loop-less : tie.Need-loop-less Inv-loop μ-loop
-loop-less c = let more = moved-within _ _ _ _ (c .before .last .given .1) (c .before .before .before .before .before .read-once .ensures .0) in omega (arith, (c .before .before .before .before .before .read-once .kept .0), more)
+loop-less c =
+    let before-end = c .before .before .before .before in
+    let at-read-once = before-end .before in
+    let more = moved-within _ _ _ _ (c .before .last .given .1) (at-read-once .read-once .ensures .0) in omega (arith, (at-read-once .read-once .kept .0), more)
 
 loop-again : tie.Need-loop-again Inv-loop μ-loop
-loop-again c = let more = moved-within _ _ _ _ (c .before .last .given .1) (c .before .before .before .before .before .read-once .ensures .0) in ((c .before .before .before .before .before .read-once .kept .0) ∙ c .before .before .before .before .before .before .before .before .loop .inv .0, (omega arith, more .1))
+loop-again c =
+    let before-end = c .before .before .before .before in
+    let at-read-once = before-end .before in
+    let at-loop = at-read-once .before .before .before in
+    let more = moved-within _ _ _ _ (c .before .last .given .1) (at-read-once .read-once .ensures .0) in ((at-read-once .read-once .kept .0) ∙ at-loop .loop .inv .0, (omega arith, more .1))
 
 enum-told : tie.Need-enum-told Inv-loop μ-loop
 enum-told c = search needs
 
 same-length : tie.Need-same-length Inv-loop μ-loop
-same-length c = c .before .before .before .before .before .read-once .kept .0 ∙ c .before .before .before .before .before .before .before .before .loop .inv .0
+same-length c =
+    let before-end = c .before .before .before .before in
+    let at-read-once = before-end .before in
+    let at-loop = at-read-once .before .before .before in
+    at-read-once .read-once .kept .0 ∙ at-loop .loop .inv .0
 
 returns : tie.Need-returns Inv-loop μ-loop
-returns c = stops-at _ Interrupted _ _ (c .before .enum-told .given .1) (omega (arith, (c .before .before .before .before .before .read-once .kept .0)))
+returns c =
+    let before-end = c .before .before .before .before in
+    let at-read-once = before-end .before in
+    stops-at _ Interrupted _ _ (c .before .enum-told .given .1) (omega (arith, (at-read-once .read-once .kept .0)))
 
 sub-tries : tie.Need-sub-tries Inv-loop μ-loop
 sub-tries c = omega arith
 
 loop-less-2 : tie.Need-loop-less-2 Inv-loop μ-loop
-loop-less-2 c = omega (arith, (c .before .before .before .before .before .read-once .kept .0))
+loop-less-2 c =
+    let before-end = c .before .before .before .before in
+    let at-read-once = before-end .before in
+    omega (arith, (at-read-once .read-once .kept .0))
 
 loop-again-2 : tie.Need-loop-again-2 Inv-loop μ-loop
-loop-again-2 c = ((c .before .before .before .before .before .read-once .kept .0) ∙ c .before .before .before .before .before .before .before .before .loop .inv .0, goes-on _ Interrupted _ _ (c .before .enum-told .given .1) (omega (arith, (c .before .before .before .before .before .read-once .kept .0))))
+loop-again-2 c =
+    let before-end = c .before .before .before .before in
+    let at-read-once = before-end .before in
+    let at-loop = at-read-once .before .before .before in
+    ((at-read-once .read-once .kept .0) ∙ at-loop .loop .inv .0, goes-on _ Interrupted _ _ (c .before .enum-told .given .1) (omega (arith, (at-read-once .read-once .kept .0))))
 
 enum-told-2 : tie.Need-enum-told-2 Inv-loop μ-loop
 enum-told-2 c = search needs
 
 same-length-2 : tie.Need-same-length-2 Inv-loop μ-loop
-same-length-2 c = c .before .before .before .before .read-once .kept .0 ∙ c .before .before .before .before .before .before .before .loop .inv .0
+same-length-2 c =
+    let at-read-once = c .before .before .before .before in
+    let at-loop = at-read-once .before .before .before in
+    at-read-once .read-once .kept .0 ∙ at-loop .loop .inv .0
 
 returns-2 : tie.Need-returns-2 Inv-loop μ-loop
 returns-2 c = stops-at _ Nothing _ _ (c .enum-told2 .given .1) (omega (arith, (c .before .before .before .before .read-once .kept .0)))
@@ -64,7 +91,10 @@ enum-told-3 : tie.Need-enum-told-3 Inv-loop μ-loop
 enum-told-3 c = search needs
 
 same-length-3 : tie.Need-same-length-3 Inv-loop μ-loop
-same-length-3 c = c .before .before .before .before .read-once .kept .0 ∙ c .before .before .before .before .before .before .before .loop .inv .0
+same-length-3 c =
+    let at-read-once = c .before .before .before .before in
+    let at-loop = at-read-once .before .before .before in
+    at-read-once .read-once .kept .0 ∙ at-loop .loop .inv .0
 
 returns-3 : tie.Need-returns-3 Inv-loop μ-loop
 returns-3 c = stops-at _ Failed _ _ (c .enum-told3 .given .1) (omega (arith, (c .before .before .before .before .read-once .kept .0)))

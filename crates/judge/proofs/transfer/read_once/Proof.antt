@@ -35,15 +35,20 @@ same-length c = search needs
 
 returns : tie.Need-returns
 returns c =
-    let at = c .before .before .before .before .before .before .before in
-    let got = c .before .before .before .before .read in
+    let at-read = c .before .before .before .before in
+    let at = at-read .before .before .before in
+    let got = at-read .read in
     let xs = at .args .input .now in
     let ys = got .last .1 .0 in
     let n = at .args .count in
     let k = length xs - n in
     let room : length (midOf n k xs) ≡ k = mid-len n (length xs) xs (le-refl _) in
     let same : length (putMid n k xs ys) ≡ length xs = same-len-mid n k xs ys (got .kept .1 .0) in
-    (moves-within (got .result) _ _ (c .came-to .result) n (length (midOf n k xs)) (length (putMid n k xs ys)) (got .ensures) (toZ-ofZ w64 (got .result) (sfits-of (got .ok))) (c .came-to .ensures) (omega (arith, room, same, at .pre)), take-put n k xs ys (at .pre))
+    let answer = toZ-ofZ w64 (got .result) (sfits-of (got .ok)) in (
+      moves-within (got .result) _ _ (c .came-to .result) n (length (midOf n k xs)) (length (putMid n k xs ys)) (got .ensures) answer
+          (c .came-to .ensures) (omega (arith, room, same, at .pre)),
+      take-put n k xs ys (at .pre),
+    )
 
 pub read-once-spec : {M : Type 1} → statement M
 read-once-spec =

@@ -32,13 +32,16 @@ came-to-requires c κs = search needs
 
 returns : tie.Need-returns
 returns c =
-    let at = c .before .before .before .before .before in
-    let put = c .before .before .write in
+    let at-write = c .before .before in
+    let at = at-write .before .before .before in
+    let put = at-write .write in
     let xs = at .args .line .now in
     let n = at .args .count in
     let k = length xs - n in
     let room : length (midOf n k xs) ≡ k = mid-len n (length xs) xs (le-refl _) in
-    moves-within (put .result) _ _ (c .came-to .result) n (length (midOf n k xs)) (length xs) (put .ensures) (toZ-ofZ w64 (put .result) (sfits-of (put .ok))) (c .came-to .ensures) (omega (arith, room, at .pre))
+    let answer = toZ-ofZ w64 (put .result) (sfits-of (put .ok)) in
+    moves-within (put .result) _ _ (c .came-to .result) n (length (midOf n k xs)) (length xs) (put .ensures) answer
+    (c .came-to .ensures) (omega (arith, room, at .pre))
 
 pub write-once-spec : {M : Type 1} → statement M
 write-once-spec =

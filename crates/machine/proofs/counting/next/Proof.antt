@@ -1,5 +1,5 @@
 -- `machine::counting::next` meets its contract. Assumes nothing.
-use Rattle.machine.specs.Counting.{next-selector}
+use Rattle.machine.specs.code.Counting.{next-selector}
 use borrow.Author.Tests.{lt-ltb, le-ltb}
 use mathlib.Core.Path.{refl}
 use borrow.Author.Needs.{needs}

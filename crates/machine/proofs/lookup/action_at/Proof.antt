@@ -45,10 +45,11 @@ shared-slice-read-returns c = search needs
 returns-3 : tie.Need-returns-3
 unfolding rule-from
 returns-3 c =
-    let start = c .before .before .before .before .before .before .before .before in
+    let at-kind = c .before .before .before in
+    let at-first = at-kind .before .before in
+    let start = at-first .before .before .before in
     let rule = rule-from (start .args .image .now) (start .args .offset) in
-    pop-is rule _ _ (c .before .before .before .before .before .if1 .left) (c .before .before .before .before .if2 .left) (c .before .before .before .if3 .taken)
-    (c .before .wide .ensures)
+    pop-is rule _ _ (at-first .if1 .left) (at-kind .before .if2 .left) (at-kind .if3 .taken) (c .before .wide .ensures)
 
 returns-4 : tie.Need-returns-4
 unfolding rule-from action-by

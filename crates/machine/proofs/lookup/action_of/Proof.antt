@@ -16,8 +16,8 @@ action-at-requires c κs =
 
 returns : tie.Need-returns
 returns c =
-    action-is (c .before .before .before .before .before .pre) (c .before .before .class-under .ensures)
-    (c .before .rule-offset .ensures) (c .action-at .ensures)
+    let at-class = c .before .before in
+    action-is (at-class .before .before .before .pre) (at-class .class-under .ensures) (c .before .rule-offset .ensures) (c .action-at .ensures)
 
 pub action-of-spec : {M : Type 1} → statement M
 action-of-spec =

@@ -22,17 +22,20 @@ shared-slice-read-entry c = search needs
 
 cast-entry : tie.Need-cast-entry
 cast-entry c =
-    let start = c .before .before .before .before .before in
+    let at-byte = c .before .before in
+    let start = at-byte .before .before .before in
     omega (arith, start .pre .unrefused .bytes (start .args .head - 1))
 
 add-entry : tie.Need-add-entry
 add-entry c =
-    let start = c .before .before .before .before .before in
+    let at-byte = c .before .before in
+    let start = at-byte .before .before .before in
     omega (arith, start .pre .unrefused .bytes (start .args .head - 1))
 
 shared-slice-read-wide : tie.Need-shared-slice-read-wide
 shared-slice-read-wide c =
-    let start = c .before .before .before .before .before .before in
+    let at-byte = c .before .before .before in
+    let start = at-byte .before .before .before in
     omega (arith, start .pre .unrefused .bytes (start .args .head - 1), good (start .pre .unrefused) .long)
 
 wide-requires : tie.Need-wide-requires

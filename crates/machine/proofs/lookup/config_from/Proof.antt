@@ -1,7 +1,7 @@
 -- `machine::lookup::config_from` meets its contract, which says what it computes. Assumes nothing.
 use mathlib.Core.Path.{refl}
 use borrow.Author.Needs.{needs}
-use Rattle.machine.specs.Run.{config-from}
+use Rattle.machine.specs.Run.{config-by}
 use Rattle.machine.proofs.lookup.config_from.Statement.{statement}
 use Rattle.machine.proofs.lookup.config_from.Tie as tie
 
@@ -18,7 +18,7 @@ rem-symbol : tie.Need-rem-symbol
 rem-symbol c = search needs
 
 returns : tie.Need-returns
-unfolding config-from
+unfolding config-by
 returns c = refl
 
 pub config-from-spec : {M : Type 1} → statement M

@@ -26,7 +26,8 @@ wide-requires-2 c κs = search needs
 moved-head-requires : tie.Need-moved-head-requires
 unfolding rule-from
 moved-head-requires c κs =
-    let moves = c .before .before .before .before .before .pre .moves in
+    let at-state = c .before .before .before in
+    let moves = at-state .before .before .pre .moves in
     record { head-most = moves .head-most; left-room = λ e. moves .left-room (sym (c .wide2 .ensures) ∙ e) }
 
 add-wide-3 : tie.Need-add-wide-3
@@ -41,8 +42,9 @@ wide-requires-3 c κs = search needs
 returns : tie.Need-returns
 unfolding rule-from
 returns c =
-    simp
-    (c .before .before .before .before .before .wide .ensures, c .before .before .moved-head .ensures, c .before .before .before .wide2 .ensures, c .wide3 .ensures)
+    let at-head = c .before .before in
+    let at-move = at-head .before in
+    simp (at-move .before .before .wide .ensures, at-head .moved-head .ensures, at-move .wide2 .ensures, c .wide3 .ensures)
 
 pub led-to-spec : {M : Type 1} → statement M
 led-to-spec =

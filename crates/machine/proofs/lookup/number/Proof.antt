@@ -1,6 +1,6 @@
 -- `machine::lookup::number` meets its contract, which is that of `of_digits`. Assumes nothing.
 use borrow.Author.Needs.{needs}
-use Rattle.machine.specs.Run.{config-number}
+use Rattle.machine.specs.Run.{number-by}
 use Rattle.machine.proofs.lookup.number.Statement.{statement}
 use Rattle.machine.proofs.lookup.number.Tie as tie
 
@@ -8,7 +8,7 @@ of-digits-requires : tie.Need-of-digits-requires
 of-digits-requires c κs = search needs
 
 returns : tie.Need-returns
-unfolding config-number
+unfolding number-by
 returns c = c .of-digits .ensures
 
 pub number-spec : {M : Type 1} → statement M

@@ -19,7 +19,9 @@ wide-requires : tie.Need-wide-requires
 wide-requires c κs = search needs
 
 shared-slice-read-wide-2 : tie.Need-shared-slice-read-wide-2
-shared-slice-read-wide-2 c = omega (arith, good (c .before .before .before .before .before .pre) .long)
+shared-slice-read-wide-2 c =
+    let at-places = c .before .before in
+    omega (arith, good (at-places .before .before .before .pre) .long)
 
 wide-requires-2 : tie.Need-wide-requires-2
 wide-requires-2 c κs = search needs

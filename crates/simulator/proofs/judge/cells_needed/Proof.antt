@@ -3,6 +3,7 @@ use mathlib.Core.Path.{refl}
 use native.Mathlib.Omega.{arith}
 use borrow.Author.Needs.{needs}
 use Rattle.machine.proofs.Rules.{good}
+use Rattle.machine.specs.Format
 use Rattle.machine.specs.Image.{states, symbols}
 use Rattle.simulator.specs.Calls.{cells-needed}
 use Rattle.simulator.proofs.Needing.{some-capture, few-places-of, few-cells-of}
@@ -13,13 +14,13 @@ shared-slice-read-states : tie.Need-shared-slice-read-states
 shared-slice-read-states c = omega (arith, good (some-capture _ _ (c .before .pre .0) (c .before .pre .1)) .long)
 
 cast-states : tie.Need-cast-states
-cast-states c = omega (arith, c .shared-slice-known .given 24)
+cast-states c = omega (arith, c .shared-slice-known .given Format.states-offset)
 
 shared-slice-read-symbols : tie.Need-shared-slice-read-symbols
 shared-slice-read-symbols c = omega (arith, good (some-capture _ _ (c .before .before .pre .0) (c .before .before .pre .1)) .long)
 
 cast-symbols : tie.Need-cast-symbols
-cast-symbols c = omega (arith, c .shared-slice-known2 .given 26)
+cast-symbols c = omega (arith, c .shared-slice-known2 .given Format.symbols-offset)
 
 add-places : tie.Need-add-places
 add-places c = search needs

@@ -16,10 +16,15 @@ enum-known-needs-2 : tie.Need-enum-known-needs-2
 enum-known-needs-2 c = search needs
 
 judge-sized-requires : tie.Need-judge-sized-requires
-judge-sized-requires c κs = needs-so-many _ _ _ (sym (c .before .before .before .before .before .cells .ensures) ∙ c .before .before .before .needs2 .given .1)
+judge-sized-requires c κs =
+    let back4 = c .before .before .before .before in
+    let told = needs-so-many _ _ _ (sym (back4 .before .cells .ensures) ∙ c .before .before .before .needs2 .given .1) in
+    record { fine = told .0; counted = told .1 }
 
 returns : tie.Need-returns
-returns c = let told = needs-refused _ _ _ (sym (c .before .before .before .cells .ensures) ∙ c .before .needs .given .1) in cells-says _ _ _ _ (told .0) (told .1) refl
+returns c =
+    let told = needs-refused _ _ _ (sym (c .before .before .before .cells .ensures) ∙ c .before .needs .given .1) in
+    cells-says _ _ _ _ (told .0) (told .1) refl
 
 same-length : tie.Need-same-length
 same-length c = search needs

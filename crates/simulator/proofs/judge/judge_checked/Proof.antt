@@ -1,6 +1,6 @@
 -- `simulator::judge::judge_checked` meets its contract. Assumes nothing.
 use borrow.Author.Needs.{needs}
-use Rattle.simulator.proofs.JudgeCells.{as-many}
+use Rattle.simulator.proofs.JudgeCells.{all-zero}
 use Rattle.simulator.proofs.judge.judge_checked.Statement.{statement}
 use Rattle.simulator.proofs.judge.judge_checked.Tie as tie
 
@@ -11,7 +11,11 @@ zero-requires-2 : tie.Need-zero-requires-2
 zero-requires-2 c κs = search needs
 
 run-requires : tie.Need-run-requires
-run-requires c κs = (c .before .before .before .before .before .before .before .before .before .before .before .before .before .before .pre .0, as-many (c .before .before .before .before .before .before .before .before .zero .ensures) (c .before .before .before .before .before .before .before .before .before .before .before .before .before .before .pre .1), as-many (c .before .before .before .before .zero2 .ensures) (c .before .before .before .before .before .before .before .before .before .before .before .before .before .before .pre .2))
+run-requires c κs =
+    let back4 = c .before .before .before .before in
+    let back8 = back4 .before .before .before .before in
+    let back12 = back8 .before .before .before .before in
+    all-zero (back12 .before .before .pre) (back8 .zero .ensures) (c .before .before .before .before .zero2 .ensures)
 
 same-length : tie.Need-same-length
 same-length c = search needs

@@ -1,9 +1,7 @@
 -- `simulator::judge::judge_sized` meets its contract. Assumes nothing.
-use Rattle.simulator.proofs.JudgeRefusals.{notes-says, work-says, answer-says}
-use Rattle.machine.proofs.Refused.{unrefused-by}
-use Rattle.simulator.proofs.Needing.{cells-are}
+use Rattle.simulator.proofs.JudgeRefusals.{notes-says, work-says, answer-says, checked}
 use lib.Seq.{length-take-le}
-use mathlib.Core.Path.{sym, _∙_}
+use mathlib.Core.Path.{refl, sym}
 use borrow.Author.Needs.{needs}
 use Rattle.simulator.proofs.judge.judge_sized.Statement.{statement}
 use Rattle.simulator.proofs.judge.judge_sized.Tie as tie
@@ -12,13 +10,17 @@ refused-requires : tie.Need-refused-requires
 refused-requires c κs = search needs
 
 returns : tie.Need-returns
-returns c = notes-says _ _ _ _ (c .before .before .before .before .before .before .pre .0) (c .before .before .before .before .before .before .pre .1 ∙ cells-are _ _) (c .before .if1 .taken) (c .refused .ensures)
+returns c =
+    let back4 = c .before .before .before .before in
+    notes-says _ _ _ _ (back4 .before .before .pre) (c .before .if1 .taken) (c .refused .ensures)
 
 refused-requires-2 : tie.Need-refused-requires-2
 refused-requires-2 c κs = search needs
 
 returns-2 : tie.Need-returns-2
-returns-2 c = work-says _ _ _ _ (c .before .before .before .before .before .before .before .pre .0) (c .before .before .before .before .before .before .before .pre .1 ∙ cells-are _ _) (c .before .before .if1 .left) (c .before .if2 .taken) (c .refused2 .ensures)
+returns-2 c =
+    let back4 = c .before .before .before .before in
+    work-says _ _ _ _ (back4 .before .before .before .pre) (c .before .before .if1 .left) (c .before .if2 .taken) (c .refused2 .ensures)
 
 slice-relend-prefix-judge-checked : tie.Need-slice-relend-prefix-judge-checked
 slice-relend-prefix-judge-checked c = search needs
@@ -33,7 +35,10 @@ slice-aggregate-judge-checked-2 : tie.Need-slice-aggregate-judge-checked-2
 slice-aggregate-judge-checked-2 c = sym (length-take-le _ _ (c .before .before .if2 .left))
 
 judge-checked-requires : tie.Need-judge-checked-requires
-judge-checked-requires c κs = (unrefused-by _ _ (λ i. c .before .before .before .before .before .before .shared-slice-known2 .given i .fits) (c .before .before .before .before .before .before .before .before .pre .0), length-take-le _ _ (c .before .before .before .if1 .left) ∙ c .before .before .before .before .before .before .before .before .pre .1 ∙ cells-are _ _, length-take-le _ _ (c .before .before .if2 .left) ∙ c .before .before .before .before .before .before .before .before .pre .1 ∙ cells-are _ _)
+judge-checked-requires c κs =
+    let back4 = c .before .before .before .before in
+    let back8 = back4 .before .before .before .before in
+    checked _ _ _ _ (back8 .pre) (λ i. back4 .before .before .shared-slice-known2 .given i .fits) (c .before .before .before .if1 .left) (c .before .before .if2 .left)
 
 same-length : tie.Need-same-length
 same-length c = search needs
@@ -42,7 +47,11 @@ same-length-2 : tie.Need-same-length-2
 same-length-2 c = search needs
 
 returns-3 : tie.Need-returns-3
-returns-3 c = answer-says _ _ _ _ (c .before .before .before .before .before .before .before .before .before .before .before .before .before .pre .0) (c .before .before .before .before .before .before .before .before .before .before .before .before .before .pre .1 ∙ cells-are _ _) (c .before .before .before .before .before .before .before .before .if1 .left) (c .before .before .before .before .before .before .before .if2 .left) (c .before .before .before .before .judge-checked .ensures)
+returns-3 c =
+    let back4 = c .before .before .before .before in
+    let back8 = back4 .before .before .before .before in
+    let back12 = back8 .before .before .before .before in
+    answer-says _ _ _ _ (back12 .before .pre) (back8 .if1 .left) (back4 .before .before .before .if2 .left) refl (c .before .before .before .before .judge-checked .ensures)
 
 pub judge-sized-spec : {M : Type 1} → statement M
 judge-sized-spec =

@@ -2,41 +2,54 @@
 use Prim.Native.Nat.{_+_, _*_, _-_}
 use native.Mathlib.Omega.{arith}
 use borrow.Author.Needs.{needs}
-use Rattle.machine.proofs.Rules.{good}
 use Rattle.machine.specs.Image.{machine}
 use Rattle.machine.specs.Run.{how-many}
 use Rattle.simulator.proofs.JudgeMode.{not-done}
-use Rattle.simulator.proofs.JudgeLoop.{After-steps, at-start, ready, notes-kept, work-kept, next, few-steps, right}
-use Rattle.chain.proofs.StepSafe.{few-cells}
+use Rattle.simulator.proofs.JudgeLoop.{After-steps, long-image, at-start, ready, notes-kept, work-kept, next, few-steps, steps-room, right}
 use Rattle.simulator.proofs.judge.run.Statement.{statement}
 use Rattle.simulator.proofs.judge.run.Tie as tie
 
 abbrev Inv-loop : tie.InvT-loop
-Inv-loop image capture notes₀ work₀ finals r₀ steps₀ notes work r steps = After-steps image capture r notes work steps
+Inv-loop image capture notes₀ work₀ finals environment r₀ steps₀ notes work r steps =
+    After-steps image capture environment r notes work steps
 
 abbrev μ-loop : tie.MeasureT-loop
-μ-loop image capture notes₀ work₀ finals r₀ steps₀ notes work r steps = 4 * how-many (machine image capture) + 1 - steps
+μ-loop image capture notes₀ work₀ finals environment r₀ steps₀ notes work r steps =
+    4 * how-many (machine image capture) + 1 - steps
 
 sizes-of-requires : tie.Need-sizes-of-requires Inv-loop μ-loop
-sizes-of-requires c κs = c .before .before .before .before .pre .0
+sizes-of-requires c κs = c .before .before .before .before .pre .unrefused
 
 finals-of-requires : tie.Need-finals-of-requires Inv-loop μ-loop
-finals-of-requires c κs = omega (arith, good (c .before .before .before .before .before .pre .0) .long)
+finals-of-requires c κs =
+    let back4 = c .before .before .before .before in
+    long-image (back4 .before .pre)
 
 start-requires : tie.Need-start-requires Inv-loop μ-loop
 start-requires c κs = tt
 
 loop-holds : tie.Need-loop-holds Inv-loop μ-loop
-loop-holds c = at-start (c .before .before .before .before .before .before .before .pre .0) (rw (c .start .ensures, c .before .before .sizes-of .ensures, c .before .finals-of .ensures)) (c .before .before .before .before .before .before .before .pre .1) (c .before .before .before .before .before .before .before .pre .2)
+loop-holds c =
+    let back4 = c .before .before .before .before in
+    let back8 = back4 .before .before .before .before in
+    at-start (rw (c .before .before .start .ensures, c .before .before .before .before .sizes-of .ensures, c .before .before .before .finals-of .ensures)) (back8 .before .pre)
 
 enum-known-mode : tie.Need-enum-known-mode Inv-loop μ-loop
 enum-known-mode c = search needs
 
 same-length : tie.Need-same-length Inv-loop μ-loop
-same-length c = notes-kept (c .before .before .before .before .loop .inv) (c .before .before .before .before .before .before .before .before .before .before .before .before .pre .1)
+same-length c =
+    let back4 = c .before .before .before .before in
+    let back8 = back4 .before .before .before .before in
+    let back12 = back8 .before .before .before .before in
+    notes-kept (c .before .before .before .before .loop .inv) (back12 .before .before .pre)
 
 same-length-2 : tie.Need-same-length-2 Inv-loop μ-loop
-same-length-2 c = work-kept (c .before .before .before .before .loop .inv) (c .before .before .before .before .before .before .before .before .before .before .before .before .pre .2)
+same-length-2 c =
+    let back4 = c .before .before .before .before in
+    let back8 = back4 .before .before .before .before in
+    let back12 = back8 .before .before .before .before in
+    work-kept (c .before .before .before .before .loop .inv) (back12 .before .before .pre)
 
 returns : tie.Need-returns Inv-loop μ-loop
 returns c = right (c .before .before .before .before .loop .inv) (c .before .before .mode .given .1)
@@ -45,13 +58,24 @@ step-requires : tie.Need-step-requires Inv-loop μ-loop
 step-requires c κs = ready (c .before .before .before .loop .inv)
 
 add-steps : tie.Need-add-steps Inv-loop μ-loop
-add-steps c = omega (arith, few-steps (c .before .before .before .before .before .before .before .before .loop .inv) (not-done _ (c .before .before .before .before .before .before .before .match .keys2)), few-cells (c .before .before .before .before .before .before .before .before .before .before .before .before .before .before .before .before .pre .0))
+add-steps c =
+    let back4 = c .before .before .before .before in
+    let back8 = back4 .before .before .before .before in
+    let room = steps-room (back8 .loop .inv) (not-done _ (back4 .before .before .before .match .keys2)) in
+    omega arith
 
 loop-less : tie.Need-loop-less Inv-loop μ-loop
-loop-less c = omega (arith, few-steps (c .before .before .before .before .before .before .before .before .loop .inv) (not-done _ (c .before .before .before .before .before .before .before .match .keys2)))
+loop-less c =
+    let back4 = c .before .before .before .before in
+    let back8 = back4 .before .before .before .before in
+    let few = few-steps (back8 .loop .inv) (not-done _ (back4 .before .before .before .match .keys2)) in
+    omega arith
 
 loop-again : tie.Need-loop-again Inv-loop μ-loop
-loop-again c = next (c .before .before .before .before .before .before .before .before .loop .inv) (not-done _ (c .before .before .before .before .before .before .before .match .keys2)) (c .before .before .before .before .step .ensures)
+loop-again c =
+    let back4 = c .before .before .before .before in
+    let back8 = back4 .before .before .before .before in
+    next (back8 .loop .inv) (not-done _ (back4 .before .before .before .match .keys2)) (c .before .before .before .before .step .ensures)
 
 pub run-spec : {M : Type 1} → statement M
 run-spec =

@@ -2,16 +2,17 @@
 use mathlib.Core.Path.{refl}
 use Prim.Native.Nat.{_-_, _≤_}
 use native.Mathlib.Omega.{arith}
+use Rattle.machine.specs.Format
 use Rattle.machine.specs.Image.{classes}
 use Rattle.validator.proofs.CheckLoops.{Map-left, map-stop, map-next, map-end}
 use Rattle.validator.proofs.check.class_map.Statement.{statement}
 use Rattle.validator.proofs.check.class_map.Tie as tie
 
 abbrev Inv-loop : tie.InvT-loop
-Inv-loop image classes at₀ at = (at ≤ 288) × Map-left image at
+Inv-loop image classes at₀ at = (at ≤ Format.rules-offset) × Map-left image at
 
 abbrev μ-loop : tie.MeasureT-loop
-μ-loop image classes at₀ at = 288 - at
+μ-loop image classes at₀ at = Format.rules-offset - at
 
 shared-slice-read-classes : tie.Need-shared-slice-read-classes Inv-loop μ-loop
 shared-slice-read-classes c = omega arith

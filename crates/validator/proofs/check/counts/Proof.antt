@@ -2,6 +2,7 @@
 use mathlib.Core.Path.{sym, _∙_}
 use borrow.Author.Tests.{eq-eqb, ne-eqb}
 use borrow.Author.Needs.{needs}
+use Rattle.machine.specs.Format
 use Rattle.machine.specs.Refusals.{counts}
 use Rattle.machine.specs.Image.{states, classes, symbols}
 use Rattle.machine.proofs.CheckGood.{count-right}
@@ -43,11 +44,15 @@ count-wrong-requires-3 c κs = search needs
 returns-3 : tie.Need-returns-3
 unfolding counts states classes symbols
 returns-3 c =
+    let at-if2 = c .before .before .before in
+    let at-count-wrong2 = at-if2 .before in
+    let at-if1 = at-count-wrong2 .before .before in
+    let at-count-wrong = at-if1 .before in
     simp (
-      ← c .before .before .before .before .before .before .before .count-wrong .ensures,
-      c .before .before .before .before .before .before .if1 .left,
-      ← c .before .before .before .before .count-wrong2 .ensures,
-      c .before .before .before .if2 .left,
+      ← at-count-wrong .count-wrong .ensures,
+      at-if1 .if1 .left,
+      ← at-count-wrong2 .count-wrong2 .ensures,
+      at-if2 .if2 .left,
       ← c .before .count-wrong3 .ensures,
       c .if3 .taken,
     )
@@ -58,23 +63,33 @@ shared-slice-read-zero c = search needs
 returns-4 : tie.Need-returns-4
 unfolding counts states classes symbols
 returns-4 c =
+    let at-if3 = c .before .before in
+    let at-count-wrong3 = at-if3 .before in
+    let at-if2 = at-count-wrong3 .before .before in
+    let at-count-wrong2 = at-if2 .before in
+    let at-if1 = at-count-wrong2 .before .before in
+    let at-count-wrong = at-if1 .before in
     simp (
-      ← c .before .before .before .before .before .before .before .before .before .count-wrong .ensures,
-      c .before .before .before .before .before .before .before .before .if1 .left,
-      ← c .before .before .before .before .before .before .count-wrong2 .ensures,
-      c .before .before .before .before .before .if2 .left,
-      ← c .before .before .before .count-wrong3 .ensures,
-      c .before .before .if3 .left,
+      ← at-count-wrong .count-wrong .ensures,
+      at-if1 .if1 .left,
+      ← at-count-wrong2 .count-wrong2 .ensures,
+      at-if2 .if2 .left,
+      ← at-count-wrong3 .count-wrong3 .ensures,
+      at-if3 .if3 .left,
       ne-eqb _ _ (c .if4 .taken),
     )
 
-four-requires : tie.Need-four-requires
-four-requires c κs = search needs
+read-u32-requires : tie.Need-read-u32-requires
+read-u32-requires c κs = search needs
 
 within-requires : tie.Need-within-requires
 within-requires c κs =
-    count-right _ 32
-    (sym (c .before .before .before .before .before .before .before .before .before .before .count-wrong .ensures) ∙ c .before .before .before .before .before .before .before .before .before .if1 .left) .1
+    let before-end = c .before .before .before .before in
+    let before-ore-end = before-end .before .before .before .before in
+    let at-if1 = before-ore-end .before in
+    let at-count-wrong = at-if1 .before in
+    count-right _ Format.max-states
+    (sym (at-count-wrong .count-wrong .ensures) ∙ at-if1 .if1 .left) .1
 
 refuse-unless-requires : tie.Need-refuse-unless-requires
 refuse-unless-requires c κs = search needs
@@ -82,15 +97,23 @@ refuse-unless-requires c κs = search needs
 returns-5 : tie.Need-returns-5
 unfolding counts states classes symbols
 returns-5 c =
+    let at-four = c .before .before in
+    let at-if4 = at-four .before in
+    let at-if3 = at-if4 .before .before in
+    let at-count-wrong3 = at-if3 .before in
+    let at-if2 = at-count-wrong3 .before .before in
+    let at-count-wrong2 = at-if2 .before in
+    let at-if1 = at-count-wrong2 .before .before in
+    let at-count-wrong = at-if1 .before in
     simp (
-      ← c .before .before .before .before .before .before .before .before .before .before .before .before .count-wrong .ensures,
-      c .before .before .before .before .before .before .before .before .before .before .before .if1 .left,
-      ← c .before .before .before .before .before .before .before .before .before .count-wrong2 .ensures,
-      c .before .before .before .before .before .before .before .before .if2 .left,
-      ← c .before .before .before .before .before .before .count-wrong3 .ensures,
-      c .before .before .before .before .before .if3 .left,
-      eq-eqb _ _ (c .before .before .before .if4 .left),
-      ← c .before .before .four .ensures,
+      ← at-count-wrong .count-wrong .ensures,
+      at-if1 .if1 .left,
+      ← at-count-wrong2 .count-wrong2 .ensures,
+      at-if2 .if2 .left,
+      ← at-count-wrong3 .count-wrong3 .ensures,
+      at-if3 .if3 .left,
+      eq-eqb _ _ (at-if4 .if4 .left),
+      ← at-four .read-u32 .ensures,
       ← c .before .within .ensures,
     )
     (c .refuse-unless .ensures)
@@ -110,7 +133,7 @@ counts-spec =
     returns-3
     shared-slice-read-zero
     returns-4
-    four-requires
+    read-u32-requires
     within-requires
     refuse-unless-requires
     returns-5)

@@ -45,12 +45,17 @@ refuse-unless-requires c κs = search needs
 returns-4 : tie.Need-returns-4
 unfolding directory
 returns-4 c =
+    let at-if3 = c .before .before in
+    let at-if2 = at-if3 .before in
+    let at-pair-is2 = at-if2 .before in
+    let at-if1 = at-pair-is2 .before in
+    let at-pair-is = at-if1 .before in
     simp (
-      ← c .before .before .before .before .before .before .pair-is .ensures,
-      c .before .before .before .before .before .if1 .left,
-      ← c .before .before .before .before .pair-is2 .ensures,
-      c .before .before .before .if2 .left,
-      le-leb _ _ (c .before .before .if3 .left),
+      ← at-pair-is .pair-is .ensures,
+      at-if1 .if1 .left,
+      ← at-pair-is2 .pair-is2 .ensures,
+      at-if2 .if2 .left,
+      le-leb _ _ (at-if3 .if3 .left),
       ← c .before .pair-is3 .ensures,
     )
     (c .refuse-unless .ensures)

@@ -2,6 +2,7 @@
 use mathlib.Core.Path.{refl}
 use native.Mathlib.Omega.{arith}
 use borrow.Author.Needs.{needs}
+use Rattle.machine.specs.Format
 use Rattle.machine.specs.Refusals.{rule-count}
 use Rattle.machine.specs.Image.{states, classes, symbols}
 use Rattle.validator.proofs.CheckParts.{two-counts, three-counts}
@@ -12,32 +13,32 @@ shared-slice-read-states : tie.Need-shared-slice-read-states
 shared-slice-read-states c = search needs
 
 cast-states : tie.Need-cast-states
-cast-states c = omega (arith, c .shared-slice-known .given 24)
+cast-states c = omega (arith, c .shared-slice-known .given Format.states-offset)
 
 shared-slice-read-classes : tie.Need-shared-slice-read-classes
 shared-slice-read-classes c = search needs
 
 cast-classes : tie.Need-cast-classes
-cast-classes c = omega (arith, c .shared-slice-known2 .given 25)
+cast-classes c = omega (arith, c .shared-slice-known2 .given Format.classes-offset)
 
 shared-slice-read-symbols : tie.Need-shared-slice-read-symbols
 shared-slice-read-symbols c = search needs
 
 cast-symbols : tie.Need-cast-symbols
-cast-symbols c = omega (arith, c .shared-slice-known3 .given 26)
+cast-symbols c = omega (arith, c .shared-slice-known3 .given Format.symbols-offset)
 
 add-result : tie.Need-add-result
-add-result c = omega (arith, c .shared-slice-known3 .given 25)
+add-result c = omega (arith, c .shared-slice-known3 .given Format.classes-offset)
 
 mul-result : tie.Need-mul-result
 mul-result c =
-    omega (arith, two-counts _ _ (c .shared-slice-known3 .given 24 .fits) (c .shared-slice-known3 .given 25 .fits))
+    omega (arith, two-counts _ _ (c .shared-slice-known3 .given Format.states-offset .fits) (c .shared-slice-known3 .given Format.classes-offset .fits))
 
 mul-result-2 : tie.Need-mul-result-2
 mul-result-2 c =
     omega (
       arith,
-      three-counts _ _ _ (c .shared-slice-known3 .given 24 .fits) (c .shared-slice-known3 .given 25 .fits) (c .shared-slice-known3 .given 26 .fits),
+      three-counts _ _ _ (c .shared-slice-known3 .given Format.states-offset .fits) (c .shared-slice-known3 .given Format.classes-offset .fits) (c .shared-slice-known3 .given Format.symbols-offset .fits),
     )
 
 returns : tie.Need-returns

@@ -2,6 +2,7 @@
 use native.Mathlib.Omega.{arith}
 use borrow.Author.Tests.{eq-eqb, ne-eqb}
 use borrow.Author.Needs.{needs}
+use Rattle.machine.specs.Format
 use Rattle.machine.specs.Refusals.{move-off}
 use Rattle.machine.specs.Image.{classes}
 use Rattle.validator.proofs.CheckParts.{at-left}
@@ -12,14 +13,14 @@ shared-slice-read-left : tie.Need-shared-slice-read-left
 shared-slice-read-left c = search needs
 
 cast-left : tie.Need-cast-left
-cast-left c = omega (arith, c .shared-slice-known .given 25)
+cast-left c = omega (arith, c .shared-slice-known .given Format.classes-offset)
 
 returns : tie.Need-returns
 unfolding move-off classes
 returns c = at-left _ _ (c .before .before .args .direction) (c .if1 .taken)
 
 add-right : tie.Need-add-right
-add-right c = omega (arith, c .before .shared-slice-known .given 25)
+add-right c = omega (arith, c .before .shared-slice-known .given Format.classes-offset)
 
 returns-2 : tie.Need-returns-2
 unfolding move-off classes

@@ -57,10 +57,13 @@ pop-wrong-requires c κs = search needs
 returns-4 : tie.Need-returns-4
 unfolding rule-bad rule-from states
 returns-4 c =
+    let at-if3 = c .before .before in
+    let at-if2 = at-if3 .before .before in
+    let at-if1 = at-if2 .before in
     simp (
-      le-ltb _ _ (c .before .before .before .before .before .if1 .left),
-      ne-eqb _ _ (c .before .before .before .before .if2 .left),
-      lt-leb _ _ (c .before .before .if3 .left),
+      le-ltb _ _ (at-if1 .if1 .left),
+      ne-eqb _ _ (at-if2 .if2 .left),
+      lt-leb _ _ (at-if3 .if3 .left),
       eq-eqb _ _ (c .before .if4 .taken),
     )
     (c .pop-wrong .ensures)
@@ -71,22 +74,30 @@ shared-slice-read-symbols c = search needs
 returns-5 : tie.Need-returns-5
 unfolding rule-bad rule-from states symbols
 returns-5 c =
+    let at-if4 = c .before .before in
+    let at-if3 = at-if4 .before in
+    let at-if2 = at-if3 .before .before in
+    let at-if1 = at-if2 .before in
     simp (
-      le-ltb _ _ (c .before .before .before .before .before .before .if1 .left),
-      ne-eqb _ _ (c .before .before .before .before .before .if2 .left),
-      lt-leb _ _ (c .before .before .before .if3 .left),
-      ne-eqb _ _ (c .before .before .if4 .left),
+      le-ltb _ _ (at-if1 .if1 .left),
+      ne-eqb _ _ (at-if2 .if2 .left),
+      lt-leb _ _ (at-if3 .if3 .left),
+      ne-eqb _ _ (at-if4 .if4 .left),
       le-leb _ _ (c .if5 .taken),
     )
 
 returns-6 : tie.Need-returns-6
 unfolding rule-bad rule-from states symbols
 returns-6 c =
+    let at-if4 = c .before .before .before in
+    let at-if3 = at-if4 .before in
+    let at-if2 = at-if3 .before .before in
+    let at-if1 = at-if2 .before in
     simp (
-      le-ltb _ _ (c .before .before .before .before .before .before .before .if1 .left),
-      ne-eqb _ _ (c .before .before .before .before .before .before .if2 .left),
-      lt-leb _ _ (c .before .before .before .before .if3 .left),
-      ne-eqb _ _ (c .before .before .before .if4 .left),
+      le-ltb _ _ (at-if1 .if1 .left),
+      ne-eqb _ _ (at-if2 .if2 .left),
+      lt-leb _ _ (at-if3 .if3 .left),
+      ne-eqb _ _ (at-if4 .if4 .left),
       lt-leb _ _ (c .before .if5 .left),
       lt-ltb _ _ (c .if6 .taken),
     )
@@ -97,12 +108,17 @@ move-off-requires c κs = search needs
 returns-7 : tie.Need-returns-7
 unfolding rule-bad rule-from states symbols
 returns-7 c =
+    let at-if5 = c .before .before in
+    let at-if4 = at-if5 .before .before in
+    let at-if3 = at-if4 .before in
+    let at-if2 = at-if3 .before .before in
+    let at-if1 = at-if2 .before in
     simp (
-      le-ltb _ _ (c .before .before .before .before .before .before .before .before .if1 .left),
-      ne-eqb _ _ (c .before .before .before .before .before .before .before .if2 .left),
-      lt-leb _ _ (c .before .before .before .before .before .if3 .left),
-      ne-eqb _ _ (c .before .before .before .before .if4 .left),
-      lt-leb _ _ (c .before .before .if5 .left),
+      le-ltb _ _ (at-if1 .if1 .left),
+      ne-eqb _ _ (at-if2 .if2 .left),
+      lt-leb _ _ (at-if3 .if3 .left),
+      ne-eqb _ _ (at-if4 .if4 .left),
+      lt-leb _ _ (at-if5 .if5 .left),
       le-ltb _ _ (c .before .if6 .left),
     )
     (c .move-off .ensures)

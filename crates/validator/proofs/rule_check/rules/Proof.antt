@@ -1,4 +1,5 @@
 -- `validator::rule_check::rules` meets its contract. Assumes nothing.
+use Rattle.machine.specs.Format
 use Rattle.validator.proofs.CheckLoops.{Rules-left, rules-start, whole-rule, rules-count, rules-stop, rules-next, rules-end, left-as}
 use Rattle.validator.proofs.CheckParts.{three-counts}
 use Rattle.machine.specs.Refusals.{rule-count}
@@ -21,45 +22,76 @@ shared-slice-read-columns : tie.Need-shared-slice-read-columns Inv-loop μ-loop
 shared-slice-read-columns c = omega arith
 
 cast-columns : tie.Need-cast-columns Inv-loop μ-loop
-cast-columns c = omega (arith, c .shared-slice-known2 .given 25)
+cast-columns c = omega (arith, c .shared-slice-known2 .given Format.classes-offset)
 
 add-columns : tie.Need-add-columns Inv-loop μ-loop
-add-columns c = omega (arith, c .shared-slice-known2 .given 25)
+add-columns c = omega (arith, c .shared-slice-known2 .given Format.classes-offset)
 
 shared-slice-read-symbols : tie.Need-shared-slice-read-symbols Inv-loop μ-loop
 shared-slice-read-symbols c = omega arith
 
 cast-symbols : tie.Need-cast-symbols Inv-loop μ-loop
-cast-symbols c = omega (arith, c .shared-slice-known3 .given 26)
+cast-symbols c = omega (arith, c .shared-slice-known3 .given Format.symbols-offset)
 
 first-requires : tie.Need-first-requires Inv-loop μ-loop
 first-requires c κs = search needs
 
 loop-holds : tie.Need-loop-holds Inv-loop μ-loop
-loop-holds c = left-as (c .first .ensures) (rules-start _ (c .before .before .before .before .pre .0))
+loop-holds c = left-as (c .first .ensures) (rules-start _ (c .before .before .before .before .pre .some-symbol))
 
 rule-bad-requires : tie.Need-rule-bad-requires Inv-loop μ-loop
-rule-bad-requires c κs = (omega arith, omega (arith, whole-rule _ _ _ (c .before .loop .inv) (c .before .before .before .before .before .before .pre .1) (c .loop-test .taken)))
+rule-bad-requires c κs =
+    let before-end = c .before .before .before .before in
+    let at-start = before-end .before .before in
+    let whole = whole-rule _ _ _ (c .before .loop .inv) (at-start .pre .length-is) (c .loop-test .taken) in
+    record { header = omega arith; whole = omega (arith, whole) }
 
 returns : tie.Need-returns Inv-loop μ-loop
-returns c = rules-stop _ _ _ (c .before .before .before .loop .inv) (c .before .before .before .before .before .before .before .before .pre .1) (c .before .before .loop-test .taken) (sym (c .if1 .taken) ∙ c .before .rule-bad .ensures)
+returns c =
+    let at-loop-test = c .before .before in
+    let at-loop = at-loop-test .before in
+    let before-loop = at-loop .before .before .before .before in
+    let at-start = before-loop .before in
+    rules-stop _ _ _ (at-loop .loop .inv) (at-start .pre .length-is) (at-loop-test .loop-test .taken) (sym (c .if1 .taken) ∙ c .before .rule-bad .ensures)
 
 add-at : tie.Need-add-at Inv-loop μ-loop
-add-at c = omega (arith, whole-rule _ _ _ (c .before .before .before .loop .inv) (c .before .before .before .before .before .before .before .before .pre .1) (c .before .before .loop-test .taken))
+add-at c =
+    let at-loop-test = c .before .before in
+    let at-loop = at-loop-test .before in
+    let before-loop = at-loop .before .before .before .before in
+    let at-start = before-loop .before in
+    omega (arith, whole-rule _ _ _ (at-loop .loop .inv) (at-start .pre .length-is) (at-loop-test .loop-test .taken))
 
 next-requires : tie.Need-next-requires Inv-loop μ-loop
 unfolding rule-count states classes symbols
-next-requires c κs = rules-count _ _ _ (c .before .before .before .loop .inv) (c .before .before .before .before .before .before .before .before .pre .1) (c .before .before .loop-test .taken) (omega (arith, three-counts _ _ _ (c .before .before .before .before .before .shared-slice-known3 .given 24 .fits) (c .before .before .before .before .before .shared-slice-known3 .given 25 .fits) (c .before .before .before .before .before .shared-slice-known3 .given 26 .fits)))
+next-requires c κs =
+    let at-loop-test = c .before .before in
+    let at-loop = at-loop-test .before in
+    let at-symbols = at-loop .before .before in
+    let at-start = at-symbols .before .before .before in
+    let bytes = at-symbols .shared-slice-known3 .given in
+    let few = three-counts _ _ _ (bytes Format.states-offset .fits) (bytes Format.classes-offset .fits) (bytes Format.symbols-offset .fits) in
+    rules-count _ _ _ (at-loop .loop .inv) (at-start .pre .length-is) (at-loop-test .loop-test .taken) (omega (arith, few))
 
 loop-less : tie.Need-loop-less Inv-loop μ-loop
 loop-less c = omega arith
 
 loop-again : tie.Need-loop-again Inv-loop μ-loop
 unfolding classes symbols
-loop-again c = left-as (c .next .ensures) (rules-next _ _ _ (c .before .before .before .before .loop .inv) (c .before .before .before .before .before .before .before .before .before .pre .1) (c .before .before .before .loop-test .taken) (sym (c .before .if1 .left) ∙ c .before .before .rule-bad .ensures))
+loop-again c =
+    let at-rule-bad = c .before .before in
+    let at-loop-test = at-rule-bad .before in
+    let at-loop = at-loop-test .before in
+    let before-loop = at-loop .before .before .before .before in
+    let at-start = before-loop .before in
+    let good = sym (c .before .if1 .left) ∙ at-rule-bad .rule-bad .ensures in
+    left-as (c .next .ensures) (rules-next _ _ _ (at-loop .loop .inv) (at-start .pre .length-is) (at-loop-test .loop-test .taken) good)
 
 returns-2 : tie.Need-returns-2 Inv-loop μ-loop
-returns-2 c = rules-end _ _ _ (c .before .loop .inv) (c .before .before .before .before .before .before .pre .1) (c .loop-test .left)
+returns-2 c =
+    let before-end = c .before .before .before .before in
+    let at-start = before-end .before .before in
+    rules-end _ _ _ (c .before .loop .inv) (at-start .pre .length-is) (c .loop-test .left)
 
 pub rules-spec : {M : Type 1} → statement M
 rules-spec =

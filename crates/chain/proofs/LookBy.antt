@@ -1,0 +1,45 @@
+-- What the code's look comes to, by the note that it finds: the step's definition on lists. Assumes nothing.
+use mathlib.Core.Path.{_≡_, sym, _∙_, ap}
+use mathlib.Core.List.{List}
+use Prim.Native.Nat.{ℕ}
+use lib.ListN.{getD}
+use Rattle.machine.specs.declared.Config.{Config}
+use Rattle.machine.specs.declared.Action.{Action}
+use Rattle.machine.specs.declared.Note.{Note}
+use Rattle.machine.specs.declared.Note.the-variants.{Unseen, Open, Closed}
+use Rattle.machine.specs.declared.Verdict.the-variants.{Looping}
+use Rattle.machine.specs.Image.{action, machine}
+use Rattle.machine.specs.Verdicts.{note-of}
+use Rattle.chain.specs.declared.Mode.the-variants.{Look, Clear}
+use Rattle.chain.specs.declared.Environment.{Environment}
+use Rattle.chain.specs.declared.Registers.{Registers}
+use Rattle.chain.specs.Step.{with-cells, registers-of, number-in, config-in, closed, look, step-by-mode}
+use Rattle.chain.specs.StepParts.{First-looks, Steps-by}
+
+module _
+    {bs cs : List ℕ} {E : Environment} {r x : Registers} {ns ns′ ws ws′ : List ℕ} {k : ℕ} (number-is : k ≡ number-in E (r .at))
+  where
+    by-note :
+        {v : Note} → note-of (getD ns k 0) ≡ v → with-cells x ns′ ws′ ≡ look (machine bs cs) E r k v ns ws →
+        Steps-by Look bs cs E r x ns ns′ ws ws′
+    unfolding step-by-mode
+    by-note e f = record { is = rw (← number-is, e) f }
+
+    pub look-unseen :
+        note-of (getD ns k 0) ≡ Unseen → {a : Action} → a ≡ action bs cs (r .at) → First-looks E r k a x ns ns′ ws ws′ →
+        Steps-by Look bs cs E r x ns ns′ ws ws′
+    unfolding look machine
+    look-unseen e f s = by-note e (rw (← f) (s .is))
+
+module _ {bs cs : List ℕ} {E : Environment} {r x : Registers} {ns ws : List ℕ} {k : ℕ} (number-is : k ≡ number-in E (r .at)) where
+  pub look-open :
+      note-of (getD ns k 0) ≡ Open → x ≡ registers-of (Clear Looping) (r .at) (r .pushed) (r .top) (r .readings) →
+      Steps-by Look bs cs E r x ns ns ws ws
+  unfolding look
+  look-open e f = by-note number-is e (rw f)
+
+  pub look-closed :
+      {j : ℕ} → note-of (getD ns k 0) ≡ Closed j → {d : Config} → d ≡ config-in E j → x ≡ closed E r d (machine bs cs .action d) →
+      Steps-by Look bs cs E r x ns ns ws ws
+  unfolding look
+  look-closed e q f = by-note number-is e (rw (f, q))

@@ -1,0 +1,47 @@
+-- `sejimakpu::reply::verdict_number` meets its contract. Assumes nothing.
+use mathlib.Core.Path.{refl}
+use Rattle.machine.specs.Replies.{verdict-number}
+use borrow.Author.Needs.{needs}
+use Rattle.sejimakpu.proofs.reply.verdict_number.Statement.{statement}
+use Rattle.sejimakpu.proofs.reply.verdict_number.Tie as tie
+
+enum-told : tie.Need-enum-told
+enum-told c = search needs
+
+enum-told-2 : tie.Need-enum-told-2
+enum-told-2 c = search needs
+
+enum-told-3 : tie.Need-enum-told-3
+enum-told-3 c = search needs
+
+enum-told-4 : tie.Need-enum-told-4
+enum-told-4 c = search needs
+
+returns : tie.Need-returns
+unfolding verdict-number
+returns c = rw (c .enum-told .given .1) refl
+
+returns-2 : tie.Need-returns-2
+unfolding verdict-number
+returns-2 c = rw (c .enum-told2 .given .1) refl
+
+returns-3 : tie.Need-returns-3
+unfolding verdict-number
+returns-3 c = rw (c .enum-told3 .given .1) refl
+
+returns-4 : tie.Need-returns-4
+unfolding verdict-number
+returns-4 c = rw (c .enum-told4 .given .1) refl
+
+pub verdict-number-spec : {M : Type 1} → statement M
+verdict-number-spec =
+    tie.close
+    (tie.spec
+    enum-told
+    enum-told-2
+    enum-told-3
+    enum-told-4
+    returns
+    returns-2
+    returns-3
+    returns-4)
