@@ -1,79 +1,86 @@
 -- From what building and judging say to what the answer says. Assumes nothing.
 use mathlib.Core.Path.{_≡_, refl, sym, subst, ap, _∙_}
 use mathlib.Core.List.{List, _++_}
-use Prim.Native.Nat.{ℕ, zero, suc, _+_, _-_, _≤_}
+use Prim.Native.Nat.{ℕ, zero, suc, _≤_}
 use native.Mathlib.Omega.{arith}
-use lib.ListN.{length, take, drop, length-append, length-drop}
+use lib.ListN.{length, take, drop, length-append}
 use lib.Seq.{take-at}
 use Rattle.machine.specs.declared.Refusal.{Refusal}
-use Rattle.simulator.specs.declared.Judged.{Judged}
+use Rattle.machine.specs.Run.{how-many}
+use Rattle.machine.specs.Image.{machine}
+use Rattle.simulator.specs.declared.Judgement.{Judgement}
+use Rattle.simulator.specs.declared.Judged.the-variants.{Answer}
 use Rattle.simulator.specs.Calls.{Judge-says}
-use Rattle.grammar.specs.declared.Built.{Built}
-use Rattle.grammar.specs.declared.Built.the-variants.{Refused, Image}
+use Rattle.simulator.proofs.Needing.{cells-are}
+use Rattle.grammar.specs.declared.Plan.{Plan}
 use Rattle.grammar.specs.Image.{built, built-length}
-use Rattle.grammar.specs.Calls.{build-refusal, Build-as, Build-says}
+use Rattle.grammar.specs.Building.{Planned, Buffer-ready, Short, Cells-are}
 use Rattle.grammar.proofs.BuiltImage.{built-length-is}
+use Rattle.grammar.proofs.CodeBuild.{long-is, buffer-ready}
 use Rattle.text.specs.Line.{refusal-line, Lined}
 use Rattle.answer.specs.Input.{input-refusal, input-grammar, input-capture}
-use Rattle.answer.specs.Calls.{judged-line, Lent, lent, lent-refusal, Judges, Parts-as, Parts-say, Input-as, Input-says, Told, Answer-says}
+use Rattle.answer.specs.Calls.{judged-line, Lent, lent-refusal, Judges, Parts-as, Parts-say, Input-as, Input-says, Told, Answer-says}
+use Rattle.answer.specs.Steps.{Answer-ready, Judge-ready, Builds}
+use Rattle.answer.proofs.Refusing.{Roomy, roomy}
 
--- with nothing refused building is not refused
-never-as : (n : ℕ) (f g : Refusal) (gs : List ℕ) (r : Built) (m p : List ℕ) → n ≡ 0 → Build-as n g gs r m p → r ≡ Refused f → ⊥
-unfolding Build-as
-never-as zero f g gs r m p z h e =
-    let clash : Image (built-length gs) ≡ Refused f = sym (h .0) ∙ e in
-    let z : _≡_ {A = ℕ} 0 1 = cc in
-    omega arith
-never-as (suc n) f g gs r m p z h e = omega arith
-
-pub never-refused :
-    (gs : List ℕ) (r : Built) (f : Refusal) (m p : List ℕ) → build-refusal gs (length m) .number ≡ 0 → Build-says gs r m p → r ≡ Refused f → ⊥
-unfolding Build-says
-never-refused gs r f m p z h e = never-as _ f _ gs r m p z h e
-
--- the image was built: its length, and its bytes at the buffer's start
-pub record Done (gs : List ℕ) (long : ℕ) (m p : List ℕ) : Type 0 where
-  pub long-is : long ≡ built-length gs
+-- THE IMAGE STANDS at the start of the buffer, before the later bytes
+pub record Stands (gs m p : List ℕ) (long : ℕ) : Type 0 where
   pub bytes : p ≡ built gs ++ drop (built-length gs) m
+  pub part : take long p ≡ built gs
+  pub fits : long ≤ length p
 
-done-as : (n : ℕ) (g : Refusal) (gs : List ℕ) (r : Built) (long : ℕ) (m p : List ℕ) → Build-as n g gs r m p → r ≡ Image long → Done gs long m p
-unfolding Build-as
-done-as zero g gs r long m p h e =
-    let same : Image (built-length gs) ≡ Image long = sym (h .0) ∙ e in
-    record { long-is = cc; bytes = h .1 }
-done-as (suc n) g gs r long m p h e =
-    let clash : Refused g ≡ Image long = sym (h .0) ∙ e in
-    let z : _≡_ {A = ℕ} 0 1 = cc in
-    absurd (omega arith)
-
-pub done : (gs : List ℕ) (r : Built) (long : ℕ) (m p : List ℕ) → Build-says gs r m p → r ≡ Image long → Done gs long m p
-unfolding Build-says
-done gs r long m p h e = done-as _ _ gs r long m p h e
-
-pub built-fits : (gs : List ℕ) (long : ℕ) (m p : List ℕ) → Done gs long m p → length p ≡ length m → long ≤ length p
-built-fits gs long m p d e =
-    let whole : length p ≡ length (built gs) + length (drop (built-length gs) m) = ap length (d .bytes) ∙ length-append (built gs) _ in
-    omega (arith, built-length-is gs, d .long-is, length-drop (built-length gs) m)
-
-pub built-part : (gs : List ℕ) (long : ℕ) (m p : List ℕ) → Done gs long m p → take long p ≡ built gs
-built-part gs long m p d =
-    ap (λ (x : List ℕ). take long x) (d .bytes) ∙ take-at (built gs) _ long (built-length-is gs ∙ sym (d .long-is))
-
-pub judged-told :
-    (gs cs : List ℕ) (r : Built) (long : ℕ) (j : Judged) (m p a a-now b b-now out out-now : List ℕ) (count : ℕ) → Build-says gs r m p → r ≡ Image long →
-    Judge-says (take long p) cs j a a-now b b-now → Lined (judged-line j) out out-now count →
-    Told (Judges gs cs (lent m a b) (lent p a-now b-now)) out out-now count
-judged-told gs cs r long j m p a x b y o q k h e s t =
-    let d : Done gs long m p = done gs r long m p h e in
+pub stands : (gs m w : List ℕ) (p : Plan) → Planned gs p → w ≡ built gs → Stands gs m (w ++ drop (p .long) m) (p .long)
+stands gs m w p planned e =
+    let l : p .long ≡ built-length gs = long-is gs p (planned .is) in
+    let long : length w ≡ p .long = ap length e ∙ built-length-is gs ∙ sym l in
     record {
-      line = judged-line j;
-      right =
-          record {
-            judged = j;
-            image-now = d .bytes;
-            judges = subst (λ (bs : List ℕ). Judge-says bs cs j a x b y) (built-part gs long m p d) s;
-            says = refl;
-          };
+      bytes = ap (λ (x : List ℕ). x ++ drop (p .long) m) e ∙ ap (λ (n : ℕ). built gs ++ drop n m) l;
+      part = take-at w _ (p .long) long ∙ e;
+      fits = omega (arith, length-append w (drop (p .long) m));
+    }
+
+-- WHAT THE STEPS MAY ASSUME, where nothing is refused
+module _ (gs cs : List ℕ) (p : Plan) (x : Lent) (ready : Answer-ready gs cs p x) where
+  room : Roomy gs cs x
+  room = roomy gs cs x (ready .fine)
+
+  pub image-fits : p .long ≤ length (x .image)
+  image-fits = omega (arith, room .image-room, long-is gs p (ready .planned .is))
+
+  pub buffer-there : Buffer-ready gs p (take (p .long) (x .image))
+  buffer-there =
+      let w = ready .planned in
+      buffer-ready gs (x .image) (w .good) (p .long) (long-is gs p (w .is)) image-fits p (w .is)
+
+  pub capture-short : Short gs (length cs)
+  capture-short = record { good = ready .planned .good; fits = room .short }
+
+  pub judge-ready : (bs : List ℕ) (cells : ℕ) → bs ≡ built gs → Cells-are gs (length cs) cells → Judge-ready bs cs cells (x .notes) (x .work)
+  judge-ready bs cells e count =
+      let k : cells ≡ how-many (machine (built gs) cs) = count cs refl in
+      subst (λ (y : List ℕ). Judge-ready y cs cells (x .notes) (x .work)) (sym e)
+      (record {
+        sized = record { fine = room .fine; counted = k ∙ sym (cells-are (built gs) cs) };
+        notes-enough = omega (arith, room .notes-room);
+        work-enough = omega (arith, room .work-room);
+      })
+
+pub builds :
+    {gs cs : List ℕ} {x y : Lent} {j : Judgement} {long : ℕ} → Stands gs (x .image) (y .image) long →
+    Judge-says (take long (y .image)) cs (Answer j) (x .notes) (y .notes) (x .work) (y .work) → Builds gs cs x y j
+builds {gs} {cs} {x} {y} {j} {long} s says =
+    record {
+      image-now = s .bytes;
+      judges = subst (λ (bs : List ℕ). Judge-says bs cs (Answer j) (x .notes) (y .notes) (x .work) (y .work)) (s .part) says;
+    }
+
+judged-told :
+    (gs cs : List ℕ) (x y : Lent) (j : Judgement) (out out-now : List ℕ) (count : ℕ) → Builds gs cs x y j →
+    Lined (judged-line (Answer j)) out out-now count → Told (Judges gs cs x y) out out-now count
+judged-told gs cs x y j o q k b t =
+    record {
+      line = judged-line (Answer j);
+      right = record { judged = Answer j; image-now = b .image-now; judges = b .judges; says = refl };
       lined = t;
     }
 
@@ -100,11 +107,12 @@ parts-judged-as zero f gs cs x y l e h = h
 parts-judged-as (suc n) f gs cs x y l e h = absurd (omega arith)
 
 pub parts-judged :
-    (gs cs : List ℕ) (x y : Lent) (f : Refusal) (out out-now : List ℕ) (count : ℕ) → f ≡ lent-refusal gs cs x → f .number ≡ 0 →
-    Told (Judges gs cs x y) out out-now count → Told (Parts-say gs cs x y) out out-now count
+    (gs cs : List ℕ) (x y : Lent) (j : Judgement) (f : Refusal) (out out-now : List ℕ) (count : ℕ) → f ≡ lent-refusal gs cs x → f .number ≡ 0 →
+    Builds gs cs x y j → Lined (judged-line (Answer j)) out out-now count → Told (Parts-say gs cs x y) out out-now count
 unfolding Parts-say
-parts-judged gs cs x y f o q k e z t =
+parts-judged gs cs x y j f o q k e z b l =
     let none-there : lent-refusal gs cs x .number ≡ 0 = ap (λ (r : Refusal). r .number) (sym e) ∙ z in
+    let t : Told (Judges gs cs x y) o q k = judged-told gs cs x y j o q k b l in
     record { line = t .line; right = parts-judged-as _ _ gs cs x y (t .line) none-there (t .right); lined = t .lined }
 
 -- the input was refused, or its parts are answered

@@ -1,41 +1,28 @@
 -- The refusals of a grammar and a capture, from the tests that the code makes before it writes. Assumes nothing.
 use mathlib.Core.Path.{_≡_, refl, sym, ap, _∙_}
 use mathlib.Core.List.{List}
-use Prim.Native.Nat.{ℕ, _+_, _*_, _/_, _<_, _≤_}
-use native.Mathlib.Nat.{mul-le-mul}
-use native.Mathlib.Numerals.{add-one}
+use Prim.Native.Nat.{ℕ, _<_, _≤_}
 use native.Mathlib.Omega.{arith}
 use lib.ListN.{length}
-use borrow.Author.Tests.{eq-eqb, ne-eqb}
+use borrow.Author.Tests.{eq-eqb, ne-eqb, ltb-false}
 use Rattle.machine.specs.declared.Refusal.{Refusal}
 use Rattle.machine.specs.Format
 use Rattle.machine.specs.Run.{how-many}
 use Rattle.machine.specs.Image.{machine}
 use Rattle.machine.specs.Refusals.{refusal, fine, or-else, image-refusal, capture-refusal}
-use Rattle.machine.proofs.Refused.{neither, then-long, then-fine}
+use Rattle.machine.proofs.Refused.{neither, not-refused as passed, capture-fine, then-long, then-fine}
 use Rattle.simulator.specs.Calls.{judge-refusal}
 use Rattle.simulator.proofs.JudgeRefusals.{cells-refused, notes-refused, work-refused, not-refused}
-use Rattle.grammar.specs.Grammar.{rules, grammar-refusal}
-use Rattle.grammar.specs.Image.{built, symbols-of}
-use Rattle.grammar.specs.Calls.{build-refusal}
-use Rattle.grammar.proofs.BuiltImage.{built-states, built-symbols}
+use Rattle.grammar.specs.declared.Plan.{Plan}
+use Rattle.grammar.specs.Grammar.{grammar-refusal}
+use Rattle.grammar.specs.Image.{built, built-length}
+use Rattle.grammar.specs.Calls.{room-refusal, build-refusal}
+use Rattle.grammar.specs.Building.{Planned}
 use Rattle.grammar.proofs.BuiltGood.{built-good}
-use Rattle.grammar.proofs.GrammarGood.{good-grammar}
-use Rattle.answer.specs.Calls.{parts-refusal}
+use Rattle.grammar.proofs.CodeBuild.{room-told, long-is}
+use Rattle.answer.specs.Calls.{Lent, parts-refusal, lent-refusal}
 
--- how many cells: five states, the tape's places, two symbols a rule and one more
-pub cells-are : (gs cs : List ℕ) → 5 * (length cs + 2) * (2 * (length gs / 4) + 1) ≡ how-many (machine (built gs) cs)
-unfolding how-many machine symbols-of rules
-cells-are gs cs = rw (built-states gs, built-symbols gs, add-one)
-
--- they are few: at most 31 rules
-pub symbols-few : (gs : List ℕ) → grammar-refusal gs .number ≡ 0 → 2 * (length gs / 4) + 1 ≤ 63
-unfolding rules
-symbols-few gs good = let m = good-grammar gs good .rules-most in omega arith
-
-pub cells-few : (a b : ℕ) → a ≤ 327685 → b ≤ 63 → a * b ≤ 327685 * 63
-cells-few a b ha hb = mul-le-mul ha hb
-
+-- 7 TO 9, by the tests on the capture and on the cells that the machine needs
 module _ (gs cs : List ℕ) (good : grammar-refusal gs .number ≡ 0) (a b : ℕ) where
   pub refused-long : Format.max-capture < length cs → refusal 7 (length cs) ≡ judge-refusal (built gs) cs a b
   refused-long h =
@@ -56,25 +43,39 @@ module _ (gs cs : List ℕ) (good : grammar-refusal gs .number ≡ 0) (a b : ℕ
       pub refused-none : cells ≤ b → fine ≡ judge-refusal (built gs) cs a b
       refused-none h = sym (not-refused (built gs) cs a b fine-so-far (omega arith) (omega arith))
 
--- 11 to 13 first
+-- 11 TO 13 first
 module _ (gs cs : List ℕ) (m a b : ℕ) (f : Refusal) (e : f ≡ build-refusal gs m) where
   pub first-refused : (f .number ≡ 0 → ⊥) → f ≡ parts-refusal gs cs m a b
   unfolding parts-refusal or-else
   first-refused h = simp (← e, ne-eqb _ _ h)
 
-  module _ (none : f .number ≡ 0) where
-    build-fine : build-refusal gs m .number ≡ 0
-    build-fine = ap (λ (g : Refusal). g .number) (sym e) ∙ none
+  pub then-refused : f .number ≡ 0 → (g : Refusal) → g ≡ judge-refusal (built gs) cs a b → g ≡ parts-refusal gs cs m a b
+  unfolding parts-refusal or-else
+  then-refused none g h = simp (← e, eq-eqb _ _ none) h
 
-    pub grammar-fine : grammar-refusal gs .number ≡ 0
-    unfolding build-refusal
-    grammar-fine = neither _ _ (record { none-such = build-fine }) .0 .none-such
+-- of a plan
+pub room-tested : (gs : List ℕ) (p : Plan) → Planned gs p → (n : ℕ) {g : Refusal} → g ≡ room-refusal (p .long) n → g ≡ build-refusal gs n
+room-tested gs p w n h = room-told gs (grammar-refusal gs) refl (w .good) n (long-is gs p (w .is)) h
 
-    pub then-refused : (g : Refusal) → g ≡ judge-refusal (built gs) cs a b → g ≡ parts-refusal gs cs m a b
-    unfolding parts-refusal or-else
-    then-refused g h = rw (eq-eqb (build-refusal gs m .number) 0 build-fine) h
+-- NOTHING REFUSED: room for the image, a good image with a short capture, and cells enough
+pub record Roomy (gs cs : List ℕ) (x : Lent) : Type 0 where
+  pub image-room : built-length gs ≤ length (x .image)
+  pub fine : capture-refusal (built gs) (length cs) .number ≡ 0
+  pub short : length cs ≤ Format.max-capture
+  pub notes-room : how-many (machine (built gs) cs) ≤ length (x .notes)
+  pub work-room : how-many (machine (built gs) cs) ≤ length (x .work)
 
--- with nothing refused building is not refused
-pub parts-fine : (gs cs : List ℕ) (m a b : ℕ) (f : Refusal) → f ≡ parts-refusal gs cs m a b → f .number ≡ 0 → build-refusal gs m .number ≡ 0
-unfolding parts-refusal
-parts-fine gs cs m a b f e z = neither _ _ (record { none-such = ap (λ (g : Refusal). g .number) (sym e) ∙ z }) .0 .none-such
+pub roomy : (gs cs : List ℕ) (x : Lent) → lent-refusal gs cs x .number ≡ 0 → Roomy gs cs x
+unfolding parts-refusal build-refusal judge-refusal
+roomy gs cs x e =
+    let (building, judging) = neither _ _ (record { none-such = e }) in
+    let room = neither (grammar-refusal gs) _ building .1 in
+    let (capture, cells) = neither (capture-refusal (built gs) (length cs)) _ judging in
+    let (notes, work) = neither _ _ cells in
+    record {
+      image-room = ltb-false _ _ (passed _ 12 _ room);
+      fine = capture .none-such;
+      short = capture-fine (built gs) (length cs) (capture .none-such) .1;
+      notes-room = ltb-false _ _ (passed _ 7 _ notes);
+      work-room = ltb-false _ _ (passed _ 8 _ work);
+    }

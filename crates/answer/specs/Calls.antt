@@ -73,6 +73,10 @@ pub record Told (Right : List ℕ → Type 0) (out out-now : List ℕ) (count : 
   pub right : Right line
   pub lined : Lined line out out-now count
 
+-- the line for a grammar and a capture
+abbrev pub Parts-told : (grammar capture : List ℕ) → (before after : Lent) → (out out-now : List ℕ) → (count : ℕ) → Type 0
+Parts-told gs cs x y o p n = Told (Parts-say gs cs x y) o p n
+
 -- THE CALL
 unfoldable pub Answer-says : (input : List ℕ) → (before after : Lent) → (out out-now : List ℕ) → (count : ℕ) → Type 0
 Answer-says xs x y o p n = Told (Input-says xs x y) o p n

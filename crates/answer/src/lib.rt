@@ -1,40 +1,44 @@
 // The program's answer: the line that it prints for an input, written into a lent buffer.
 pub mod input;
 
-use grammar::Built;
-use grammar::build::build_image;
-use grammar::build::build_refusal;
-use grammar::check::RULE_BYTES;
+use grammar::Plan;
+use grammar::build::build_checked;
+use grammar::build::room_refusal;
+use grammar::check::refusal_of;
+use grammar::planning::cells_of;
+use grammar::planning::plan_of;
 use input::PAIRS_LENGTH;
 use input::capture_offset;
 use input::input_refusal;
 use machine::Refusal;
 use machine::format::MAX_CAPTURE;
-use simulator::Judged;
-use simulator::judge::judge;
+use simulator::Judgement;
+use simulator::judge::judge_checked;
 use text::put_answer;
 use text::put_refusal;
 ghost use mathlib.Core.Path.{_≡_};
-ghost use lib.ListN.{length};
 ghost use Rattle.machine.specs.Refusals.{refusal};
-ghost use Rattle.simulator.specs.Calls.{judge-refusal};
+ghost use Rattle.simulator.specs.declared.Judged.the-variants.{Answer};
+ghost use Rattle.simulator.specs.Calls.{judge-refusal, Judge-says};
 ghost use Rattle.grammar.specs.Grammar.{grammar-refusal};
 ghost use Rattle.grammar.specs.Image.{built};
-ghost use Rattle.grammar.specs.Calls.{build-refusal};
+ghost use Rattle.grammar.specs.Building.{Planned};
 ghost use Rattle.text.specs.Line.{Lined};
-ghost use Rattle.answer.specs.Calls.{judged-line, lent, Judges, Told, parts-refusal, Parts-say, Answer-says};
+ghost use Rattle.answer.specs.Calls.{judged-line, lent, parts-refusal, Parts-told, Answer-says};
+ghost use Rattle.answer.specs.Steps.{Answer-ready, Judge-ready, Builds};
 
-// The line of what judging says.
-fn put_judged(out: &mut [u8], judged: Judged) -> usize
-    ensures { λ r. ⌜ Lined (judged-line judged) (now (out .entry)) (now (out .exit)) r ⌝ }
+// The line of a judgement.
+fn put_judgement(out: &mut [u8], j: Judgement) -> usize
+    ensures { λ r. ⌜ Lined (judged-line (Answer j)) (now (out .entry)) (now (out .exit)) r ⌝ }
 {
-    match judged {
-        Judged::Refused(refusal) => put_refusal(out, refusal),
-        Judged::Answer(j) => {
-            let verdict = j.verdict;
-            put_answer(out, verdict, j.readings, j.end)
-        }
-    }
+    let verdict = j.verdict;
+    put_answer(out, verdict, j.readings, j.end)
+}
+
+fn refused(number: u32, place: usize) -> Refusal
+    ensures { λ r. ⌜ r ≡ refusal number place ⌝ }
+{
+    Refusal { number, place }
 }
 
 // Refusals 7 to 9, or number 0, for a grammar that is not refused: how many cells its machine needs follows from the grammar and the capture's length.
@@ -46,9 +50,7 @@ fn cells_refusal(grammar: &[u8], capture: &[u8], notes: usize, work: usize) -> R
     if MAX_CAPTURE < n {
         return refused(7, n);
     }
-    let places = n + 2;
-    let symbols = 2 * (grammar.len() / RULE_BYTES) + 1;
-    let cells = 5 * places * symbols;
+    let cells = cells_of(grammar, n);
     if notes < cells {
         return refused(8, cells);
     }
@@ -58,46 +60,82 @@ fn cells_refusal(grammar: &[u8], capture: &[u8], notes: usize, work: usize) -> R
     refused(0, 0)
 }
 
-fn refused(number: u32, place: usize) -> Refusal
-    ensures { λ r. ⌜ r ≡ refusal number place ⌝ }
-{
-    Refusal { number, place }
-}
-
-// The first refusal of 11 to 13 and 7 to 9, or number 0.
-fn parts_refusal(grammar: &[u8], capture: &[u8], image: usize, notes: usize, work: usize) -> Refusal
+// Refusals 13 and 7 to 9, or number 0, for a grammar that is not refused.
+fn lent_refusal(
+    grammar: &[u8],
+    plan: Plan,
+    capture: &[u8],
+    image: usize,
+    notes: usize,
+    work: usize,
+) -> Refusal
+    requires { ⌜ Planned (now grammar) plan ⌝ }
     ensures { λ r. ⌜ r ≡ parts-refusal (now (grammar .entry)) (now (capture .entry)) image notes work ⌝ }
 {
-    let refusal = build_refusal(grammar, image);
+    let refusal = room_refusal(plan.long, image);
     if refusal.number != 0 {
         return refusal;
     }
     cells_refusal(grammar, capture, notes, work)
 }
 
-// The answer where nothing is refused: the image is built, and the capture judged by it.
-fn answer_built(
+// Judging by a good image in the first so many of the lent cells.
+fn judge_lent(
+    image: &[u8],
+    capture: &[u8],
+    cells: usize,
+    notes: &mut [u32],
+    work: &mut [u32],
+) -> Judgement
+    requires { ⌜ Judge-ready (now image) (now capture) cells (now notes) (now work) ⌝ }
+    ensures { λ r. ⌜ Judge-says (now (image .entry)) (now (capture .entry)) (Answer r)
+        (now (notes .entry)) (now (notes .exit)) (now (work .entry)) (now (work .exit)) ⌝ }
+{
+    judge_checked(image, capture, &mut notes[..cells], &mut work[..cells])
+}
+
+// The image is built, and the capture judged by it: nothing is refused, and nothing checked again.
+fn build_and_judge(
     grammar: &[u8],
+    plan: Plan,
+    capture: &[u8],
+    image: &mut [u8],
+    notes: &mut [u32],
+    work: &mut [u32],
+) -> Judgement
+    requires { ⌜ Answer-ready (now grammar) (now capture) plan (lent (now image) (now notes) (now work)) ⌝ }
+    ensures { λ r. ⌜ Builds (now (grammar .entry)) (now (capture .entry)) (lent (now (image .entry)) (now (notes .entry)) (now (work .entry)))
+        (lent (now (image .exit)) (now (notes .exit)) (now (work .exit))) r ⌝ }
+{
+    let long = plan.long;
+    build_checked(grammar, plan, &mut image[..long]);
+    let cells = cells_of(grammar, capture.len());
+    judge_lent(&image[..long], capture, cells, notes, work)
+}
+
+// The answer for a grammar that is not refused: all checks come before the first byte is written.
+fn answer_planned(
+    grammar: &[u8],
+    plan: Plan,
     capture: &[u8],
     image: &mut [u8],
     notes: &mut [u32],
     work: &mut [u32],
     out: &mut [u8],
 ) -> usize
-    requires { ⌜ build-refusal (now grammar) (length (now image)) .number ≡ 0 ⌝ }
-    ensures { λ r. ⌜ Told (Judges (now (grammar .entry)) (now (capture .entry)) (lent (now (image .entry)) (now (notes .entry)) (now (work .entry))) (lent (now (image .exit)) (now (notes .exit)) (now (work .exit)))) (now (out .entry)) (now (out .exit)) r ⌝ }
+    requires { ⌜ Planned (now grammar) plan ⌝ }
+    ensures { λ r. ⌜ Parts-told (now (grammar .entry)) (now (capture .entry)) (lent (now (image .entry)) (now (notes .entry)) (now (work .entry)))
+        (lent (now (image .exit)) (now (notes .exit)) (now (work .exit))) (now (out .entry)) (now (out .exit)) r ⌝ }
 {
-    let built = build_image(grammar, image);
-    match built {
-        Built::Refused(refusal) => put_refusal(out, refusal),
-        Built::Image(long) => {
-            let judged = judge(&image[..long], capture, notes, work);
-            put_judged(out, judged)
-        }
+    let refusal = lent_refusal(grammar, plan, capture, image.len(), notes.len(), work.len());
+    if refusal.number != 0 {
+        return put_refusal(out, refusal);
     }
+    let judgement = build_and_judge(grammar, plan, capture, image, notes, work);
+    put_judgement(out, judgement)
 }
 
-// The answer for a grammar and a capture: all checks come before the first byte is written.
+// The answer for a grammar and a capture.
 fn answer_parts(
     grammar: &[u8],
     capture: &[u8],
@@ -106,13 +144,14 @@ fn answer_parts(
     work: &mut [u32],
     out: &mut [u8],
 ) -> usize
-    ensures { λ r. ⌜ Told (Parts-say (now (grammar .entry)) (now (capture .entry)) (lent (now (image .entry)) (now (notes .entry)) (now (work .entry))) (lent (now (image .exit)) (now (notes .exit)) (now (work .exit)))) (now (out .entry)) (now (out .exit)) r ⌝ }
+    ensures { λ r. ⌜ Parts-told (now (grammar .entry)) (now (capture .entry)) (lent (now (image .entry)) (now (notes .entry)) (now (work .entry)))
+        (lent (now (image .exit)) (now (notes .exit)) (now (work .exit))) (now (out .entry)) (now (out .exit)) r ⌝ }
 {
-    let refusal = parts_refusal(grammar, capture, image.len(), notes.len(), work.len());
+    let refusal = refusal_of(grammar);
     if refusal.number != 0 {
         return put_refusal(out, refusal);
     }
-    answer_built(grammar, capture, image, notes, work, out)
+    answer_planned(grammar, plan_of(grammar), capture, image, notes, work, out)
 }
 
 // The answer for an input, as a line at the start of out; answers the line's length. Where out is shorter, the line is cut off there.
@@ -123,7 +162,8 @@ pub fn answer(
     work: &mut [u32],
     out: &mut [u8],
 ) -> usize
-    ensures { λ r. ⌜ Answer-says (now (input .entry)) (lent (now (image .entry)) (now (notes .entry)) (now (work .entry))) (lent (now (image .exit)) (now (notes .exit)) (now (work .exit))) (now (out .entry)) (now (out .exit)) r ⌝ }
+    ensures { λ r. ⌜ Answer-says (now (input .entry)) (lent (now (image .entry)) (now (notes .entry)) (now (work .entry)))
+        (lent (now (image .exit)) (now (notes .exit)) (now (work .exit))) (now (out .entry)) (now (out .exit)) r ⌝ }
 {
     let refusal = input_refusal(input);
     if refusal.number != 0 {

@@ -90,7 +90,7 @@ pub cells-fit : (gs : List ℕ) (n g : ℕ) → Short gs n → g ≡ symbols-of 
 cells-fit gs n g w e = cells-most (n + 2) g (omega (arith, w .fits)) (omega (arith, symbols-most gs (w .good)))
 
 pub cells-told : (gs : List ℕ) (n g : ℕ) → g ≡ symbols-of gs → Cells-are gs n (state-count * (n + 2) * g)
-unfolding Cells-are how-many machine
+unfolding how-many machine
 cells-told gs n g e cs l = rw (built-states gs, built-symbols gs, e, l)
 
 -- THE PLAN, from its parts

@@ -34,5 +34,5 @@ pub record Buffer-ready (gs : List ℕ) (p : Plan) (image : List ℕ) : Type 0 w
   pub long : length image ≡ built-length gs
 
 -- N of the built image's machine, with any capture of n bytes
-unfoldable pub Cells-are : List ℕ → (n cells : ℕ) → Type 0
+abbrev pub Cells-are : List ℕ → (n cells : ℕ) → Type 0
 Cells-are gs n k = (cs : List ℕ) → length cs ≡ n → k ≡ how-many (machine (built gs) cs)

@@ -8,13 +8,17 @@ refusal-of-requires : tie.Need-refusal-of-requires
 refusal-of-requires c κs = search needs
 
 returns : tie.Need-returns
-returns c = building-refused _ (c .before .before .before .before .before .args .image .now) _ (grammar-refused _ _ (c .before .before .refusal-of .ensures) _ (c .if1 .taken)) (c .if1 .taken)
+returns c =
+    building-refused _ (c .before .before .before .before .before .args .image .now) _
+    (grammar-refused _ _ (c .before .before .refusal-of .ensures) _ (c .if1 .taken)) (c .if1 .taken)
 
 plan-of-requires : tie.Need-plan-of-requires
 plan-of-requires c κs = not-refused _ _ (c .before .before .refusal-of .ensures) (c .if1 .left)
 
 build-planned-requires : tie.Need-build-planned-requires
-build-planned-requires c κs = let checked = c .before .before in record { good = not-refused _ _ (checked .before .before .refusal-of .ensures) (checked .if1 .left); is = c .before .plan-of .ensures }
+build-planned-requires c κs =
+    let checked = c .before .before in
+    record { good = not-refused _ _ (checked .before .before .refusal-of .ensures) (checked .if1 .left); is = c .before .plan-of .ensures }
 
 same-length : tie.Need-same-length
 same-length c = search needs

@@ -17,7 +17,10 @@ room-refusal-requires : tie.Need-room-refusal-requires
 room-refusal-requires c κs = search needs
 
 returns-2 : tie.Need-returns-2
-returns-2 c = let checked = c .before .before .before .before in room-told _ _ (checked .refusal-of .ensures) (c .before .before .if1 .left) _ (long-is _ _ (c .before .plan-of .ensures)) (c .room-refusal .ensures)
+returns-2 c =
+    let checked = c .before .before .before .before in
+    room-told _ _ (checked .refusal-of .ensures) (c .before .before .if1 .left) _ (long-is _ _ (c .before .plan-of .ensures))
+    (c .room-refusal .ensures)
 
 pub build-refusal-spec : {M : Type 1} → statement M
 build-refusal-spec =

@@ -16,7 +16,9 @@ sub-a : tie.Need-sub-a
 sub-a c = search needs
 
 rows-at-requires : tie.Need-rows-at-requires
-rows-at-requires c κs = record { rows = c .before .before .before .pre .rows; rule-there = rule-there _ _ (c .if1 .left) (c .before .before .before .pre .symbol-there) }
+rows-at-requires c κs =
+    record
+    { rows = c .before .before .before .pre .rows; rule-there = rule-there _ _ (c .if1 .left) (c .before .before .before .pre .symbol-there) }
 
 select-requires : tie.Need-select-requires
 select-requires c κs = search needs

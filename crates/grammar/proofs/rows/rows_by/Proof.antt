@@ -18,7 +18,9 @@ change-requires c κs = search needs
 
 push-requires-2 : tie.Need-push-requires-2
 unfolding Parts-below
-push-requires-2 c κs = let arm = c .before .before .before in parts-of (arm .before .before .pre .parts-below) (arm .e .given .1) .1
+push-requires-2 c κs =
+    let arm = c .before .before .before in
+    parts-of (arm .before .before .pre .parts-below) (arm .e .given .1) .1
 
 enum-known-e-2 : tie.Need-enum-known-e-2
 enum-known-e-2 c = search needs
@@ -32,7 +34,9 @@ change-requires-2 c κs = search needs
 
 push-requires-4 : tie.Need-push-requires-4
 unfolding Parts-below
-push-requires-4 c κs = let arm = c .before .before .before in parts-of (arm .before .before .pre .parts-below) (arm .e2 .given .1) .1
+push-requires-4 c κs =
+    let arm = c .before .before .before in
+    parts-of (arm .before .before .pre .parts-below) (arm .e2 .given .1) .1
 
 enum-known-e-3 : tie.Need-enum-known-e-3
 enum-known-e-3 c = search needs
@@ -56,7 +60,8 @@ returns c = simp (c .before .before .before .before .e .given .1, c .before .bef
 
 returns-2 : tie.Need-returns-2
 unfolding rows
-returns-2 c = simp (c .before .before .before .before .e2 .given .1, c .before .before .push3 .ensures, c .before .change2 .ensures, c .push4 .ensures)
+returns-2 c =
+    simp (c .before .before .before .before .e2 .given .1, c .before .before .push3 .ensures, c .before .change2 .ensures, c .push4 .ensures)
 
 returns-3 : tie.Need-returns-3
 unfolding rows
