@@ -9,22 +9,22 @@ use lib.Dec.{eqb}
 use lib.ListN.{length, take, drop}
 use lib.Seq.{getD-drop, take-at}
 use borrow.Author.Tests.{eqb-true, eqb-false}
-use Rattle.machine.specs.declared.Refusal.{Refusal}
+use Rattle.refusal.specs.declared.Refusal.{Refusal}
 use Rattle.codec.specs.Bytes.{byte}
-use Rattle.machine.specs.Refusals.{or-else}
-use Rattle.machine.proofs.Refused.{neither}
+use Rattle.refusal.specs.First.{or-else}
+use Rattle.refusal.proofs.Refused.{neither}
 use Rattle.simulator.specs.declared.Judged.{Judged}
 use Rattle.simulator.specs.Calls.{judge-refusal}
 use Rattle.simulator.proofs.Answered.{judged-right}
 use Rattle.simulator.proofs.Determined.{judge-independent}
 use Rattle.grammar.specs.Grammar.{grammar-refusal}
-use Rattle.grammar.specs.Image.{built, built-length}
-use Rattle.grammar.specs.Calls.{build-refusal}
-use Rattle.grammar.proofs.Answered.{build-fine}
-use Rattle.grammar.proofs.BuiltImage.{built-length-is}
+use Rattle.builder.specs.Image.{built, built-length}
+use Rattle.builder.specs.Calls.{build-refusal}
+use Rattle.builder.proofs.Answered.{build-fine}
+use Rattle.builder.proofs.BuiltImage.{built-length-is}
 use Rattle.text.specs.Line.{refusal-line, answer-line, written, Lined}
 use Rattle.answer.specs.Input.{input-refusal, input-grammar, input-capture, capture-offset}
-use Rattle.answer.specs.Calls.{judged-line, Lent, Refuses, Judges, parts-refusal, lent-refusal, Parts-as, Parts-say, answer-refusal, Input-as, Input-says, Answer-says, Same-room, Same-cells}
+use Rattle.answer.specs.Calls.{judged-line, Lent, Refuses, Built-and-judged, parts-refusal, lent-refusal, Parts-as, Parts-say, answer-refusal, Input-as, Input-says, Answer-says, Same-room, Same-cells}
 use Rattle.answer.specs.TwoCalls.{Gets, Line-parsed}
 use Rattle.answer.proofs.TwoCallsHold.{gets}
 
@@ -48,7 +48,7 @@ unfolding Parts-as
 parts-refuse zero f gs cs x y l h s = absurd (h refl)
 parts-refuse (suc n) f gs cs x y l h s = s
 
-parts-judge : (n : ℕ) (f : Refusal) (gs cs : List ℕ) (x y : Lent) (l : List ℕ) → n ≡ 0 → Parts-as n f gs cs x y l → Judges gs cs x y l
+parts-judge : (n : ℕ) (f : Refusal) (gs cs : List ℕ) (x y : Lent) (l : List ℕ) → n ≡ 0 → Parts-as n f gs cs x y l → Built-and-judged gs cs x y l
 unfolding Parts-as
 parts-judge zero f gs cs x y l h s = s
 parts-judge (suc n) f gs cs x y l h s = absurd (omega arith)
@@ -71,7 +71,7 @@ input-refused xs x y l h s = go (eqb (input-refusal xs .number) 0) refl h
 
 pub input-judged :
     (xs : List ℕ) (x y : Lent) (l : List ℕ) → answer-refusal xs x .number ≡ 0 → Input-says xs x y l →
-    Judges (input-grammar xs) (input-capture xs) x y l
+    Built-and-judged (input-grammar xs) (input-capture xs) x y l
 unfolding Input-says Parts-say answer-refusal
 input-judged xs x y l h s =
     let (input, parts) = neither (input-refusal xs) _ (record { none-such = h }) in
@@ -107,9 +107,9 @@ judged-says j g = rw (g .answers)
 pub line-parsed :
     (xs : List ℕ) (x y : Lent) (l : List ℕ) → ((i : ℕ) → byte xs i < 256) → answer-refusal xs x .number ≡ 0 → Input-says xs x y l →
     Line-parsed (input-grammar xs) (input-capture xs) l
-line-parsed xs x y l bytes fine s =
-    let j = input-judged xs x y l fine s in
-    let (good, judging) = input-fine xs x fine in
+line-parsed xs x y l bytes no-refusal s =
+    let j = input-judged xs x y l no-refusal s in
+    let (good, judging) = input-fine xs x no-refusal in
     let r = judged-right (built (input-grammar xs)) (input-capture xs) (j .judged) (x .notes) (y .notes) (x .work) (y .work) judging (j .judges) in
     let g = gets (input-grammar xs) (input-capture xs) (x .notes) (y .notes) (x .work) (y .work) (j .judged) good (capture-bytes xs bytes) r in
     record {
@@ -129,15 +129,15 @@ module _ (xs : List ℕ) (x y z w : Lent) (room : Same-room x z) (l k : List ℕ
   refusals-same = rw (room .image, room .notes, room .work)
 
   pub judged-independent : answer-refusal xs x .number ≡ 0 → (l ≡ k) × Same-cells (input-grammar xs) (input-capture xs) y w
-  judged-independent fine =
+  judged-independent no-refusal =
       let bs = built (input-grammar xs) in
-      let j = input-judged xs x y l fine a in
-      let i = input-judged xs z w k (ap (λ (f : Refusal). f .number) refusals-same ∙ fine) b in
+      let j = input-judged xs x y l no-refusal a in
+      let i = input-judged xs z w k (ap (λ (f : Refusal). f .number) refusals-same ∙ no-refusal) b in
       let (same, cells) =
       judge-independent bs (input-capture xs) (x .notes) (x .work) (z .notes) (z .work) (j .judged) (i .judged) (y .notes) (y .work) (w .notes) (w .work)
       (room .notes) (room .work) (j .judges) (i .judges)
       in
-      let (notes, work) = cells (input-fine xs x fine .1) in
+      let (notes, work) = cells (input-fine xs x no-refusal .1) in
       let long = built-length (input-grammar xs) in
       let first = ap (take long) (j .image-now) ∙ take-at bs (drop long (x .image)) long (built-length-is (input-grammar xs)) in
       let second = ap (take long) (i .image-now) ∙ take-at bs (drop long (z .image)) long (built-length-is (input-grammar xs)) in (
@@ -189,4 +189,4 @@ answer-independent xs x y z w out p out′ q n m room long a b =
     let lines : take n p ≡ take n q =
     lined-first (a .lined) ∙ ap (take n) same ∙ ap (λ (k : ℕ). take k (b .line)) counts ∙ sym (lined-first (b .lined))
     ∙ ap (λ (k : ℕ). take k q) (sym counts) in
-    (counts, lines, λ fine. judged-independent xs x y z w room (a .line) (b .line) (a .right) (b .right) fine .1)
+    (counts, lines, λ no-refusal. judged-independent xs x y z w room (a .line) (b .line) (a .right) (b .right) no-refusal .1)

@@ -5,22 +5,22 @@ use Prim.Native.Nat.{ℕ, zero, suc, _≤_}
 use native.Mathlib.Omega.{arith}
 use lib.ListN.{length, take, drop, length-append}
 use lib.Seq.{take-at}
-use Rattle.machine.specs.declared.Refusal.{Refusal}
+use Rattle.refusal.specs.declared.Refusal.{Refusal}
 use Rattle.machine.specs.Run.{how-many}
-use Rattle.machine.specs.Image.{machine}
+use Rattle.image.specs.Image.{machine}
 use Rattle.simulator.specs.declared.Judgement.{Judgement}
 use Rattle.simulator.specs.declared.Judged.the-variants.{Answer}
 use Rattle.simulator.specs.Calls.{Judge-says}
 use Rattle.simulator.proofs.Needing.{cells-are}
-use Rattle.grammar.specs.declared.Plan.{Plan}
-use Rattle.grammar.specs.Image.{built, built-length}
-use Rattle.grammar.specs.Building.{Planned, Buffer-ready, Short, Cells-are}
-use Rattle.grammar.proofs.BuiltImage.{built-length-is}
-use Rattle.grammar.proofs.CodeBuild.{long-is, buffer-ready}
+use Rattle.builder.specs.declared.Plan.{Plan}
+use Rattle.builder.specs.Image.{built, built-length}
+use Rattle.builder.specs.code.Building.{Planned, Buffer-ready, Short, Cells-are}
+use Rattle.builder.proofs.BuiltImage.{built-length-is}
+use Rattle.builder.proofs.CodeBuild.{long-is, buffer-ready}
 use Rattle.text.specs.Line.{refusal-line, Lined}
 use Rattle.answer.specs.Input.{input-refusal, input-grammar, input-capture}
-use Rattle.answer.specs.Calls.{judged-line, Lent, lent-refusal, Judges, Parts-as, Parts-say, Input-as, Input-says, Told, Answer-says}
-use Rattle.answer.specs.Steps.{Answer-ready, Judge-ready, Builds}
+use Rattle.answer.specs.Calls.{judged-line, Lent, lent-refusal, Built-and-judged, Parts-as, Parts-say, Input-as, Input-says, Told, Answer-says}
+use Rattle.answer.specs.code.Steps.{Answer-ready, Judge-ready, Builds}
 use Rattle.answer.proofs.Refusing.{Roomy, roomy}
 
 -- THE IMAGE STANDS at the start of the buffer, before the later bytes
@@ -42,7 +42,7 @@ stands gs m w p planned e =
 -- WHAT THE STEPS MAY ASSUME, where nothing is refused
 module _ (gs cs : List ℕ) (p : Plan) (x : Lent) (ready : Answer-ready gs cs p x) where
   room : Roomy gs cs x
-  room = roomy gs cs x (ready .fine)
+  room = roomy gs cs x (ready .no-refusal)
 
   pub image-fits : p .long ≤ length (x .image)
   image-fits = omega (arith, room .image-room, long-is gs p (ready .planned .is))
@@ -60,7 +60,7 @@ module _ (gs cs : List ℕ) (p : Plan) (x : Lent) (ready : Answer-ready gs cs p 
       let k : cells ≡ how-many (machine (built gs) cs) = count cs refl in
       subst (λ (y : List ℕ). Judge-ready y cs cells (x .notes) (x .work)) (sym e)
       (record {
-        sized = record { fine = room .fine; counted = k ∙ sym (cells-are (built gs) cs) };
+        sized = record { no-refusal = room .no-refusal; counted = k ∙ sym (cells-are (built gs) cs) };
         notes-enough = omega (arith, room .notes-room);
         work-enough = omega (arith, room .work-room);
       })
@@ -76,7 +76,7 @@ builds {gs} {cs} {x} {y} {j} {long} s says =
 
 judged-told :
     (gs cs : List ℕ) (x y : Lent) (j : Judgement) (out out-now : List ℕ) (count : ℕ) → Builds gs cs x y j →
-    Lined (judged-line (Answer j)) out out-now count → Told (Judges gs cs x y) out out-now count
+    Lined (judged-line (Answer j)) out out-now count → Told (Built-and-judged gs cs x y) out out-now count
 judged-told gs cs x y j o q k b t =
     record {
       line = judged-line (Answer j);
@@ -101,7 +101,7 @@ parts-refused gs cs x f o q k e h t =
       lined = t;
     }
 
-parts-judged-as : (n : ℕ) (f : Refusal) (gs cs : List ℕ) (x y : Lent) (l : List ℕ) → n ≡ 0 → Judges gs cs x y l → Parts-as n f gs cs x y l
+parts-judged-as : (n : ℕ) (f : Refusal) (gs cs : List ℕ) (x y : Lent) (l : List ℕ) → n ≡ 0 → Built-and-judged gs cs x y l → Parts-as n f gs cs x y l
 unfolding Parts-as
 parts-judged-as zero f gs cs x y l e h = h
 parts-judged-as (suc n) f gs cs x y l e h = absurd (omega arith)
@@ -112,7 +112,7 @@ pub parts-judged :
 unfolding Parts-say
 parts-judged gs cs x y j f o q k e z b l =
     let none-there : lent-refusal gs cs x .number ≡ 0 = ap (λ (r : Refusal). r .number) (sym e) ∙ z in
-    let t : Told (Judges gs cs x y) o q k = judged-told gs cs x y j o q k b l in
+    let t : Told (Built-and-judged gs cs x y) o q k = judged-told gs cs x y j o q k b l in
     record { line = t .line; right = parts-judged-as _ _ gs cs x y (t .line) none-there (t .right); lined = t .lined }
 
 -- the input was refused, or its parts are answered

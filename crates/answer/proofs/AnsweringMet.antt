@@ -4,15 +4,15 @@ use mathlib.Core.List.{List}
 use mathlib.Core.Logic.{_↔_}
 use Prim.Native.Nat.{ℕ}
 use lib.ListN.{length}
-use Rattle.machine.specs.Refusals.{refusal}
-use Rattle.machine.proofs.Rows.{Some-row, exactly, Check, stops, goes-on, then-row}
+use Rattle.refusal.specs.First.{refusal}
+use Rattle.refusal.proofs.Rows.{Some-row, exactly, Check, stops, goes-on, then-row}
 use Rattle.simulator.specs.Calls.{judge-refusal}
 use Rattle.simulator.specs.Conditions.{Judging-right, Judging-row}
 use Rattle.simulator.proofs.ConditionsMet.{judging-check}
-use Rattle.grammar.specs.Image.{built}
-use Rattle.grammar.specs.Calls.{build-refusal}
-use Rattle.grammar.specs.Conditions.{Building-right, Building-row}
-use Rattle.grammar.proofs.BuildingMet.{building-check}
+use Rattle.builder.specs.Image.{built}
+use Rattle.builder.specs.Calls.{build-refusal}
+use Rattle.builder.specs.Conditions.{Building-right, Building-row}
+use Rattle.builder.proofs.BuildingMet.{building-check}
 use Rattle.answer.specs.Input.{input-refusal, input-grammar, input-capture}
 use Rattle.answer.specs.Calls.{Lent, parts-refusal, answer-refusal}
 use Rattle.answer.specs.Conditions.{Input-right, Input-row, Answering-row, unrefused-answering, refused-input, refused-building, refused-judging}

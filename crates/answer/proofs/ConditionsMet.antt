@@ -9,11 +9,11 @@ use lib.Dec.{ltb}
 use lib.ListN.{length, take, drop, length-take, length-drop, take-append-drop}
 use lib.Seq.{drop-drop}
 use Rattle.codec.specs.Numbers.{pair-at}
-use Rattle.machine.specs.Refusals.{refusal, fine}
+use Rattle.refusal.specs.First.{refusal, no-refusal}
 use Rattle.answer.specs.Input.{pairs-length, grammar-pair, capture-pair, max-input, capture-offset, first-pair-right, second-pair-right, input-refusal, input-grammar, input-capture}
 use Rattle.answer.specs.Conditions.{Input-length-right, Input-right, Input-parts, First-pair-right, Second-pair-right, Input-row, unrefused-input, wrong-input-length, wrong-first-pair, wrong-second-pair}
-use Rattle.machine.proofs.Reflects.{Reflects, when-holds, when-fails, decided, restated, equal, at-most, both, Refuses, when-refused, passing, refuses-as, over, any-of}
-use Rattle.machine.proofs.Rows.{Some-row, Table, row-numbered, exactly}
+use Rattle.refusal.proofs.Reflects.{Reflects, when-holds, when-fails, decided, restated, equal, at-most, both, Refuses, when-refused, passing, refuses-as, over, any-of}
+use Rattle.refusal.proofs.Rows.{Some-row, Table, row-numbered, exactly}
 use Rattle.answer.proofs.InputLaws.{first-refused, second-refused, not-refused}
 
 module _ (xs : List ℕ) where
@@ -94,7 +94,7 @@ module _ (xs : List ℕ) where
       go : {o : ℕ} → Input-row xs 0 o → Input-right xs
       go (unrefused-input r) = r
 
-  pub input-accepted : Input-right xs → input-refusal xs ≡ fine
+  pub input-accepted : Input-right xs → input-refusal xs ≡ no-refusal
   input-accepted r = row-answers 0 0 (unrefused-input r)
 
   -- THE PARTS of an input that is not refused

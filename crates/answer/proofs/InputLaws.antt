@@ -9,9 +9,9 @@ use lib.ListN.{length, take, drop, length-drop}
 use lib.Seq.{take-all}
 use borrow.Author.Tests.{lt-ltb, le-ltb, ltb-false, leb-true, eq-eqb, ne-eqb}
 use Rattle.codec.specs.declared.Pair.{Pair}
-use Rattle.machine.specs.declared.Refusal.{Refusal}
+use Rattle.refusal.specs.declared.Refusal.{Refusal}
 use Rattle.codec.specs.Numbers.{pair-at}
-use Rattle.machine.specs.Refusals.{refusal, fine}
+use Rattle.refusal.specs.First.{refusal, no-refusal}
 use Rattle.answer.specs.Input.{pairs-length, grammar-pair, capture-pair, max-input, capture-offset, first-pair-right, second-pair-right, input-refusal, input-grammar, input-capture}
 
 module _ (xs : List ℕ) where
@@ -33,7 +33,7 @@ module _ (xs : List ℕ) where
       unfolding input-refusal
       second-refused p q = simp (le-ltb _ _ enough, le-ltb _ _ few, p, q)
 
-      pub not-refused : first-pair-right xs ≡ true → second-pair-right xs ≡ true → input-refusal xs ≡ fine
+      pub not-refused : first-pair-right xs ≡ true → second-pair-right xs ≡ true → input-refusal xs ≡ no-refusal
       unfolding input-refusal
       not-refused p q = simp (le-ltb _ _ enough, le-ltb _ _ few, p, q)
 
@@ -63,7 +63,7 @@ parted-as xs h = go (ltb (length xs) pairs-length) (ltb max-input (length xs)) (
   where
     go :
         (a b p : Bool) → ltb (length xs) pairs-length ≡ a → first-pair-right xs ≡ p →
-        cond (a || b) (refusal 14 0) (cond p (cond (second-pair-right xs) fine (refusal 14 capture-pair)) (refusal 14 0)) .number ≡ 0 → Parted xs
+        cond (a || b) (refusal 14 0) (cond p (cond (second-pair-right xs) no-refusal (refusal 14 capture-pair)) (refusal 14 0)) .number ≡ 0 → Parted xs
     go true b p e f z = absurd (omega arith)
     go false true p e f z = absurd (omega arith)
     go false false false e f z = absurd (omega arith)

@@ -3,7 +3,7 @@ pub mod InputLaws
 pub mod ConditionsMet
 pub mod Refusing
 pub mod Answering
-pub mod Promised
+pub mod LineWhole
 pub mod TwoCallsHold
 pub mod Answered
 pub mod AnsweringMet

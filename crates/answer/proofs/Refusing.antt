@@ -5,21 +5,23 @@ use Prim.Native.Nat.{ℕ, _<_, _≤_}
 use native.Mathlib.Omega.{arith}
 use lib.ListN.{length}
 use borrow.Author.Tests.{eq-eqb, ne-eqb, ltb-false}
-use Rattle.machine.specs.declared.Refusal.{Refusal}
-use Rattle.machine.specs.Format
+use Rattle.refusal.specs.declared.Refusal.{Refusal}
+use Rattle.image.specs.Format
 use Rattle.machine.specs.Run.{how-many}
-use Rattle.machine.specs.Image.{machine}
-use Rattle.machine.specs.Refusals.{refusal, fine, or-else, image-refusal, capture-refusal}
-use Rattle.machine.proofs.Refused.{neither, not-refused as passed, capture-fine, then-long, then-fine}
+use Rattle.image.specs.Image.{machine}
+use Rattle.refusal.specs.First.{refusal, no-refusal, or-else}
+use Rattle.image.specs.Refusals.{image-refusal, capture-refusal}
+use Rattle.refusal.proofs.Refused.{neither, not-refused as passed}
+use Rattle.image.proofs.CaptureRefused.{capture-fine, then-long, then-fine}
 use Rattle.simulator.specs.Calls.{judge-refusal}
 use Rattle.simulator.proofs.JudgeRefusals.{cells-refused, notes-refused, work-refused, not-refused}
-use Rattle.grammar.specs.declared.Plan.{Plan}
+use Rattle.builder.specs.declared.Plan.{Plan}
 use Rattle.grammar.specs.Grammar.{grammar-refusal}
-use Rattle.grammar.specs.Image.{built, built-length}
-use Rattle.grammar.specs.Calls.{room-refusal, build-refusal}
-use Rattle.grammar.specs.Building.{Planned}
-use Rattle.grammar.proofs.BuiltGood.{built-good}
-use Rattle.grammar.proofs.CodeBuild.{room-told, long-is}
+use Rattle.builder.specs.Image.{built, built-length}
+use Rattle.builder.specs.Calls.{room-refusal, build-refusal}
+use Rattle.builder.specs.code.Building.{Planned}
+use Rattle.builder.proofs.BuiltGood.{built-good}
+use Rattle.builder.proofs.CodeBuild.{room-told, long-is}
 use Rattle.answer.specs.Calls.{Lent, parts-refusal, lent-refusal}
 
 -- 7 TO 9, by the tests on the capture and on the cells that the machine needs
@@ -40,7 +42,7 @@ module _ (gs cs : List ℕ) (good : grammar-refusal gs .number ≡ 0) (a b : ℕ
       pub refused-work : b < cells → refusal 9 cells ≡ judge-refusal (built gs) cs a b
       refused-work h = ap (refusal 9) is ∙ sym (work-refused (built gs) cs a b fine-so-far (omega arith) (omega arith))
 
-      pub refused-none : cells ≤ b → fine ≡ judge-refusal (built gs) cs a b
+      pub refused-none : cells ≤ b → no-refusal ≡ judge-refusal (built gs) cs a b
       refused-none h = sym (not-refused (built gs) cs a b fine-so-far (omega arith) (omega arith))
 
 -- 11 TO 13 first
@@ -60,7 +62,7 @@ room-tested gs p w n h = room-told gs (grammar-refusal gs) refl (w .good) n (lon
 -- NOTHING REFUSED: room for the image, a good image with a short capture, and cells enough
 pub record Roomy (gs cs : List ℕ) (x : Lent) : Type 0 where
   pub image-room : built-length gs ≤ length (x .image)
-  pub fine : capture-refusal (built gs) (length cs) .number ≡ 0
+  pub no-refusal : capture-refusal (built gs) (length cs) .number ≡ 0
   pub short : length cs ≤ Format.max-capture
   pub notes-room : how-many (machine (built gs) cs) ≤ length (x .notes)
   pub work-room : how-many (machine (built gs) cs) ≤ length (x .work)
@@ -74,7 +76,7 @@ roomy gs cs x e =
     let (notes, work) = neither _ _ cells in
     record {
       image-room = ltb-false _ _ (passed _ 12 _ room);
-      fine = capture .none-such;
+      no-refusal = capture .none-such;
       short = capture-fine (built gs) (length cs) (capture .none-such) .1;
       notes-room = ltb-false _ _ (passed _ 7 _ notes);
       work-room = ltb-false _ _ (passed _ 8 _ work);

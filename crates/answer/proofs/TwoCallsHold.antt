@@ -8,33 +8,34 @@ use lib.ListN.{length, take, drop}
 use lib.Seq.{take-at}
 use borrow.Author.Tests.{le-ltb, eq-eqb}
 use Rattle.machine.specs.declared.Config.{Config}
-use Rattle.machine.specs.declared.Refusal.{Refusal}
+use Rattle.refusal.specs.declared.Refusal.{Refusal}
 use Rattle.machine.specs.declared.Verdict.{Verdict}
 use Rattle.machine.specs.declared.Verdict.the-variants.{Accepted, Ended, Stuck, Looping}
-use Rattle.machine.specs.Format
+use Rattle.image.specs.Format
 use Rattle.codec.specs.Bytes.{Bytes}
-use Rattle.machine.specs.Image.{machine}
+use Rattle.image.specs.Image.{machine}
 use Rattle.machine.specs.Verdicts.{Goes-on, Says}
-use Rattle.machine.specs.Refusals.{or-else, refuse-if, image-refusal}
+use Rattle.refusal.specs.First.{or-else, refuse-if}
+use Rattle.image.specs.Refusals.{image-refusal}
 use Rattle.machine.proofs.Halts.{says-looping}
 use Rattle.machine.proofs.OneVerdict.{one-verdict, goes-on-loops}
 use Rattle.simulator.specs.declared.Judged.{Judged}
 use Rattle.simulator.specs.Calls.{Judged-right, Judge-says}
 use Rattle.simulator.proofs.Answered.{judged-right}
-use Rattle.simulator.proofs.Promised.{verdict-there}
+use Rattle.simulator.proofs.JudgingRight.{verdict-there}
 use Rattle.simulator.proofs.JudgeRefusals.{not-refused}
-use Rattle.machine.proofs.Refused.{then-fine}
-use Rattle.grammar.specs.declared.Built.{Built}
-use Rattle.grammar.specs.declared.Built.the-variants.{Image}
+use Rattle.image.proofs.CaptureRefused.{then-fine}
+use Rattle.builder.specs.declared.Built.{Built}
+use Rattle.builder.specs.declared.Built.the-variants.{Image}
 use Rattle.grammar.specs.Grammar.{expression, grammar-refusal}
 use Rattle.grammar.specs.Parsing.{Parses}
-use Rattle.grammar.specs.Image.{built, built-length}
-use Rattle.grammar.specs.Calls.{build-refusal, Build-says}
-use Rattle.grammar.proofs.BuiltImage.{built-length-is}
-use Rattle.grammar.proofs.Answered.{build-answered}
-use Rattle.grammar.proofs.BuiltGood.{built-good}
-use Rattle.grammar.proofs.Parsed.{Parses-right}
-use Rattle.grammar.proofs.Promised.{built-parses, few-readings}
+use Rattle.builder.specs.Image.{built, built-length}
+use Rattle.builder.specs.Calls.{build-refusal, Build-says}
+use Rattle.builder.proofs.BuiltImage.{built-length-is}
+use Rattle.builder.proofs.Answered.{build-answered}
+use Rattle.builder.proofs.BuiltGood.{built-good}
+use Rattle.parsing_theory.proofs.Parsed.{Parses-right}
+use Rattle.parsing_theory.proofs.BuiltParses.{built-parses, few-readings}
 use Rattle.answer.specs.TwoCalls.{As-parsed, Gets, Enough}
 
 -- the verdict of a grammar's machine is as parsing says

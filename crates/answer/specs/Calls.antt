@@ -3,15 +3,15 @@ use mathlib.Core.Path.{_≡_}
 use mathlib.Core.List.{List, _++_}
 use Prim.Native.Nat.{ℕ, zero, suc}
 use lib.ListN.{length, take, drop}
-use Rattle.machine.specs.declared.Refusal.{Refusal}
+use Rattle.refusal.specs.declared.Refusal.{Refusal}
 use Rattle.simulator.specs.declared.Judged.{Judged}
 use Rattle.simulator.specs.declared.Judged.the-variants.{Refused, Answer}
 use Rattle.machine.specs.Run.{how-many}
-use Rattle.machine.specs.Image.{machine}
-use Rattle.machine.specs.Refusals.{or-else}
+use Rattle.image.specs.Image.{machine}
+use Rattle.refusal.specs.First.{or-else}
 use Rattle.simulator.specs.Calls.{judge-refusal, Judge-says}
-use Rattle.grammar.specs.Image.{built, built-length}
-use Rattle.grammar.specs.Calls.{build-refusal}
+use Rattle.builder.specs.Image.{built, built-length}
+use Rattle.builder.specs.Calls.{build-refusal}
 use Rattle.text.specs.Line.{refusal-line, answer-line, Lined}
 use Rattle.answer.specs.Input.{input-refusal, input-grammar, input-capture}
 
@@ -35,7 +35,7 @@ pub record Refuses (f : Refusal) (before after : Lent) (line : List ℕ) : Type 
   pub kept : after ≡ before
 
 -- the image of the grammar is built, with later bytes as they were, and its judging is told
-pub record Judges (gs cs : List ℕ) (before after : Lent) (line : List ℕ) : Type 0 where
+pub record Built-and-judged (gs cs : List ℕ) (before after : Lent) (line : List ℕ) : Type 0 where
   pub judged : Judged
   pub image-now : after .image ≡ built gs ++ drop (built-length gs) (before .image)
   pub judges : Judge-says (built gs) cs judged (before .notes) (after .notes) (before .work) (after .work)
@@ -46,7 +46,7 @@ unfoldable pub parts-refusal : (grammar capture : List ℕ) → (image notes wor
 parts-refusal gs cs m a b = or-else (build-refusal gs m) (judge-refusal (built gs) cs a b)
 
 unfoldable pub Parts-as : (number : ℕ) → Refusal → (gs cs : List ℕ) → (before after : Lent) → (line : List ℕ) → Type 0
-Parts-as zero f gs cs x y l = Judges gs cs x y l
+Parts-as zero f gs cs x y l = Built-and-judged gs cs x y l
 Parts-as (suc n) f gs cs x y l = Refuses f x y l
 
 abbrev pub lent-refusal : (grammar capture : List ℕ) → Lent → Refusal
@@ -68,9 +68,9 @@ unfoldable pub Input-says : (input : List ℕ) → (before after : Lent) → (li
 Input-says xs x y l = Input-as (input-refusal xs .number) (input-refusal xs) xs x y l
 
 -- a line that is right is written into the out buffer, and counted; where the buffer is shorter than the line, as far as there is room
-pub record Told (Right : List ℕ → Type 0) (out out-now : List ℕ) (count : ℕ) : Type 0 where
+pub record Told (Line-right : List ℕ → Type 0) (out out-now : List ℕ) (count : ℕ) : Type 0 where
   pub line : List ℕ
-  pub right : Right line
+  pub right : Line-right line
   pub lined : Lined line out out-now count
 
 -- the line for a grammar and a capture

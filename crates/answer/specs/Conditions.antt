@@ -4,10 +4,10 @@ use mathlib.Core.List.{List, _++_}
 use Prim.Native.Nat.{ℕ, _+_, _≤_}
 use lib.ListN.{length, take}
 use Rattle.codec.specs.Numbers.{pair-at}
-use Rattle.machine.specs.Conditions.{Pair-right}
+use Rattle.image.specs.Conditions.{Pair-right}
 use Rattle.simulator.specs.Conditions.{Judging-right, Judging-row}
-use Rattle.grammar.specs.Image.{built}
-use Rattle.grammar.specs.Conditions.{Building-right, Building-row}
+use Rattle.builder.specs.Image.{built}
+use Rattle.builder.specs.Conditions.{Building-right, Building-row}
 use Rattle.answer.specs.Input.{pairs-length, grammar-pair, capture-pair, max-input, input-grammar, input-capture}
 use Rattle.answer.specs.Calls.{Lent}
 

@@ -4,10 +4,10 @@ use mathlib.Core.List.{List}
 use Prim.Native.Nat.{ℕ, _+_}
 use lib.Dec.{ltb, leb, eqb}
 use lib.ListN.{length, drop}
-use Rattle.machine.specs.declared.Refusal.{Refusal}
+use Rattle.refusal.specs.declared.Refusal.{Refusal}
 use Rattle.codec.specs.Bytes.{section}
 use Rattle.codec.specs.Numbers.{pair-at}
-use Rattle.machine.specs.Refusals.{refusal, fine}
+use Rattle.refusal.specs.First.{refusal, no-refusal}
 
 -- the pairs' own length, where the grammar begins
 abbrev pub pairs-length : ℕ
@@ -40,7 +40,7 @@ second-pair-right xs =
 unfoldable pub input-refusal : List ℕ → Refusal
 input-refusal xs =
     cond (ltb (length xs) pairs-length || ltb max-input (length xs)) (refusal 14 0)
-    (cond (first-pair-right xs) (cond (second-pair-right xs) fine (refusal 14 capture-pair)) (refusal 14 grammar-pair))
+    (cond (first-pair-right xs) (cond (second-pair-right xs) no-refusal (refusal 14 capture-pair)) (refusal 14 grammar-pair))
 
 unfoldable pub input-grammar : List ℕ → List ℕ
 input-grammar xs = section xs pairs-length (pair-at xs grammar-pair .long)

@@ -7,16 +7,16 @@ use lib.ListN.{length}
 use Rattle.machine.specs.declared.Config.{Config}
 use Rattle.machine.specs.declared.Verdict.{Verdict}
 use Rattle.machine.specs.declared.Verdict.the-variants.{Accepted, Ended, Stuck, Looping}
-use Rattle.machine.specs.Format
+use Rattle.image.specs.Format
 use Rattle.machine.specs.Run.{how-many}
 use Rattle.codec.specs.Bytes.{byte}
-use Rattle.machine.specs.Image.{machine}
+use Rattle.image.specs.Image.{machine}
 use Rattle.simulator.specs.declared.Judged.{Judged}
 use Rattle.simulator.specs.declared.Judged.the-variants.{Answer}
 use Rattle.simulator.specs.Calls.{judgement}
 use Rattle.grammar.specs.Grammar.{rules, expression, grammar-refusal}
 use Rattle.grammar.specs.Parsing.{Parses}
-use Rattle.grammar.specs.Image.{built, built-length}
+use Rattle.builder.specs.Image.{built, built-length}
 use Rattle.text.specs.Line.{answer-line}
 
 -- accepted: parsing from rule 0 consumes all; stuck: it has another result; looping: it has none; nothing else is said

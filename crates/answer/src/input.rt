@@ -1,10 +1,10 @@
 // The program's input: the pairs (16, g) and (16 + g, n), a grammar of g bytes, a capture of n, nothing after; and refusal 14.
 use codec::read_pair;
-use machine::Refusal;
+use refusal::Refusal;
 ghost use mathlib.Core.Path.{_≡_};
 ghost use Prim.Native.Nat.{_≤_};
 ghost use lib.ListN.{length};
-ghost use Rattle.machine.specs.Refusals.{refusal};
+ghost use Rattle.refusal.specs.First.{refusal};
 ghost use Rattle.answer.specs.Input.{pairs-length, capture-offset, first-pair-right, second-pair-right, input-refusal};
 
 // The pairs' own length, where the grammar begins.

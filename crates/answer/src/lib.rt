@@ -1,31 +1,31 @@
 // The program's answer: the line that it prints for an input, written into a lent buffer.
 pub mod input;
 
-use grammar::Plan;
-use grammar::build::build_checked;
-use grammar::build::room_refusal;
+use builder::Plan;
+use builder::build::build_checked;
+use builder::build::room_refusal;
+use builder::planning::cells_of;
+use builder::planning::plan_of;
 use grammar::check::refusal_of;
-use grammar::planning::cells_of;
-use grammar::planning::plan_of;
+use image::format::MAX_CAPTURE;
 use input::PAIRS_LENGTH;
 use input::capture_offset;
 use input::input_refusal;
-use machine::Refusal;
-use machine::format::MAX_CAPTURE;
+use refusal::Refusal;
 use simulator::Judgement;
 use simulator::judge::judge_checked;
 use text::put_answer;
 use text::put_refusal;
 ghost use mathlib.Core.Path.{_≡_};
-ghost use Rattle.machine.specs.Refusals.{refusal};
+ghost use Rattle.refusal.specs.First.{refusal};
 ghost use Rattle.simulator.specs.declared.Judged.the-variants.{Answer};
 ghost use Rattle.simulator.specs.Calls.{judge-refusal, Judge-says};
 ghost use Rattle.grammar.specs.Grammar.{grammar-refusal};
-ghost use Rattle.grammar.specs.Image.{built};
-ghost use Rattle.grammar.specs.Building.{Planned};
+ghost use Rattle.builder.specs.Image.{built};
+ghost use Rattle.builder.specs.code.Building.{Planned};
 ghost use Rattle.text.specs.Line.{Lined};
 ghost use Rattle.answer.specs.Calls.{judged-line, lent, parts-refusal, Parts-told, Answer-says};
-ghost use Rattle.answer.specs.Steps.{Answer-ready, Judge-ready, Builds};
+ghost use Rattle.answer.specs.code.Steps.{Answer-ready, Judge-ready, Builds};
 
 // The line of a judgement.
 fn put_judgement(out: &mut [u8], j: Judgement) -> usize

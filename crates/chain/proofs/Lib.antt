@@ -1,20 +1,5 @@
--- What is proved of the chain: that a step is safe and what it adds; from paths of open configurations to the verdict.
+-- What is proved of one step: that it is safe, and what it adds.
 pub mod StepSafe
 pub mod OwnTerminator
 pub mod LookBy
 pub mod StepAdds
-pub mod Travel
-pub mod Path
-pub mod Again
-pub mod Endings
-pub mod Cells
-pub mod Invariant
-pub mod Shares
-pub mod Resumes
-pub mod Closes
-pub mod LookKeeps
-pub mod UnwindKeeps
-pub mod Finish
-pub mod Readies
-pub mod ChainJudges
-pub mod Interface

@@ -8,13 +8,13 @@ use Rattle.machine.specs.declared.Action.{Action}
 use Rattle.machine.specs.declared.Note.{Note}
 use Rattle.machine.specs.declared.Note.the-variants.{Unseen, Open, Closed}
 use Rattle.machine.specs.declared.Verdict.the-variants.{Looping}
-use Rattle.machine.specs.Image.{action, machine}
+use Rattle.image.specs.Image.{action, machine}
 use Rattle.machine.specs.Verdicts.{note-of}
 use Rattle.chain.specs.declared.Mode.the-variants.{Look, Clear}
 use Rattle.chain.specs.declared.Environment.{Environment}
 use Rattle.chain.specs.declared.Registers.{Registers}
 use Rattle.chain.specs.Step.{with-cells, registers-of, number-in, config-in, closed, look, step-by-mode}
-use Rattle.chain.specs.StepParts.{First-looks, Steps-by}
+use Rattle.chain.specs.code.StepParts.{First-looks, Steps-by}
 
 module _
     {bs cs : List ℕ} {E : Environment} {r x : Registers} {ns ns′ ws ws′ : List ℕ} {k : ℕ} (number-is : k ≡ number-in E (r .at))

@@ -9,7 +9,7 @@ use Rattle.chain.specs.declared.Mode.the-variants.{Unwind}
 use Rattle.chain.specs.declared.Environment.{Environment}
 use Rattle.chain.specs.declared.Registers.{Registers}
 use Rattle.chain.specs.Step.{registers-of, after-pop, resumed, with-reading, closed, first-look}
-use Rattle.chain.specs.StepParts.{Pops, First-looks}
+use Rattle.chain.specs.code.StepParts.{Pops, First-looks}
 
 module _ (E : Environment) (r : Registers) (p : ℕ) where
   pub pops-pushed :

@@ -15,7 +15,7 @@ use Rattle.machine.specs.declared.Note.{Note}
 use Rattle.machine.specs.declared.Note.the-variants.{Unseen, Open, Closed}
 use Rattle.machine.specs.declared.Verdict.{Verdict}
 use Rattle.machine.specs.Run.{Machine, how-many}
-use Rattle.machine.specs.Image.{machine}
+use Rattle.image.specs.Image.{machine}
 use Rattle.machine.specs.Verdicts.{note-of, nonzero}
 use Rattle.machine.proofs.RightNotes.{zero-unseen}
 use Rattle.machine.proofs.Nonzero.{nonzero-set-new, nonzero-set-old}
@@ -24,8 +24,9 @@ use Rattle.chain.specs.declared.Mode.the-variants.{Look, Unwind, Clear, 
 use Rattle.chain.specs.declared.Environment.{Environment}
 use Rattle.chain.specs.declared.Registers.{Registers}
 use Rattle.chain.specs.Step.{Program-state, with-cells, registers-of, resumed, closed, with-reading, first-look, look, unwound, unwind, cleared, step-by-mode, judge-step}
-use Rattle.chain.specs.Ready.{Open-for, Ready, Same-zero, Newly-noted, none-noted, one-noted, Step-says}
-use Rattle.chain.specs.StepParts.{Steps-by, Unwindable, Clears}
+use Rattle.chain.specs.code.Ready.{Open-for, Ready, Step-says}
+use Rattle.chain.specs.Chain.{Same-zero, Newly-noted, none-noted, one-noted}
+use Rattle.chain.specs.code.StepParts.{Steps-by, Unwindable, Clears}
 use Rattle.chain.proofs.StepSafe.{number-low}
 
 -- the readings of each record that a step makes

@@ -9,25 +9,25 @@ use lib.Dec.{eqb}
 use lib.ListN.{length, getD}
 use borrow.Author.Tests.{eqb-true}
 use Rattle.machine.specs.declared.Config.{Config}
-use Rattle.machine.specs.declared.Sizes.{Sizes}
+use Rattle.image.specs.declared.Sizes.{Sizes}
 use Rattle.machine.specs.declared.Action.{Action}
 use Rattle.machine.specs.declared.Reason.the-variants.{Missing}
 use Rattle.machine.specs.declared.Action.the-variants.{Stop, Change, Push, Pop}
 use Rattle.machine.specs.declared.Note.the-variants.{Closed}
-use Rattle.machine.specs.Run.{There, number-by, number, how-many, config, config-by, returned}
-use Rattle.machine.specs.Image.{states, symbols, Rule, action, action-by, moved, machine, sizes-of}
+use Rattle.machine.specs.Run.{Valid-config, number-by, number, how-many, config, config-by, returned}
+use Rattle.image.specs.Image.{states, symbols, Rule, action, action-by, moved, machine, sizes-of}
 use Rattle.machine.specs.Verdicts.{note-of, note-cell}
-use Rattle.machine.specs.Refusals.{Unrefused}
-use Rattle.machine.specs.Format
+use Rattle.image.specs.Refusals.{Unrefused}
+use Rattle.image.specs.Format
 use Rattle.machine.proofs.RightNotes.{cell-kept}
-use Rattle.machine.specs.code.Lookup.{Digits-fit, Lookup-ready}
+use Rattle.image.specs.code.Lookup.{Digits-fit, Lookup-ready}
 use Rattle.machine.proofs.Numbers.{number-below, config-at, config-at-there}
-use Rattle.machine.proofs.Rules.{good, rule-of, rule-there, state-there, head-there, symbol-there}
+use Rattle.image.proofs.Rules.{good, rule-of, rule-there, state-there, head-there, symbol-there}
 use Rattle.chain.specs.declared.Environment.{Environment}
 use Rattle.chain.specs.declared.Registers.{Registers}
 use Rattle.chain.specs.Step.{number-in, config-in}
-use Rattle.chain.specs.Ready.{Ready}
-use Rattle.chain.specs.StepParts.{u32-end, Resumable, Openable, First-ready, Poppable, Closable}
+use Rattle.chain.specs.code.Ready.{Ready}
+use Rattle.chain.specs.code.StepParts.{u32-end, Resumable, Openable, First-ready, Poppable, Closable}
 
 pub either-below : (b : Bool) {i j n x : ℕ} → x ≡ cond b i j → i < n → j < n → x < n
 either-below true e h k = rw e h
@@ -54,8 +54,8 @@ pops-kind r i p b e = go (eqb (r .kind) 1) (eqb (r .kind) 2) (eqb (r .kind) 3) r
   where
     go :
         (x y z : Bool) → eqb (r .kind) 3 ≡ z →
-        cond x (Change (config (r .state) (moved (r .move) i) (r .symbol)))
-        (cond y (Push (config (r .state) (moved (r .move) i) (r .symbol))) (cond z (Pop (r .state) (eqb (r .move) 1)) (Stop Missing)))
+        cond x (Change (config (r .state) (moved (r .direction) i) (r .symbol)))
+        (cond y (Push (config (r .state) (moved (r .direction) i) (r .symbol))) (cond z (Pop (r .state) (eqb (r .direction) 1)) (Stop Missing)))
         ≡ Pop p b →
         (r .kind ≡ 3) × (r .state ≡ p)
     go true y z q h = absurd (let w : _≡_ {A = ℕ} 0 1 = cc in omega arith)
@@ -64,7 +64,7 @@ pops-kind r i p b e = go (eqb (r .kind) 1) (eqb (r .kind) 2) (eqb (r .kind) 3) r
     go false false false q h = absurd (let w : _≡_ {A = ℕ} 0 1 = cc in omega arith)
 
 pub pop-low :
-    {bs cs : List ℕ} → Unrefused bs cs → {c : Config} → There (machine bs cs) c → (p : ℕ) (b : Bool) →
+    {bs cs : List ℕ} → Unrefused bs cs → {c : Config} → Valid-config (machine bs cs) c → (p : ℕ) (b : Bool) →
     action bs cs c ≡ Pop p b → p < Format.max-states
 unfolding action
 pop-low {bs} {cs} u {c} t p b e =
@@ -86,11 +86,11 @@ module _ {bs cs : List ℕ} (u : Unrefused bs cs) {s : Sizes} (q : s ≡ sizes-o
   unfolding sizes-of
   places-few = rw q (omega (arith, u .short))
 
-  pub number-low : {c : Config} → There (machine bs cs) c → number-by (s .places) (s .symbols) c < how-many (machine bs cs)
+  pub number-low : {c : Config} → Valid-config (machine bs cs) c → number-by (s .places) (s .symbols) c < how-many (machine bs cs)
   unfolding sizes-of number machine
   number-low t = rw q (number-below t)
 
-  number-fits : {c : Config} → There (machine bs cs) c → Digits-fit (c .state) (c .head) (c .symbol) (s .places) (s .symbols)
+  number-fits : {c : Config} → Valid-config (machine bs cs) c → Digits-fit (c .state) (c .head) (c .symbol) (s .places) (s .symbols)
   unfolding sizes-of
   number-fits t =
       rw
@@ -103,11 +103,11 @@ module _ {bs cs : List ℕ} (u : Unrefused bs cs) {s : Sizes} (q : s ≡ sizes-o
         symbols-most = good u .symbols-most;
       })
 
-  from-there : (k : ℕ) → k < how-many (machine bs cs) → There (machine bs cs) (config-by (s .places) (s .symbols) k)
+  from-there : (k : ℕ) → k < how-many (machine bs cs) → Valid-config (machine bs cs) (config-by (s .places) (s .symbols) k)
   unfolding sizes-of config-at machine
   from-there k h = rw q (config-at-there (machine bs cs) k h)
 
-  pub head-low : {c : Config} → There (machine bs cs) c → c .head < Format.max-places
+  pub head-low : {c : Config} → Valid-config (machine bs cs) c → c .head < Format.max-places
   head-low t = omega (arith, head-there u t, u .short)
 
   pub head-of-number : (k : ℕ) → k / s .symbols % s .places < Format.max-places
@@ -117,7 +117,7 @@ module _ {bs cs : List ℕ} (u : Unrefused bs cs) {s : Sizes} (q : s ≡ sizes-o
 module _ {bs cs : List ℕ} (u : Unrefused bs cs) {E : Environment} (q : E .sizes ≡ sizes-of bs cs) where
   -- an entry whose pointer is a head can be popped by d
   pub resume-ready :
-      {d : Config} → There (machine bs cs) d → {a : Action} → a ≡ action bs cs d → {i : ℕ} → i < Format.max-places →
+      {d : Config} → Valid-config (machine bs cs) d → {a : Action} → a ≡ action bs cs d → {i : ℕ} → i < Format.max-places →
       Resumable E a i (d .head)
   resume-ready t f h =
       record {
@@ -170,7 +170,7 @@ module _ {bs cs : List ℕ} {E : Environment} {r : Registers} {ns ws : List ℕ}
   closable k j e f =
       let cell : getD ns k 0 ≡ j + 2 = sym (cell-kept (getD ns k 0)) ∙ ap note-cell e in
       let h : j < how-many (machine bs cs) = omega (arith, y .notes-low k) in
-      let there : There (machine bs cs) (config-in E j) = from-there (y .unrefused) (y .sizes-are) j h in
+      let there : Valid-config (machine bs cs) (config-in E j) = from-there (y .unrefused) (y .sizes-are) j h in
       record {
         lookup = record { unrefused = y .unrefused; counts = y .sizes-are; there = rw f there };
         head-low = at-head-low;

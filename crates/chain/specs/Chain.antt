@@ -6,13 +6,13 @@ use mathlib.Core.Option.{Option, none, some}
 use Prim.Native.Nat.{ℕ, zero, suc, _+_, _*_, _-_, _≤_, _<_}
 use lib.ListN.{length, take, drop, replicate}
 use Rattle.machine.specs.declared.Config.{Config}
-use Rattle.machine.specs.declared.Sizes.{Sizes}
+use Rattle.image.specs.declared.Sizes.{Sizes}
 use Rattle.machine.specs.declared.Verdict.{Verdict}
-use Rattle.machine.specs.Format
+use Rattle.image.specs.Format
 use Rattle.machine.specs.Run.{how-many, config}
 use Rattle.codec.specs.Bytes.{byte}
 use Rattle.codec.specs.Numbers.{u32-at}
-use Rattle.machine.specs.Image.{machine, sizes-of}
+use Rattle.image.specs.Image.{machine, sizes-of}
 use Rattle.machine.specs.Verdicts.{Says, Noted, nonzero, All-entered}
 use Rattle.chain.specs.declared.Mode.{Mode}
 use Rattle.chain.specs.declared.Mode.the-variants.{Look, Unwind, Clear, Done}
@@ -20,7 +20,19 @@ use Rattle.chain.specs.declared.Environment.{Environment}
 use Rattle.chain.specs.declared.Registers.{Registers}
 use Rattle.chain.specs.declared.JudgeState.{JudgeState}
 use Rattle.chain.specs.Step.{Program-state, with-cells, registers-of, judge-step}
-use Rattle.chain.specs.Ready.{Newly-noted}
+use mathlib.Core.Logic.{_↔_}
+use lib.ListN.{getD}
+
+-- a note is 0 now exactly if it was 0
+abbrev pub Same-zero : (note note-now : ℕ) → Type 0
+Same-zero a b = a ≡ 0 ↔ b ≡ 0
+
+-- ZERO NOTES THAT TURN NONZERO: there is none and the readings stay, or it is number k's alone and they are one more; no note goes back to 0
+pub data Newly-noted (before now : ℕ) (notes notes-now : List ℕ) : Type 0 where
+  none-noted : now ≡ before → ((j : ℕ) → Same-zero (getD notes j 0) (getD notes-now j 0)) → Newly-noted before now notes notes-now
+  one-noted :
+      (k : ℕ) → now ≡ suc before → getD notes k 0 ≡ 0 → (getD notes-now k 0 ≡ 0 → ⊥) →
+      ((j : ℕ) → (j ≡ k → ⊥) → Same-zero (getD notes j 0) (getD notes-now j 0)) → Newly-noted before now notes notes-now
 
 -- OF ANY PROGRAM: states of its own, started from the image's counts and finals and the capture's length alone
 pub record Chain (S : Type 0) : Type 0 where

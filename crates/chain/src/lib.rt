@@ -1,8 +1,8 @@
 // The judge's own steps: its state, and one step. What the chain of steps comes to is defined in specs/ and proved in proofs/.
 pub mod step;
 
+use image::Sizes;
 use machine::Config;
-use machine::Sizes;
 use machine::Verdict;
 
 // What the next step does: look at a configuration, close open ones with a known terminator, clear the links after a run that has no end or is stuck, nothing.

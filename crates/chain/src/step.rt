@@ -2,27 +2,27 @@
 use crate::Environment;
 use crate::Mode;
 use crate::Registers;
+use image::Sizes;
+use image::lookup;
 use machine::Action;
 use machine::Config;
 use machine::Halt;
 use machine::Note;
-use machine::Sizes;
 use machine::Verdict;
 use machine::halting::halt_verdict;
 use machine::halting::stop_verdict;
-use machine::lookup;
 use machine::notes::note_of;
 ghost use mathlib.Core.Path.{_≡_};
 ghost use Prim.Native.Nat.{_+_, _*_, _/_, _%_, _<_, _≤_};
 ghost use lib.ListN.{length};
-ghost use Rattle.machine.specs.Format.{max-states, max-places};
+ghost use Rattle.image.specs.Format.{max-states, max-places};
 ghost use Rattle.machine.specs.Run.{returned};
-ghost use Rattle.machine.specs.Image.{machine};
-ghost use Rattle.machine.specs.code.Lookup.{Lookup-ready};
+ghost use Rattle.image.specs.Image.{machine};
+ghost use Rattle.image.specs.code.Lookup.{Lookup-ready};
 ghost use Rattle.chain.specs.declared.Mode.the-variants.{Look, Unwind};
 ghost use Rattle.chain.specs.Step;
-ghost use Rattle.chain.specs.Ready.{Ready, Step-says};
-ghost use Rattle.chain.specs.StepParts.{u32-end, Resumable, Openable, First-ready, Poppable, Pops, Closable, Opens, First-looks, Steps-by, Unwindable, Clears};
+ghost use Rattle.chain.specs.code.Ready.{Ready, Step-says};
+ghost use Rattle.chain.specs.code.StepParts.{u32-end, Resumable, Openable, First-ready, Poppable, Pops, Closable, Opens, First-looks, Steps-by, Unwindable, Clears};
 
 fn registers_of(mode: Mode, at: Config, pushed: bool, top: u32, readings: u32) -> Registers
     ensures { λ x. ⌜ x ≡ Step.registers-of mode at pushed top readings ⌝ }
@@ -205,7 +205,8 @@ fn look(
     work: &mut [u32],
 ) -> Registers
     requires { ⌜ Ready (now image) (now capture) e r (now notes) (now work) ⌝ }
-    ensures { λ x. ⌜ Steps-by Look (now (image .entry)) (now (capture .entry)) e r x (now (notes .entry)) (now (notes .exit)) (now (work .entry)) (now (work .exit)) ⌝ }
+    ensures { λ x. ⌜ Steps-by Look (now (image .entry)) (now (capture .entry)) e r x
+        (now (notes .entry)) (now (notes .exit)) (now (work .entry)) (now (work .exit)) ⌝ }
 {
     let at = r.at;
     let k = lookup::number(e.sizes, at);
@@ -270,7 +271,8 @@ fn unwind(
     work: &mut [u32],
 ) -> Registers
     requires { ⌜ Unwindable (now image) (now capture) e r (now notes) (now work) ⌝ }
-    ensures { λ x. ⌜ Steps-by Unwind (now (image .entry)) (now (capture .entry)) e r x (now (notes .entry)) (now (notes .exit)) (now (work .entry)) (now (work .exit)) ⌝ }
+    ensures { λ x. ⌜ Steps-by Unwind (now (image .entry)) (now (capture .entry)) e r x
+        (now (notes .entry)) (now (notes .exit)) (now (work .entry)) (now (work .exit)) ⌝ }
 {
     let at = r.at;
     let k = r.top - 1;
@@ -305,7 +307,8 @@ pub fn step(
     work: &mut [u32],
 ) -> Registers
     requires { ⌜ Ready (now image) (now capture) e r (now notes) (now work) ⌝ }
-    ensures { λ x. ⌜ Step-says (now (image .entry)) (now (capture .entry)) e r x (now (notes .entry)) (now (notes .exit)) (now (work .entry)) (now (work .exit)) ⌝ }
+    ensures { λ x. ⌜ Step-says (now (image .entry)) (now (capture .entry)) e r x
+        (now (notes .entry)) (now (notes .exit)) (now (work .entry)) (now (work .exit)) ⌝ }
 {
     let mode = r.mode;
     match mode {

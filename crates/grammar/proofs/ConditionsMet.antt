@@ -7,13 +7,13 @@ use Prim.Native.Nat.{ℕ, zero, suc, _*_, _%_, _<_, _≤_}
 use native.Mathlib.Omega.{arith}
 use lib.Dec.{ltb, eqb}
 use lib.ListN.{length}
-use Rattle.machine.specs.declared.Refusal.{Refusal}
-use Rattle.machine.specs.Refusals.{refusal, fine}
-use Rattle.grammar.specs.Grammar.{max-rules, rules, kind-of, b-of, c-of, rule-right, rules-from, grammar-refusal}
+use Rattle.refusal.specs.declared.Refusal.{Refusal}
+use Rattle.refusal.specs.First.{refusal, no-refusal}
+use Rattle.grammar.specs.Grammar.{max-rules, rules, kind-of, b-of, c-of, rule-right, grammar-rules-from, grammar-refusal}
 use Rattle.grammar.specs.Conditions.{Grammar-length-right, last-of, Grammar-rule-right, sequence-right, choice-right, not-right, empty-right, range-right, Grammar-rules-right, Grammar-right, First-wrong-rule, Grammar-row, unrefused-grammar, wrong-grammar-length, wrong-grammar-rule}
-use Rattle.machine.proofs.Reflects.{Reflects, restated, equal, less, at-most, both, either, by-cases, Refuses, when-passed, when-refused, passing, refuses-as, unless, if-so, over, any-of}
-use Rattle.machine.proofs.Searching.{Looked, all-have, lacking, look, Search, none-found, first-found}
-use Rattle.machine.proofs.Rows.{Some-row, Table, exactly, Check, checks}
+use Rattle.refusal.proofs.Reflects.{Reflects, restated, equal, less, at-most, both, either, by-cases, Refuses, when-passed, when-refused, passing, refuses-as, unless, if-so, over, any-of}
+use Rattle.refusal.proofs.Searching.{Looked, all-have, lacking, look, Search, none-found, first-found}
+use Rattle.refusal.proofs.Rows.{Some-row, Table, exactly, Check, checks}
 
 -- whether rule k is right, by the test
 abbrev pub right-at : List ℕ → (k : ℕ) → Bool
@@ -104,20 +104,20 @@ module _ (gs : List ℕ) where
   turned true f g = refl
   turned false f g = refl
 
-  rules-search : Search (λ (n k : ℕ). rules-from n k gs) (λ (k : ℕ). refusal 12 (4 * k)) (Grammar-rule-right gs)
-  unfolding rules-from
+  rules-search : Search (λ (n k : ℕ). grammar-rules-from n k gs) (λ (k : ℕ). refusal 12 (4 * k)) (Grammar-rule-right gs)
+  unfolding grammar-rules-from
   rules-search =
       record {
         refuses = λ k. not (right-at gs k);
         tests = rule-test gs;
         none-left = λ k. refl;
-        one-more = λ n k. turned (right-at gs k) (refusal 12 (4 * k)) (rules-from n (suc k) gs);
+        one-more = λ n k. turned (right-at gs k) (refusal 12 (4 * k)) (grammar-rules-from n (suc k) gs);
       }
 
-  rules-fine : Grammar-rules-right gs → rules-from (rules gs) 0 gs ≡ fine
+  rules-fine : Grammar-rules-right gs → grammar-rules-from (rules gs) 0 gs ≡ no-refusal
   rules-fine h = none-found rules-search (rules gs) 0 (λ k least most. h k (omega arith))
 
-  rules-wrong : (o : ℕ) → First-wrong-rule gs o → rules-from (rules gs) 0 gs ≡ refusal 12 o
+  rules-wrong : (o : ℕ) → First-wrong-rule gs o → grammar-rules-from (rules gs) 0 gs ≡ refusal 12 o
   rules-wrong o f =
       first-found rules-search (rules gs) 0 (f .rule) (omega arith) (omega (arith, f .rule-below)) (f .wrong)
       (λ k least less. f .before k less)

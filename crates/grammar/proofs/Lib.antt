@@ -1,30 +1,6 @@
--- What is proved of grammars and their images, by topic: unrefused grammars and byte classes; the image as it reads back; its machine as a table of rows; parsing; few readings; and the laws that the code's proofs cite.
+-- What is proved of grammars: what their refusals mean, what an unrefused one has, and the laws that the check's proofs cite.
+pub mod Matches
 pub mod Bools
 pub mod ConditionsMet
 pub mod GrammarGood
-pub mod Classes
-pub mod ClassesFew
-pub mod RangeClasses
-pub mod PartsMade
-pub mod BuiltImage
-pub mod BuiltRules
-pub mod BuiltGood
-pub mod Table
-pub mod BuiltTable
-pub mod TableRows
-pub mod ParseRuns
-pub mod RunParses
-pub mod Parsed
-pub mod Leads
-pub mod Entered
-pub mod FewReadings
-pub mod Promised
-pub mod Answered
-pub mod BuildingMet
 pub mod CodeGrammar
-pub mod CodeClasses
-pub mod CodeWriting
-pub mod CodeRows
-pub mod CodeRules
-pub mod CodeBuild
-pub mod LongestImage

@@ -4,19 +4,7 @@ use mathlib.Core.List.{List}
 use Prim.Native.Nat.{ℕ, _+_, _*_, _<_, _≤_}
 use lib.ListN.{length}
 use Rattle.codec.specs.Bytes.{byte}
-use Rattle.grammar.specs.Grammar.{
-  max-rules,
-  rules,
-  kind-of,
-  b-of,
-  c-of,
-  kind-sequence,
-  kind-choice,
-  kind-not,
-  kind-empty,
-  kind-range,
-}
-use Rattle.grammar.specs.Image.{built}
+use Rattle.grammar.specs.Grammar.{max-rules, rules, kind-of, b-of, c-of, kind-sequence, kind-choice, kind-not, kind-empty, kind-range}
 
 -- THE LENGTH: not 0, not over 124, and m rules of four bytes
 pub record Grammar-length-right (gs : List ℕ) : Type 0 where
@@ -57,13 +45,3 @@ pub data Grammar-row (gs : List ℕ) : (number place : ℕ) → Type 0 where
   unrefused-grammar : Grammar-right gs → Grammar-row gs 0 0
   wrong-grammar-length : (Grammar-length-right gs → ⊥) → Grammar-row gs 11 (length gs)
   wrong-grammar-rule : {place : ℕ} → Grammar-length-right gs → First-wrong-rule gs place → Grammar-row gs 12 place
-
--- BUILDING: a grammar that is right, and room for its image
-pub record Building-right (gs : List ℕ) (room : ℕ) : Type 0 where
-  pub grammar : Grammar-right gs
-  pub image-room : length (built gs) ≤ room
-
-pub data Building-row (gs : List ℕ) (room : ℕ) : (number place : ℕ) → Type 0 where
-  unrefused-building : Building-right gs room → Building-row gs room 0 0
-  refused-grammar : {number place : ℕ} → Grammar-row gs number place → (number ≡ 0 → ⊥) → Building-row gs room number place
-  short-buffer : Grammar-right gs → room < length (built gs) → Building-row gs room 13 (length (built gs))

@@ -4,9 +4,9 @@ use mathlib.Core.List.{List}
 use Prim.Native.Nat.{ℕ, zero, suc, _+_, _*_, _/_, _%_, _<_}
 use lib.Dec.{ltb, leb, eqb}
 use lib.ListN.{length}
-use Rattle.machine.specs.declared.Refusal.{Refusal}
+use Rattle.refusal.specs.declared.Refusal.{Refusal}
 use Rattle.codec.specs.Bytes.{byte}
-use Rattle.machine.specs.Refusals.{refusal, fine}
+use Rattle.refusal.specs.First.{refusal, no-refusal}
 use Rattle.grammar.specs.declared.ByteRange.{ByteRange}
 use Rattle.grammar.specs.declared.ByteRange.the-variants.{Between, Nothing}
 use Rattle.grammar.specs.declared.Expression.{Expression}
@@ -77,12 +77,12 @@ rule-right m d b c z =
     (cond (eqb d kind-not) (ltb b m && eqb c 0)
     (cond (eqb d kind-empty) (eqb b 0 && eqb c 0) (eqb d kind-range && leb b c)))
 
-unfoldable pub rules-from : (left k : ℕ) → List ℕ → Refusal
-rules-from zero k gs = fine
-rules-from (suc n) k gs =
-    cond (rule-right (rules gs) (kind-of gs k) (b-of gs k) (c-of gs k) (byte gs (4 * k + 3))) (rules-from n (suc k) gs) (refusal 12 (4 * k))
+unfoldable pub grammar-rules-from : (left k : ℕ) → List ℕ → Refusal
+grammar-rules-from zero k gs = no-refusal
+grammar-rules-from (suc n) k gs =
+    cond (rule-right (rules gs) (kind-of gs k) (b-of gs k) (c-of gs k) (byte gs (4 * k + 3))) (grammar-rules-from n (suc k) gs) (refusal 12 (4 * k))
 
 -- 11: the length; 12: the first rule that is not right
 unfoldable pub grammar-refusal : List ℕ → Refusal
 grammar-refusal gs =
-    cond (eqb (length gs) 0 || (ltb (4 * max-rules) (length gs) || not (eqb (length gs % 4) 0))) (refusal 11 (length gs)) (rules-from (rules gs) 0 gs)
+    cond (eqb (length gs) 0 || (ltb (4 * max-rules) (length gs) || not (eqb (length gs % 4) 0))) (refusal 11 (length gs)) (grammar-rules-from (rules gs) 0 gs)

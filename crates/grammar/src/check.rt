@@ -1,15 +1,15 @@
 // The check of a grammar: refusals 11 and 12, for every byte string of any length; and what a rule's bytes say.
 use crate::ByteRange;
 use crate::Expression;
-use machine::Checked;
-use machine::Refusal;
+use refusal::Checked;
+use refusal::Refusal;
 ghost use mathlib.Core.Path.{_≡_};
 ghost use mathlib.Core.Bool.{not, _&&_, _||_};
 ghost use Prim.Native.Nat.{_+_, _*_, _%_, _/_, _<_, _≤_};
 ghost use lib.Dec.{eqb, ltb};
 ghost use lib.ListN.{length};
-ghost use Rattle.machine.specs.Calls.{checked};
-ghost use Rattle.grammar.specs.Grammar.{max-rules, rules, expression, expression-by, range-of, rule-right, rules-from, grammar-refusal};
+ghost use Rattle.refusal.specs.Checking.{checked};
+ghost use Rattle.grammar.specs.Grammar.{max-rules, rules, expression, expression-by, range-of, rule-right, grammar-rules-from, grammar-refusal};
 
 // The bytes of a grammar rule: kind, b, c and 0.
 pub const RULE_BYTES: usize = 4;
@@ -98,7 +98,7 @@ fn right(m: u8, kind: u8, b: u8, c: u8, last: u8) -> bool
 // Refusal 12: the first rule that is not right.
 fn rules_refusal(grammar: &[u8]) -> Refusal
     requires { ⌜ length (now grammar) ≤ 4 * max-rules ⌝ }
-    ensures { λ r. ⌜ r ≡ rules-from (rules (now (grammar .entry))) 0 (now (grammar .entry)) ⌝ }
+    ensures { λ r. ⌜ r ≡ grammar-rules-from (rules (now (grammar .entry))) 0 (now (grammar .entry)) ⌝ }
 {
     let count = grammar.len() / RULE_BYTES;
     let m = count as u8;

@@ -5,16 +5,16 @@ use Prim.Native.Nat.{ℕ, zero, suc, _<_}
 use native.Mathlib.Omega.{arith}
 use lib.ListN.{length, replicate}
 use borrow.Author.Tests.{eqb-false}
-use Rattle.machine.specs.declared.Refusal.{Refusal}
+use Rattle.refusal.specs.declared.Refusal.{Refusal}
 use Rattle.machine.specs.Run.{start}
-use Rattle.machine.specs.Image.{machine}
-use Rattle.machine.specs.Refusals.{capture-refusal}
-use Rattle.machine.proofs.Refused.{neither, not-refused}
+use Rattle.image.specs.Image.{machine}
+use Rattle.image.specs.Refusals.{capture-refusal}
+use Rattle.refusal.proofs.Refused.{neither, not-refused}
 use Rattle.interpreter.specs.declared.Ran.{Ran}
 use Rattle.interpreter.specs.declared.Ran.the-variants.{Refused}
 use Rattle.interpreter.specs.PlainRun.{Run-end, run-on, True-end}
 use Rattle.interpreter.specs.Calls.{run-refusal, answer, Run-as, Run-says}
-use Rattle.interpreter.proofs.Promised.{plain-run-true}
+use Rattle.interpreter.proofs.TrueEnd.{plain-run-true}
 
 determined-as :
     (n : ℕ) (f : Refusal) (e : Run-end) (r s : Ran) (a x y : List ℕ) → Run-as n f e r a x → Run-as n f e s a y → (r ≡ s) × (x ≡ y)

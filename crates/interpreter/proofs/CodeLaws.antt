@@ -8,39 +8,20 @@ use borrow.Author.Tests.{le-leb, lt-leb, eq-eqb, ne-eqb}
 use Rattle.machine.specs.declared.Config.{Config}
 use Rattle.machine.specs.declared.Reason.{Reason}
 use Rattle.machine.specs.declared.Halt.the-variants.{Over, Stopped}
-use Rattle.machine.specs.declared.Sizes.{Sizes}
+use Rattle.image.specs.declared.Sizes.{Sizes}
 use Rattle.machine.specs.declared.Action.{Action}
 use Rattle.machine.specs.declared.Action.the-variants.{Stop, Change, Push, Pop}
-use Rattle.machine.specs.Format
+use Rattle.image.specs.Format
 use Rattle.machine.specs.Halting.{accepts-by}
 use Rattle.machine.specs.Run.{config, returned}
 use Rattle.codec.specs.Numbers.{u32-at}
-use Rattle.machine.specs.Image.{sizes-of, action, accepting, machine}
+use Rattle.image.specs.Image.{sizes-of, action, accepting, machine}
 use Rattle.interpreter.specs.declared.Exit.{Exit}
 use Rattle.interpreter.specs.declared.Exit.the-variants.{Halted, Deep}
 use Rattle.interpreter.specs.declared.RunState.{RunState}
 use Rattle.interpreter.specs.declared.StepResult.{StepResult}
 use Rattle.interpreter.specs.declared.StepResult.the-variants.{On, Exited}
-use Rattle.interpreter.specs.code.Stepping.{
-  cell-symbols,
-  cell-of,
-  run-state,
-  change-result,
-  push-result,
-  popped-to,
-  pop-head,
-  pop-result,
-  take-result,
-  spent-exit,
-  result-by,
-  cells-pushed,
-  cells-taken,
-  cells-by,
-  Stepped,
-  Push-says,
-  Take-says,
-  Plain-step-says,
-}
+use Rattle.interpreter.specs.code.Stepping.{cell-symbols, cell-of, run-state, change-result, push-result, popped-to, pop-head, pop-result, take-result, spent-exit, result-by, cells-pushed, cells-taken, cells-by, Stepped, Push-says, Take-says, Plain-step-says}
 
 -- A PUSH, and a push that is too deep
 module _ (s : RunState) (c : Config) (ks : List ℕ) where

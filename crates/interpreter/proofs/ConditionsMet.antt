@@ -7,10 +7,10 @@ use native.Mathlib.Decide.{ℕ-discrete}
 use native.Mathlib.Omega.{arith}
 use lib.ListN.{length}
 use borrow.Author.Tests.{eq-eqb, ne-eqb}
-use Rattle.machine.specs.Refusals.{refusal, refuse-if}
-use Rattle.machine.specs.Conditions.{Capture-right}
-use Rattle.machine.proofs.Rows.{Some-row, exactly, stops, goes-on, then-row}
-use Rattle.machine.proofs.CaptureMet.{capture-check}
+use Rattle.refusal.specs.First.{refusal, refuse-if}
+use Rattle.image.specs.Conditions.{Capture-right}
+use Rattle.refusal.proofs.Rows.{Some-row, exactly, stops, goes-on, then-row}
+use Rattle.image.proofs.CaptureMet.{capture-check}
 use Rattle.interpreter.specs.Calls.{run-refusal}
 use Rattle.interpreter.specs.Conditions.{Running-row, unrefused-run, refused-capture, no-cell}
 

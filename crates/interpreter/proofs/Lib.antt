@@ -1,6 +1,6 @@
 -- Laws that the proofs of this crate cite, by topic.
 pub mod Heights
-pub mod Promised
+pub mod TrueEnd
 pub mod Answered
 pub mod ConditionsMet
 pub mod CellLaws

@@ -6,16 +6,16 @@ use Prim.Native.Nat.{ℕ, _≤_, _<_}
 use native.Mathlib.Omega.{arith}
 use lib.ListN.{length}
 use Rattle.machine.specs.declared.Config.{Config}
-use Rattle.machine.specs.declared.Sizes.{Sizes}
+use Rattle.image.specs.declared.Sizes.{Sizes}
 use Rattle.machine.specs.declared.Action.the-variants.{Pop}
-use Rattle.machine.specs.Format
-use Rattle.machine.specs.Run.{There}
-use Rattle.machine.specs.Image.{machine, action}
-use Rattle.machine.specs.Refusals.{Unrefused}
+use Rattle.image.specs.Format
+use Rattle.machine.specs.Run.{Valid-config}
+use Rattle.image.specs.Image.{machine, action}
+use Rattle.image.specs.Refusals.{Unrefused}
 use Rattle.interpreter.specs.declared.RunState.{RunState}
 use Rattle.interpreter.specs.code.Stepping.{max-steps, Take-ready, Plain-step-ready}
-use Rattle.machine.proofs.Rules.{good}
-use Rattle.machine.proofs.Inside.{inside}
+use Rattle.image.proofs.Rules.{good}
+use Rattle.image.proofs.Inside.{inside}
 use Rattle.interpreter.proofs.ReadyLaws.{Runnable, entry-ready}
 
 pub image-long : (bs cs : List ℕ) → Unrefused bs cs → Format.map-offset ≤ length bs
@@ -33,7 +33,7 @@ runnable bs cs h =
 
 -- a pop leads to a state of the machine's
 pop-state :
-    (bs cs : List ℕ) (c : Config) (p : ℕ) (t : Bool) → Unrefused bs cs → There (machine bs cs) c → action bs cs c ≡ Pop p t → p < Format.max-states
+    (bs cs : List ℕ) (c : Config) (p : ℕ) (t : Bool) → Unrefused bs cs → Valid-config (machine bs cs) c → action bs cs c ≡ Pop p t → p < Format.max-states
 unfolding machine
 pop-state bs cs c p t u h e =
     let fit = runnable bs cs u in

@@ -10,9 +10,9 @@ use lib.Seq.{getD-set-same, getD-set-other}
 use borrow.Author.Tests.{eqb-true, eqb-false}
 use Rattle.machine.specs.declared.Config.{Config}
 use Rattle.machine.specs.declared.Action.the-variants.{Change, Push, Pop}
-use Rattle.machine.specs.Format
+use Rattle.image.specs.Format
 use Rattle.machine.specs.Run.{Machine, config, returned}
-use Rattle.machine.proofs.Inside.{Inside}
+use Rattle.machine.proofs.Reach.{Inside}
 use Rattle.interpreter.specs.declared.RunState.{RunState}
 use Rattle.interpreter.specs.code.Stepping.{cell-symbols, cell-of, run-state, Stack-ready, max-steps, Push-ready}
 use Rattle.interpreter.proofs.CellLaws.{cell-symbol, cell-pointer}

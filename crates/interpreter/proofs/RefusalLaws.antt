@@ -7,12 +7,14 @@ use native.Mathlib.Omega.{arith}
 use lib.Dec.{eqb}
 use lib.ListN.{length, replicate}
 use borrow.Author.Tests.{eq-eqb, ne-eqb, eqb-false}
-use Rattle.machine.specs.declared.Refusal.{Refusal}
+use Rattle.refusal.specs.declared.Refusal.{Refusal}
 use Rattle.machine.specs.Run.{start}
 use Rattle.codec.specs.Bytes.{byte}
-use Rattle.machine.specs.Image.{machine}
-use Rattle.machine.specs.Refusals.{refusal, fine, or-else, refuse-if, capture-refusal}
-use Rattle.machine.proofs.Refused.{neither, unrefused-by}
+use Rattle.image.specs.Image.{machine}
+use Rattle.refusal.specs.First.{refusal, no-refusal, or-else, refuse-if}
+use Rattle.image.specs.Refusals.{capture-refusal}
+use Rattle.refusal.proofs.Refused.{neither}
+use Rattle.image.proofs.CaptureRefused.{unrefused-by}
 use Rattle.interpreter.specs.declared.Ran.{Ran}
 use Rattle.interpreter.specs.declared.Ran.the-variants as ran
 use Rattle.interpreter.specs.PlainRun.{Run-end, run-on}
@@ -30,7 +32,7 @@ module _ (bs cs : List ℕ) (k : ℕ) (f : Refusal) (e : f ≡ capture-refusal b
     unfolding run-refusal or-else refuse-if
     refused-cells z = simp (← e, eq-eqb _ _ none, eq-eqb k 0 z)
 
-    pub refused-not : (k ≡ 0 → ⊥) → fine ≡ run-refusal bs cs k
+    pub refused-not : (k ≡ 0 → ⊥) → no-refusal ≡ run-refusal bs cs k
     unfolding run-refusal or-else refuse-if
     refused-not z = simp (← e, eq-eqb _ _ none, ne-eqb k 0 z)
 

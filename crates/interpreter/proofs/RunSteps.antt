@@ -5,12 +5,12 @@ use lib.ListN.{length}
 use borrow.Author.Tests.{lt-ltb, le-ltb}
 use Rattle.machine.specs.declared.Reason.{Reason}
 use Rattle.machine.specs.declared.Halt.the-variants.{Over, Stopped}
-use Rattle.machine.specs.Run.{Machine, Instant, stopped, over, next, step, config-of}
+use Rattle.machine.specs.Run.{Machine, Description, stopped, over, next, step, config-of}
 use Rattle.interpreter.specs.declared.Exit.{Exit}
 use Rattle.interpreter.specs.declared.Exit.the-variants.{Halted, Deep}
 use Rattle.interpreter.specs.PlainRun.{run-end, spent-or, run-step, run-on}
 
-module _ (M : Machine) (n k : ℕ) (x : Instant) where
+module _ (M : Machine) (n k : ℕ) (x : Description) where
   pub run-spent : {e : Exit} → spent-or (step M x) ≡ e → run-on 0 M n k x ≡ run-end e n (config-of x)
   unfolding run-on
   run-spent e = rw e refl
@@ -24,10 +24,10 @@ module _ (M : Machine) (n k : ℕ) (x : Instant) where
   unfolding run-on run-step
   run-over f p i e = rw e refl
 
-  pub run-deep : (f : ℕ) (y : Instant) → step M x ≡ next y → k < length (y .stack) → run-on (suc f) M n k x ≡ run-end Deep n (config-of x)
+  pub run-deep : (f : ℕ) (y : Description) → step M x ≡ next y → k < length (y .stack) → run-on (suc f) M n k x ≡ run-end Deep n (config-of x)
   unfolding run-on run-step
   run-deep f y e h = rw (e, lt-ltb _ _ h) refl
 
-  pub run-next : (f : ℕ) (y : Instant) → step M x ≡ next y → length (y .stack) ≤ k → run-on (suc f) M n k x ≡ run-on f M (suc n) k y
+  pub run-next : (f : ℕ) (y : Description) → step M x ≡ next y → length (y .stack) ≤ k → run-on (suc f) M n k x ≡ run-on f M (suc n) k y
   unfolding run-on run-step
   run-next f y e h = rw (e, le-ltb _ _ h) refl

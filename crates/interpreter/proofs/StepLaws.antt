@@ -21,32 +21,14 @@ use Rattle.interpreter.specs.declared.RunState.{RunState}
 use Rattle.interpreter.specs.declared.StepResult.{StepResult}
 use Rattle.interpreter.specs.declared.StepResult.the-variants.{On, Exited}
 use Rattle.interpreter.specs.PlainRun.{Run-end, run-end, spent-or, run-on}
-use Rattle.interpreter.specs.code.Stepping.{
-  cell-symbols,
-  cell-of,
-  stack-of,
-  instant-of,
-  run-state,
-  change-result,
-  push-result,
-  popped-to,
-  pop-head,
-  pop-result,
-  take-result,
-  spent-exit,
-  result-by,
-  cells-pushed,
-  cells-taken,
-  cells-by,
-  Stack-ready,
-}
+use Rattle.interpreter.specs.code.Stepping.{cell-symbols, cell-of, stack-of, description-of, run-state, change-result, push-result, popped-to, pop-head, pop-result, take-result, spent-exit, result-by, cells-pushed, cells-taken, cells-by, Stack-ready}
 use Rattle.interpreter.proofs.CellLaws.{stack-length, stack-push, stack-pop}
 use Rattle.interpreter.proofs.ReadyLaws.{Runnable, symbol-small, ready-change, ready-push, ready-pop}
 use Rattle.interpreter.proofs.RunSteps.{run-spent, run-stopped, run-over, run-deep, run-next}
 
 -- the plain run from where state and cells stand
 abbrev pub run-from : Machine → (budget : ℕ) → RunState → List ℕ → Run-end
-run-from M b s ks = run-on (b - s .steps) M (s .steps) (length ks) (instant-of s ks)
+run-from M b s ks = run-on (b - s .steps) M (s .steps) (length ks) (description-of s ks)
 
 -- a step to t and its cells: the plain run goes on from there
 pub record Goes (M : Machine) (b : ℕ) (s : RunState) (ks : List ℕ) (t : RunState) (ks′ : List ℕ) : Type 0 where
@@ -60,10 +42,10 @@ abbrev pub Told : Machine → (budget : ℕ) → RunState → (cells cells-now :
 Told M b s ks ks′ (On t) = Goes M b s ks t ks′
 Told M b s ks ks′ (Exited e n) = run-from M b s ks ≡ run-end e n (s .at)
 
-at-of : (s : RunState) (ks : List ℕ) → config-of (instant-of s ks) ≡ s .at
+at-of : (s : RunState) (ks : List ℕ) → config-of (description-of s ks) ≡ s .at
 at-of s ks = config-over (s .at) (s .pointer) (stack-of (s .below) ks)
 
-height-of : (s : RunState) (ks : List ℕ) → length (instant-of s ks .stack) ≡ suc (s .below)
+height-of : (s : RunState) (ks : List ℕ) → length (description-of s ks .stack) ≡ suc (s .below)
 height-of s ks = ap suc (stack-length (s .below) ks)
 
 -- with the budget spent, a rule that stops the run comes first
@@ -82,7 +64,7 @@ module _ (M : Machine) (fit : Runnable M) (b : ℕ) (s : RunState) (ks : List �
   fuel = omega arith
 
   goes-to :
-      (t : RunState) (ks′ : List ℕ) → step M (instant-of s ks) ≡ next (instant-of t ks′) → t .steps ≡ s .steps + 1 →
+      (t : RunState) (ks′ : List ℕ) → step M (description-of s ks) ≡ next (description-of t ks′) → t .steps ≡ s .steps + 1 →
       length ks′ ≡ length ks → Stack-ready M t ks′ → Goes M b s ks t ks′
   goes-to t ks′ e n l q =
       record {
@@ -92,7 +74,7 @@ module _ (M : Machine) (fit : Runnable M) (b : ℕ) (s : RunState) (ks : List �
         long = l;
         same =
             rw (fuel, n, l, add-one (s .steps))
-            (run-next M (s .steps) (length ks) (instant-of s ks) (b - suc (s .steps)) (instant-of t ks′) e
+            (run-next M (s .steps) (length ks) (description-of s ks) (b - suc (s .steps)) (description-of t ks′) e
             (omega (arith, height-of t ks′, q .room)));
       }
 
@@ -100,7 +82,7 @@ module _ (M : Machine) (fit : Runnable M) (b : ℕ) (s : RunState) (ks : List �
   stop-told why e =
       let stops = step-stop M (s .at) (s .pointer) (stack-of (s .below) ks) e in
       rw fuel
-      (run-stopped M (s .steps) (length ks) (instant-of s ks) (b - (s .steps + 1)) why stops ∙
+      (run-stopped M (s .steps) (length ks) (description-of s ks) (b - (s .steps + 1)) why stops ∙
       ap (run-end (Halted (Stopped why)) (s .steps)) (at-of s ks))
 
   change-told : (c : Config) → M .action (s .at) ≡ Change c → Told M b s ks ks (change-result s c)
@@ -114,7 +96,7 @@ module _ (M : Machine) (fit : Runnable M) (b : ℕ) (s : RunState) (ks : List �
 
   push-step :
       (c : Config) (n : ℕ) → M .action (s .at) ≡ Push c →
-      step M (instant-of s ks) ≡ next (instant-of (run-state c (c .head) (s .below + 1) n) with-top)
+      step M (description-of s ks) ≡ next (description-of (run-state c (c .head) (s .below + 1) n) with-top)
   push-step c n e =
       rw (stack-push (s .below) (s .at .symbol) (s .pointer) ks (symbol-small M fit s ks r) (r .room))
       (step-push M (s .at) (s .pointer) (stack-of (s .below) ks) e)
@@ -131,7 +113,7 @@ module _ (M : Machine) (fit : Runnable M) (b : ℕ) (s : RunState) (ks : List �
       let h = height-of (run-state c (c .head) (s .below + 1) 0) with-top in
       let l : length ks < s .below + 2 = leb-false (s .below + 2) (length ks) q in
       rw fuel
-      (run-deep M (s .steps) (length ks) (instant-of s ks) (b - (s .steps + 1)) _ (push-step c 0 e) (omega (arith, h)) ∙
+      (run-deep M (s .steps) (length ks) (description-of s ks) (b - (s .steps + 1)) _ (push-step c 0 e) (omega (arith, h)) ∙
       ap (run-end Deep (s .steps)) (at-of s ks))
 
   -- the state with the entry below, which comes back from its cell
@@ -141,10 +123,10 @@ module _ (M : Machine) (fit : Runnable M) (b : ℕ) (s : RunState) (ks : List �
 
   pop-step :
       (p : ℕ) (t : Bool) (n : ℕ) → M .action (s .at) ≡ Pop p t → 0 < s .below →
-      step M (instant-of s ks) ≡ next (instant-of (without-top p (pop-head s t) n) ks)
+      step M (description-of s ks) ≡ next (description-of (without-top p (pop-head s t) n) ks)
   pop-step p t n e l = rw (stack-pop (s .below) ks l) (step-pop M (s .at) (s .pointer) _ (stack-of (s .below - 1) ks) e)
 
-  over-step : (p : ℕ) (t : Bool) → M .action (s .at) ≡ Pop p t → s .below ≡ 0 → step M (instant-of s ks) ≡ over p (pop-head s t)
+  over-step : (p : ℕ) (t : Bool) → M .action (s .at) ≡ Pop p t → s .below ≡ 0 → step M (description-of s ks) ≡ over p (pop-head s t)
   unfolding stack-of
   over-step p t e l = rw l (step-pop-last M (s .at) (s .pointer) e)
 
@@ -154,7 +136,7 @@ module _ (M : Machine) (fit : Runnable M) (b : ℕ) (s : RunState) (ks : List �
       (cond u (Exited (Halted (Over (M .accepting p (pop-head s t)))) (s .steps + 1)) (On (without-top p (pop-head s t) (s .steps + 1))))
   pop-told p t e true q =
       rw (fuel, add-one (s .steps))
-      (run-over M (s .steps) (length ks) (instant-of s ks) (b - suc (s .steps)) p (pop-head s t) (over-step p t e (eqb-true (s .below) 0 q)) ∙
+      (run-over M (s .steps) (length ks) (description-of s ks) (b - suc (s .steps)) p (pop-head s t) (over-step p t e (eqb-true (s .below) 0 q)) ∙
       ap (run-end (Halted (Over (M .accepting p (pop-head s t)))) (suc (s .steps))) (at-of s ks))
   pop-told p t e false q =
       let l : 0 < s .below = omega (arith, eqb-false (s .below) 0 q) in
@@ -176,7 +158,7 @@ module _ (M : Machine) (fit : Runnable M) (b : ℕ) (s : RunState) (ks : List �
   told-as a e true q =
       let z : b - s .steps ≡ 0 = omega (arith, eqb-true (s .steps) b q) in
       rw z
-      (run-spent M (s .steps) (length ks) (instant-of s ks) (spent-as M (s .at) (s .pointer) (stack-of (s .below) ks) a e) ∙
+      (run-spent M (s .steps) (length ks) (description-of s ks) (spent-as M (s .at) (s .pointer) (stack-of (s .below) ks) a e) ∙
       ap (run-end (spent-exit a) (s .steps)) (at-of s ks))
   told-as a e false q = taken M fit b s ks r (omega (arith, eqb-false (s .steps) b q)) a e
 

@@ -4,12 +4,12 @@ use mathlib.Core.List.{List}
 use Prim.Native.Nat.{ℕ, _-_, _<_}
 use native.Mathlib.Omega.{arith}
 use lib.ListN.{length}
-use Rattle.machine.specs.declared.Sizes.{Sizes}
-use Rattle.machine.specs.Format
+use Rattle.image.specs.declared.Sizes.{Sizes}
+use Rattle.image.specs.Format
 use Rattle.machine.specs.Run.{Machine, config, start}
 use Rattle.codec.specs.Numbers.{u32-at}
-use Rattle.machine.specs.Image.{sizes-of, machine}
-use Rattle.machine.specs.Refusals.{Unrefused}
+use Rattle.image.specs.Image.{sizes-of, machine}
+use Rattle.image.specs.Refusals.{Unrefused}
 use Rattle.interpreter.specs.declared.Exit.{Exit}
 use Rattle.interpreter.specs.declared.RunState.{RunState}
 use Rattle.interpreter.specs.declared.StepResult.{StepResult}

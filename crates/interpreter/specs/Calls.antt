@@ -4,10 +4,11 @@ use mathlib.Core.List.{List}
 use Prim.Native.Nat.{ℕ, zero, suc}
 use lib.Dec.{eqb}
 use lib.ListN.{length, replicate}
-use Rattle.machine.specs.declared.Refusal.{Refusal}
+use Rattle.refusal.specs.declared.Refusal.{Refusal}
 use Rattle.machine.specs.Run.{start}
-use Rattle.machine.specs.Image.{machine}
-use Rattle.machine.specs.Refusals.{refusal, or-else, refuse-if, capture-refusal}
+use Rattle.image.specs.Image.{machine}
+use Rattle.refusal.specs.First.{refusal, or-else, refuse-if}
+use Rattle.image.specs.Refusals.{capture-refusal}
 use Rattle.interpreter.specs.declared.Ran.{Ran}
 use Rattle.interpreter.specs.declared.Ran.the-variants.{Refused, Answer}
 use Rattle.interpreter.specs.PlainRun.{Run-end, run-on}

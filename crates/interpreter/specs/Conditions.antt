@@ -3,7 +3,7 @@ use mathlib.Core.Path.{_≡_}
 use mathlib.Core.List.{List}
 use Prim.Native.Nat.{ℕ, _<_}
 use lib.ListN.{length}
-use Rattle.machine.specs.Conditions.{Capture-right, Capture-row}
+use Rattle.image.specs.Conditions.{Capture-right, Capture-row}
 
 -- an image and a capture that are right, and some stack cell
 pub record Running-right (bs cs : List ℕ) (cells : ℕ) : Type 0 where

@@ -9,7 +9,7 @@ use Rattle.machine.specs.declared.Config.{Config}
 use Rattle.machine.specs.declared.Reason.{Reason}
 use Rattle.machine.specs.declared.Halt.the-variants.{Over, Stopped}
 use Rattle.machine.specs.declared.Action.the-variants.{Push}
-use Rattle.machine.specs.Run.{Machine, Instant, Outcome, stopped, over, next, step, start, halt, after, config-of}
+use Rattle.machine.specs.Run.{Machine, Description, Outcome, stopped, over, next, step, start, halt, after, config-of}
 use Rattle.interpreter.specs.declared.Exit.{Exit}
 use Rattle.interpreter.specs.declared.Exit.the-variants.{Halted, Spent, Deep}
 
@@ -29,18 +29,18 @@ spent-or (over p i) = Spent
 spent-or (next y) = Spent
 
 -- with some budget left: a rule stops the run, a last pop (it counts as a step), deep if the step would leave more entries than cells, or on
-unfoldable pub run-step : Outcome → (go : Instant → Run-end) → Machine → (steps cells : ℕ) → Instant → Run-end
+unfoldable pub run-step : Outcome → (go : Description → Run-end) → Machine → (steps cells : ℕ) → Description → Run-end
 run-step (stopped r) go M n k x = run-end (Halted (Stopped r)) n (config-of x)
 run-step (over p i) go M n k x = run-end (Halted (Over (M .accepting p i))) (suc n) (config-of x)
 run-step (next y) go M n k x = cond (ltb k (length (y .stack))) (run-end Deep n (config-of x)) (go y)
 
 -- THE PLAIN RUN from x on, after so many steps, with fuel steps of the budget left
-unfoldable pub run-on : (fuel : ℕ) → Machine → (steps cells : ℕ) → Instant → Run-end
+unfoldable pub run-on : (fuel : ℕ) → Machine → (steps cells : ℕ) → Description → Run-end
 run-on zero M n k x = run-end (spent-or (step M x)) n (config-of x)
 run-on (suc f) M n k x = run-step (step M x) (λ y. run-on f M (suc n) k y) M n k x
 
 -- A TRUE END. The run itself at x, after n steps, is as the exit says; spent only where no rule stops it
-unfoldable pub Exits-as : Exit → Machine → (budget cells steps : ℕ) → Instant → Type 0
+unfoldable pub Exits-as : Exit → Machine → (budget cells steps : ℕ) → Description → Type 0
 Exits-as (Halted h) M b k n x = halt M (step M x) ≡ some h
 Exits-as Spent M b k n x = (n ≡ b) × ((r : Reason) → step M x ≡ stopped r → ⊥)
 Exits-as Deep M b k n x = (n < b) × (length (x .stack) ≡ k) × (c : Config) × (M .action (config-of x) ≡ Push c)
@@ -55,7 +55,7 @@ last-pop Deep = 0
 -- the steps are within the budget, and so many steps of the run lead to the configuration reached, where the run is as the exit says
 pub record True-end (M : Machine) (budget cells : ℕ) (r : Run-end) : Type 0 where
   pub before : ℕ
-  pub place : Instant
+  pub place : Description
   pub within : r .steps ≤ budget
   pub counted : r .steps ≡ before + last-pop (r .exit)
   pub comes : after before M start ≡ some place

@@ -2,16 +2,16 @@
 pub mod step;
 
 use crate::step::step;
+use image::lookup::finals_of;
+use image::lookup::sizes_of;
 use machine::Config;
 use machine::Halt;
-use machine::Refusal;
-use machine::lookup::finals_of;
-use machine::lookup::sizes_of;
+use refusal::Refusal;
 use validator::check::capture_refusal;
 ghost use mathlib.Core.Path.{_≡_};
 ghost use lib.ListN.{length, replicate};
 ghost use Rattle.machine.specs.Run.{start};
-ghost use Rattle.machine.specs.Image.{machine};
+ghost use Rattle.image.specs.Image.{machine};
 ghost use Rattle.interpreter.specs.PlainRun.{run-on};
 ghost use Rattle.interpreter.specs.Calls.{answer, run-refusal, Run-says};
 ghost use Rattle.interpreter.specs.code.Stepping.{Run-ready, Run-answers};

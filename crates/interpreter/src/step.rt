@@ -2,13 +2,13 @@
 use crate::Exit;
 use crate::RunState;
 use crate::StepResult;
+use image::Sizes;
+use image::lookup::accepts;
+use image::lookup::action_of;
+use image::lookup::returned;
 use machine::Action;
 use machine::Config;
 use machine::Halt;
-use machine::Sizes;
-use machine::lookup::accepts;
-use machine::lookup::action_of;
-use machine::lookup::returned;
 ghost use mathlib.Core.Path.{_≡_};
 ghost use Prim.Native.Nat.{_<_};
 ghost use Rattle.machine.specs.Halting.{accepts-by};

@@ -8,7 +8,7 @@ use lib.ListN.{length, take}
 use lib.Seq.{take-at}
 use Rattle.text.specs.Line.{max-line}
 use Rattle.answer.specs.Calls.{Lent, Input-says, Answer-says}
-use Rattle.answer.proofs.Promised.{line-whole}
+use Rattle.answer.proofs.LineWhole.{line-whole}
 use Rattle.judge.specs.Program.{Prints}
 
 pub prints :

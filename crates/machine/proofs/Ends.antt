@@ -11,19 +11,9 @@ use native.Mathlib.Omega.{arith}
 use lib.ListN.{length}
 use Rattle.machine.specs.declared.Config.{Config}
 use Rattle.machine.specs.declared.Action.the-variants.{Change, Push, Pop}
-use Rattle.machine.specs.Run.{top, Machine, There, Entry, entry, Instant, returned, config, step, next, after, config-of}
+use Rattle.machine.specs.Run.{top, Machine, Valid-config, Entry, entry, Description, returned, config, step, next, after, config-of}
 use Rattle.machine.specs.Verdicts.{over-base, Ends-with}
-use Rattle.machine.proofs.Runs.{
-  after-zero,
-  after-then,
-  after-front,
-  after-next,
-  config-over,
-  step-change,
-  step-push,
-  step-pop,
-  step-pop-last,
-}
+use Rattle.machine.proofs.Runs.{after-zero, after-then, after-front, after-next, config-over, step-change, step-push, step-pop, step-pop-last}
 
 -- where the run goes on with c's own entry: c pushed e, and g popped the entry pushed, to state p
 abbrev pub resume : (c e g : Config) → (p : ℕ) → (r : Bool) → Config
@@ -48,7 +38,7 @@ pub after-push :
     after n M (over-base e (e .head) (entry (c .symbol) i ∷ base)) ≡ some (over-base g (e .head) (entry (c .symbol) i ∷ base)) →
     M .action g ≡ Pop p r → after (suc (suc n)) M (over-base c i base) ≡ some (over-base (resume c e g p r) i base)
 after-push M n {c} {e} {g} i base h reached k =
-    let pushed : Instant = over-base e (e .head) (entry (c .symbol) i ∷ base) in
+    let pushed : Description = over-base e (e .head) (entry (c .symbol) i ∷ base) in
     after-front M (suc n) (over-base c i base) (step-push M c i base h)
     ∙ after-next M n pushed reached (step-pop M g (e .head) (entry (c .symbol) i) base k)
 
@@ -92,9 +82,9 @@ ends-here (changes h e x) = h
 ends-here (pushes h e x f y) = h
 
 -- a place on the way, in which the entry still lies on base
-abbrev pub On-the-way : (M : Machine) → (Config → Type 0) → Instant → (k : ℕ) → List Entry → Type 0
+abbrev pub On-the-way : (M : Machine) → (Config → Type 0) → Description → (k : ℕ) → List Entry → Type 0
 On-the-way M P x k base =
-    (y : Instant) × (after k M x ≡ some y) × P (config-of y) × (length base < length (y .stack)) ×
+    (y : Description) × (after k M x ≡ some y) × P (config-of y) × (length base < length (y .stack)) ×
     ((g : Config) × Ends M P (config-of y) g)
 
 at-first :
@@ -105,17 +95,17 @@ at-first {M} {c} {d} x i base =
     (over-base c i base, after-zero M (over-base c i base), ends-here x, le-refl (suc (length base)), (d, x))
 
 way-later :
-    (M : Machine) (P : Config → Type 0) (m k : ℕ) (x : Instant) (base : List Entry) {z : Instant} → after m M x ≡ some z →
+    (M : Machine) (P : Config → Type 0) (m k : ℕ) (x : Description) (base : List Entry) {z : Description} → after m M x ≡ some z →
     On-the-way M P z k base → On-the-way M P x (m + k) base
 way-later M P m k x base e (y, reached, holds, above, later) = (y, after-then M m k x e ∙ reached, holds, above, later)
 
 way-front :
-    (M : Machine) (P : Config → Type 0) (k : ℕ) (x : Instant) (base : List Entry) {z : Instant} → step M x ≡ next z →
+    (M : Machine) (P : Config → Type 0) (k : ℕ) (x : Description) (base : List Entry) {z : Description} → step M x ≡ next z →
     On-the-way M P z k base → On-the-way M P x (suc k) base
 way-front M P k x base e (y, reached, holds, above, later) = (y, after-front M k x e ∙ reached, holds, above, later)
 
 way-lower :
-    (M : Machine) (P : Config → Type 0) (k : ℕ) (x : Instant) (f : Entry) (base : List Entry) →
+    (M : Machine) (P : Config → Type 0) (k : ℕ) (x : Description) (f : Entry) (base : List Entry) →
     On-the-way M P x k (f ∷ base) → On-the-way M P x k base
 way-lower M P k x f base (y, reached, holds, above, later) = (y, reached, holds, omega arith, later)
 
@@ -156,17 +146,17 @@ ends-inside {M} {P} (pushes {c} {e} {g} h f x t y) i base (suc k) l =
 
 -- where changes and pushes lead to configurations that are there, and pops to states that are, terminators are there
 module _ (M : Machine)
-    (change-there : (c e : Config) → There M c → M .action c ≡ Change e → There M e)
-    (push-there : (c e : Config) → There M c → M .action c ≡ Push e → There M e)
-    (pop-there : (c : Config) (p : ℕ) (r : Bool) → There M c → M .action c ≡ Pop p r → p < M .states) where
+    (change-there : (c e : Config) → Valid-config M c → M .action c ≡ Change e → Valid-config M e)
+    (push-there : (c e : Config) → Valid-config M c → M .action c ≡ Push e → Valid-config M e)
+    (pop-there : (c : Config) (p : ℕ) (r : Bool) → Valid-config M c → M .action c ≡ Pop p r → p < M .states) where
   pub resume-there :
-      (c e g : Config) (p : ℕ) (r : Bool) → There M c → There M e → There M g → M .action g ≡ Pop p r → There M (resume c e g p r)
+      (c e g : Config) (p : ℕ) (r : Bool) → Valid-config M c → Valid-config M e → Valid-config M g → M .action g ≡ Pop p r → Valid-config M (resume c e g p r)
   resume-there c e g p true hc he hg f =
       record { state-below = pop-there g p true hg f; head-below = he .head-below; symbol-below = hc .symbol-below }
   resume-there c e g p false hc he hg f =
       record { state-below = pop-there g p false hg f; head-below = hg .head-below; symbol-below = hc .symbol-below }
 
-  pub ends-there : {P : Config → Type 0} {c d : Config} → There M c → Ends M P c d → There M d
+  pub ends-there : {P : Config → Type 0} {c d : Config} → Valid-config M c → Ends M P c d → Valid-config M d
   ends-there h (pops p e) = h
   ends-there h (changes {c} {e} p f x) = ends-there (change-there c e h f) x
   ends-there h (pushes {c} {e} {g} {d} {p} {r} q f x t y) =

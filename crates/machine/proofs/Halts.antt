@@ -13,17 +13,17 @@ use Rattle.machine.specs.declared.Halt.the-variants.{Over, Stopped}
 use Rattle.machine.specs.declared.Verdict.{Verdict}
 use Rattle.machine.specs.declared.Verdict.the-variants.{Accepted, Stuck, Looping}
 use Rattle.machine.specs.Halting.{stop-verdict, halt-verdict}
-use Rattle.machine.specs.Run.{Machine, Instant, Outcome, stopped, over, next, step, start, halt, only-next, after, config-of}
+use Rattle.machine.specs.Run.{Machine, Description, Outcome, stopped, over, next, step, start, halt, only-next, after, config-of}
 use Rattle.machine.specs.Verdicts.{Halts-at, Goes-on, First-again, Says, halts, loops}
 use Rattle.machine.proofs.Runs.{Halted, halted-no-more, halts-once, not-none, some-same}
 
 -- the way of halting, by the last step
-pub halt-stopped : (M : Machine) (x : Instant) {r : Reason} → step M x ≡ stopped r → halt M (step M x) ≡ some (Stopped r)
+pub halt-stopped : (M : Machine) (x : Description) {r : Reason} → step M x ≡ stopped r → halt M (step M x) ≡ some (Stopped r)
 unfolding halt
 halt-stopped M x e = ap (halt M) e
 
 pub halt-over :
-    (M : Machine) (x : Instant) {p i : ℕ} {t : Bool} → step M x ≡ over p i → M .accepting p i ≡ t → halt M (step M x) ≡ some (Over t)
+    (M : Machine) (x : Description) {p i : ℕ} {t : Bool} → step M x ≡ over p i → M .accepting p i ≡ t → halt M (step M x) ≡ some (Over t)
 unfolding halt
 halt-over M x e f = ap (halt M) e ∙ ap (λ (b : Bool). some (Over b)) f
 
@@ -41,7 +41,7 @@ module _ {M : Machine} {d : Config} {h : Halt} where
   pub one-halt : {e : Config} {k : Halt} → Halts-at M d h → Halts-at M e k → (d ≡ e) × (h ≡ k)
   one-halt v w =
       let same = halts-once M (v .steps) (w .steps) start (v .reached) (at-halt v) (w .reached) (no-next M (step M (w .place)) (w .last)) .1 in
-      let halts-same = ap (λ (x : Instant). halt M (step M x)) same in
+      let halts-same = ap (λ (x : Description). halt M (step M x)) same in
       (sym (v .is) ∙ ap config-of same ∙ w .is, some-same (halt M (step M (w .place))) (sym halts-same ∙ v .last) (w .last))
 
   pub no-halt : Goes-on M → Halts-at M d h → ⊥

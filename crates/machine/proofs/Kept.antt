@@ -13,33 +13,22 @@ use Rattle.machine.specs.declared.Config.{Config}
 use Rattle.machine.specs.declared.Action.{Action}
 use Rattle.machine.specs.declared.Reason.{Reason}
 use Rattle.machine.specs.declared.Action.the-variants.{Stop, Change, Push, Pop}
-use Rattle.machine.specs.Run.{Machine, Entry, entry, Instant, after, top, config-of}
+use Rattle.machine.specs.Run.{Machine, Entry, entry, Description, after, top, config-of}
 use Rattle.machine.specs.Verdicts.{over-base}
-use Rattle.machine.proofs.Runs.{
-  after-zero,
-  after-rest,
-  after-front,
-  step-stop,
-  step-change,
-  step-push,
-  halted-stopped,
-  halted-no-more,
-  not-none,
-  some-same,
-}
+use Rattle.machine.proofs.Runs.{after-zero, after-rest, after-front, step-stop, step-change, step-push, halted-stopped, halted-no-more, not-none, some-same}
 use Rattle.machine.proofs.Ends.{resume, Ends, pops, changes, pushes, count, after-push, ends-reach, ends-pops, ends-inside}
 
 abbrev pub Any : Config → Type 0
 Any c = Unit {0}
 
 -- an entry lies on base, and the next step does not remove it
-pub record Above (M : Machine) (base : List Entry) (y : Instant) : Type 0 where
+pub record Above (M : Machine) (base : List Entry) (y : Description) : Type 0 where
   pub higher : length base < length (y .stack)
   pub stays : (p : ℕ) (r : Bool) → M .action (config-of y) ≡ Pop p r → suc (length base) < length (y .stack)
 
 pub record Kept (M : Machine) (n : ℕ) (c : Config) : Type 0 where
   pub keeps :
-      (i : ℕ) (base : List Entry) (k : ℕ) (y : Instant) → k ≤ n → after k M (over-base c i base) ≡ some y → Above M base y
+      (i : ℕ) (base : List Entry) (k : ℕ) (y : Description) → k ≤ n → after k M (over-base c i base) ≡ some y → Above M base y
 
 pub record Ended-within (M : Machine) (n : ℕ) (c : Config) : Type 0 where
   pub last : Config
@@ -50,7 +39,7 @@ abbrev pub Within : Machine → ℕ → Config → Type 0
 Within M n c = Ended-within M n c ⊎ Kept M n c
 
 -- a higher entry stands between
-above-higher : (M : Machine) (base : List Entry) (y : Instant) → suc (length base) < length (y .stack) → Above M base y
+above-higher : (M : Machine) (base : List Entry) (y : Description) → suc (length base) < length (y .stack) → Above M base y
 above-higher M base y l = record { higher = omega arith; stays = λ p r e. l }
 
 -- the action is no pop
@@ -73,11 +62,11 @@ above-first M c i base h = record { higher = le-refl (suc (length base)); stays 
 -- what a configuration that does not pop keeps: itself, and what it keeps from the next step on
 kept-from :
     (M : Machine) (n : ℕ) (c : Config) → Pops-not M c →
-    ((i : ℕ) (base : List Entry) (k : ℕ) (y : Instant) → k < n → after (suc k) M (over-base c i base) ≡ some y → Above M base y) →
+    ((i : ℕ) (base : List Entry) (k : ℕ) (y : Description) → k < n → after (suc k) M (over-base c i base) ≡ some y → Above M base y) →
     Kept M n c
 kept-from M n c h later = record { keeps = go }
   where
-    go : (i : ℕ) (base : List Entry) (k : ℕ) (y : Instant) → k ≤ n → after k M (over-base c i base) ≡ some y → Above M base y
+    go : (i : ℕ) (base : List Entry) (k : ℕ) (y : Description) → k ≤ n → after k M (over-base c i base) ≡ some y → Above M base y
     go i base zero y l e =
         let same = some-same (after 0 M (over-base c i base)) (after-zero M (over-base c i base)) e in
         subst (Above M base) same (above-first M c i base h)
@@ -115,7 +104,7 @@ change-kept M n c h kept =
 push-kept : (M : Machine) (n : ℕ) (c : Config) {e : Config} → M .action c ≡ Push e → Kept M n e → Kept M (suc n) c
 push-kept M n c {e} h kept = kept-from M (suc n) c (push-pops-not M c h) go
   where
-    go : (i : ℕ) (base : List Entry) (k : ℕ) (y : Instant) → k < suc n → after (suc k) M (over-base c i base) ≡ some y → Above M base y
+    go : (i : ℕ) (base : List Entry) (k : ℕ) (y : Description) → k < suc n → after (suc k) M (over-base c i base) ≡ some y → Above M base y
     go i base k y l f =
         let on = kept .keeps (e .head) (entry (c .symbol) i ∷ base) k y (omega arith) (pushed M c h i base k ∙ f) in
         above-higher M base y (on .higher)
@@ -123,12 +112,12 @@ push-kept M n c {e} h kept = kept-from M (suc n) c (push-pops-not M c h) go
 -- while the entry pushed lies on c's
 inner-above :
     (M : Machine) (c : Config) {e g : Config} → M .action c ≡ Push e → (x : Ends M Any e g) →
-    (i : ℕ) (base : List Entry) (k : ℕ) (y : Instant) → k ≤ count x → after (suc k) M (over-base c i base) ≡ some y → Above M base y
+    (i : ℕ) (base : List Entry) (k : ℕ) (y : Description) → k ≤ count x → after (suc k) M (over-base c i base) ≡ some y → Above M base y
 inner-above M c {e} h x i base k y l f =
     let below : List Entry = entry (c .symbol) i ∷ base in
     let (z, reached, any, above, later) = ends-inside x (e .head) below k l in
     let same : z ≡ y = some-same (after k M (over-base e (e .head) below)) reached (pushed M c h i base k ∙ f) in
-    above-higher M base y (subst (λ (u : Instant). suc (length base) < length (u .stack)) same above)
+    above-higher M base y (subst (λ (u : Description). suc (length base) < length (u .stack)) same above)
 
 inner-kept :
     (M : Machine) (n : ℕ) (c : Config) {e g : Config} → M .action c ≡ Push e → (x : Ends M Any e g) → n ≤ suc (count x) → Kept M n c
@@ -142,7 +131,7 @@ resume-kept M n c {e} {g} {p} {r} h x t kept =
     kept-from M (suc (suc (count x)) + n) c (push-pops-not M c h) (λ i base k y b f. go i base k y b f (decLe k (count x)))
   where
     go :
-        (i : ℕ) (base : List Entry) (k : ℕ) (y : Instant) → k < suc (suc (count x)) + n →
+        (i : ℕ) (base : List Entry) (k : ℕ) (y : Description) → k < suc (suc (count x)) + n →
         after (suc k) M (over-base c i base) ≡ some y → Dec (k ≤ count x) → Above M base y
     go i base k y b f (yes l) = inner-above M c h x i base k y l f
     go i base k y b f (no l) =

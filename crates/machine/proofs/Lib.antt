@@ -1,22 +1,7 @@
--- What is proved of images, machines and their runs, by topic: unrefused images and their rules; numbers and counts; runs, terminators and verdicts.
-pub mod Reflects
-pub mod Searching
-pub mod Rows
-pub mod Bits
-pub mod Refused
-pub mod CountingOn
+-- What is proved of machines and their runs, by topic: numbers and counts; runs, terminators, verdicts, notes.
 pub mod Digits
-pub mod Encoded
-pub mod RuleRight
-pub mod ImageParts
-pub mod ConditionsMet
-pub mod CaptureMet
-pub mod CheckGood
 pub mod Numbers
 pub mod Nonzero
-pub mod Rules
-pub mod Lookups
-pub mod Inside
 pub mod Runs
 pub mod Ends
 pub mod Kept
@@ -27,5 +12,4 @@ pub mod RightNotes
 pub mod NotesOfRun
 pub mod Reach
 pub mod Pigeonhole
-pub mod NotesImplied
 pub mod Listing

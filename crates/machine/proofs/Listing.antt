@@ -8,7 +8,7 @@ use native.Mathlib.Omega.{arith}
 use lib.Dec.{eqb·suc-zero}
 use lib.ListN.{length, getD}
 use Rattle.machine.specs.declared.Config.{Config}
-use Rattle.machine.specs.Run.{Machine, There, number, how-many}
+use Rattle.machine.specs.Run.{Machine, Valid-config, number, how-many}
 use Rattle.machine.specs.Verdicts.{Entered, Noted, nonzero, Distinct, nil, cons, All-entered}
 use Rattle.machine.proofs.Numbers.{config-at, config-at-there, number-config-at, config-at-number, number-below, number-injective}
 use Rattle.machine.proofs.RightNotes.{note-entered, entered-note}
@@ -88,7 +88,7 @@ module _ (M : Machine) where
 
 -- THE LIST, as long as the count of notes that are not 0
 pub all-entered :
-    (M : Machine) (notes : List ℕ) → Noted M notes → ((c : Config) → Entered M c → There M c) →
+    (M : Machine) (notes : List ℕ) → Noted M notes → ((c : Config) → Entered M c → Valid-config M c) →
     All-entered M (nonzero (how-many M) notes)
 all-entered M notes noted there =
     record {
@@ -106,7 +106,7 @@ all-entered M notes noted there =
         let kept : getD notes (number M (config-at M k)) 0 ≡ 0 → ⊥ = rw (number-config-at M k) (f .kept) in
         subst (Entered M) same (note-entered (noted (config-at M k) (config-at-there M k (f .below))) kept)
 
-    all : (c : Config) → Entered M c → There M c → List·Memᴰ c (listed M 0 (how-many M) notes)
+    all : (c : Config) → Entered M c → Valid-config M c → List·Memᴰ c (listed M 0 (how-many M) notes)
     all c e t =
         Memᴰ·cast (sym (ap (config-at M) (zero-add (number M c)) ∙ config-at-number t))
         (found-listed M 0 (how-many M) notes (number M c) (number-below t) (entered-note (noted c t) e))
@@ -120,7 +120,7 @@ mapped-length : {A : Type 0} (f : A → ℕ) (rest : List A) → length (map f r
 mapped-length f [] = refl
 mapped-length f (a ∷ rest) = ap suc (mapped-length f rest)
 
-module _ (M : Machine) (there : (c : Config) → Entered M c → There M c) where
+module _ (M : Machine) (there : (c : Config) → Entered M c → Valid-config M c) where
   no-more : {n m : ℕ} → All-entered M n → All-entered M m → n ≤ m
   no-more x y =
       let most =

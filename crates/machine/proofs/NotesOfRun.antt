@@ -6,7 +6,7 @@ use Prim.Native.Nat.{ℕ}
 use lib.ListN.{getD}
 use Rattle.machine.specs.declared.Config.{Config}
 use Rattle.machine.specs.declared.Note.{Note}
-use Rattle.machine.specs.Run.{Machine, There, Entry, start, after, number}
+use Rattle.machine.specs.Run.{Machine, Valid-config, Entry, start, after, number}
 use Rattle.machine.specs.Verdicts.{over-base, note-of, Note-right, never, unended, ended, Noted}
 use Rattle.machine.specs.Removal.{Removed, Note-tells, kept, removed}
 use Rattle.machine.proofs.Runs.{config-over}
@@ -27,6 +27,6 @@ note-tells M n i c base at-n (unended e no-end) = kept (λ d r. no-end d (termin
 note-tells M n i c base at-n (ended {d} e t x) = removed t (terminators-of-run M n i c d base at-n .0 x)
 
 pub notes-of-run :
-    (M : Machine) (notes : List ℕ) → Noted M notes → (n i : ℕ) (c : Config) (base : List Entry) → There M c →
+    (M : Machine) (notes : List ℕ) → Noted M notes → (n i : ℕ) (c : Config) (base : List Entry) → Valid-config M c →
     after n M start ≡ some (over-base c i base) → Note-tells M n i base (note-of (getD notes (number M c) 0))
 notes-of-run M notes noted n i c base t at-n = note-tells M n i c base at-n (noted c t)

@@ -2,10 +2,10 @@
 use mathlib.Core.Path.{_≡_, sym, ap, _∙_}
 use Prim.Native.Nat.{ℕ, _/_, _%_, _<_}
 use Rattle.machine.specs.declared.Config.{Config}
-use Rattle.machine.specs.Run.{Machine, There, number-by, number, how-many, config-by}
+use Rattle.machine.specs.Run.{Machine, Valid-config, number-by, number, how-many, config-by}
 use Rattle.machine.proofs.Digits.{digits-below, low-digit, middle-digit, high-digit, high-below, middle-below, low-below, number-of-digits, second-positive, third-positive}
 
-pub number-below : {M : Machine} {c : Config} → There M c → number M c < how-many M
+pub number-below : {M : Machine} {c : Config} → Valid-config M c → number M c < how-many M
 unfolding number-by number how-many
 number-below t = digits-below (t .state-below) (t .head-below) (t .symbol-below)
 
@@ -13,7 +13,7 @@ number-below t = digits-below (t .state-below) (t .head-below) (t .symbol-below)
 unfoldable pub config-at : Machine → ℕ → Config
 config-at M k = config-by (M .places) (M .symbols) k
 
-pub config-at-there : (M : Machine) (k : ℕ) → k < how-many M → There M (config-at M k)
+pub config-at-there : (M : Machine) (k : ℕ) → k < how-many M → Valid-config M (config-at M k)
 unfolding how-many config-by config-at
 config-at-there M k h =
     let m : 0 < M .places = second-positive (M .states) (M .places) (M .symbols) h in
@@ -28,7 +28,7 @@ pub number-config-at : (M : Machine) (k : ℕ) → number M (config-at M k) ≡ 
 unfolding number-by number config-by config-at
 number-config-at M k = number-of-digits (M .places) (M .symbols) k
 
-pub config-at-number : {M : Machine} {c : Config} → There M c → config-at M (number M c) ≡ c
+pub config-at-number : {M : Machine} {c : Config} → Valid-config M c → config-at M (number M c) ≡ c
 unfolding number-by number config-by config-at
 config-at-number {M} {c} t =
     simp (
@@ -37,5 +37,5 @@ config-at-number {M} {c} t =
       low-digit (c .state) (c .head) (M .places) (t .symbol-below),
     )
 
-pub number-injective : {M : Machine} {c d : Config} → There M c → There M d → number M c ≡ number M d → c ≡ d
+pub number-injective : {M : Machine} {c d : Config} → Valid-config M c → Valid-config M d → number M c ≡ number M d → c ≡ d
 number-injective {M} t u e = sym (config-at-number t) ∙ ap (config-at M) e ∙ config-at-number u

@@ -10,7 +10,7 @@ use lib.Seq.{ext-getD}
 use Rattle.machine.specs.declared.Config.{Config}
 use Rattle.machine.specs.declared.Note.{Note}
 use Rattle.machine.specs.declared.Note.the-variants.{Unseen, Open, Closed}
-use Rattle.machine.specs.Run.{Machine, There, number, how-many}
+use Rattle.machine.specs.Run.{Machine, Valid-config, number, how-many}
 use Rattle.machine.specs.Verdicts.{Entered, Ends-at, No-end, note-of, note-cell, Note-right, never, unended, ended, Noted}
 use Rattle.machine.proofs.Numbers.{config-at, config-at-there, number-config-at}
 use Rattle.machine.proofs.Terminators.{one-end}
@@ -100,7 +100,7 @@ one-notes M ns ms a b p q = ext-getD 0 ns ms (p ∙ sym q) at-each
   where
     at-each : (k : ℕ) → k < length ns → getD ns k 0 ≡ getD ms k 0
     at-each k below =
-        let there : There M (config-at M k) = config-at-there M k (omega arith) in
+        let there : Valid-config M (config-at M k) = config-at-there M k (omega arith) in
         let same : note-of (getD ns k 0) ≡ note-of (getD ms k 0) =
         rw (number-config-at M k) at (one-note (a (config-at M k) there) (b (config-at M k) there))
         in

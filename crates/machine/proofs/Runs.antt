@@ -12,44 +12,24 @@ use Rattle.machine.specs.declared.Reason.{Reason}
 use Rattle.machine.specs.declared.Reason.the-variants.{Missing}
 use Rattle.machine.specs.declared.Action.{Action}
 use Rattle.machine.specs.declared.Action.the-variants.{Stop, Change, Push, Pop}
-use Rattle.machine.specs.Run.{
-  Machine,
-  Entry,
-  entry,
-  Instant,
-  instant,
-  Outcome,
-  stopped,
-  over,
-  next,
-  returned,
-  step-by,
-  step-on,
-  step,
-  start,
-  only-next,
-  further,
-  after,
-  top,
-  config-of,
-}
+use Rattle.machine.specs.Run.{Machine, Entry, entry, Description, description, Outcome, stopped, over, next, returned, step-by, step-on, step, start, only-next, further, after, top, config-of}
 use Rattle.machine.specs.Verdicts.{over-base}
 
 -- SO MANY STEPS
-pub after-zero : (M : Machine) (x : Instant) → after 0 M x ≡ some x
+pub after-zero : (M : Machine) (x : Description) → after 0 M x ≡ some x
 unfolding after
 after-zero M x = refl
 
-pub after-suc : (M : Machine) (n : ℕ) (x : Instant) → after (suc n) M x ≡ further M (after n M x)
+pub after-suc : (M : Machine) (n : ℕ) (x : Description) → after (suc n) M x ≡ further M (after n M x)
 unfolding after
 after-suc M n x = refl
 
-pub further-next : (M : Machine) (x y : Instant) → step M x ≡ next y → further M (some x) ≡ some y
+pub further-next : (M : Machine) (x y : Description) → step M x ≡ next y → further M (some x) ≡ some y
 unfolding further only-next
 further-next M x y e = ap only-next e
 
 pub further-from :
-    (M : Machine) (o : Option Instant) (z : Instant) → further M o ≡ some z → (y : Instant) × (o ≡ some y) × (step M y ≡ next z)
+    (M : Machine) (o : Option Description) (z : Description) → further M o ≡ some z → (y : Description) × (o ≡ some y) × (step M y ≡ next z)
 unfolding further only-next
 further-from M none z e = let k : _≡_ {A = ℕ} 0 1 = cc in absurd (omega arith)
 further-from M (some y) z e = (y, refl, go (step M y) e)
@@ -59,24 +39,24 @@ further-from M (some y) z e = (y, refl, go (step M y) e)
     go (over p i) f = cc
     go (next u) f = cc
 
-pub after-then : (M : Machine) (m n : ℕ) (x : Instant) {y : Instant} → after m M x ≡ some y → after (m + n) M x ≡ after n M y
+pub after-then : (M : Machine) (m n : ℕ) (x : Description) {y : Description} → after m M x ≡ some y → after (m + n) M x ≡ after n M y
 after-then M m zero x {y} e = rw add-zero (e ∙ sym (after-zero M y))
 after-then M m (suc n) x {y} e =
     rw add-suc (after-suc M (m + n) x ∙ ap (further M) (after-then M m n x e) ∙ sym (after-suc M n y))
 
 -- the step after so many
 pub after-next :
-    (M : Machine) (n : ℕ) (x : Instant) {y z : Instant} → after n M x ≡ some y → step M y ≡ next z → after (suc n) M x ≡ some z
+    (M : Machine) (n : ℕ) (x : Description) {y z : Description} → after n M x ≡ some y → step M y ≡ next z → after (suc n) M x ≡ some z
 after-next M n x {y} {z} e f = after-suc M n x ∙ ap (further M) e ∙ further-next M y z f
 
 pub after-last :
-    (M : Machine) (n : ℕ) (x : Instant) {z : Instant} → after (suc n) M x ≡ some z →
-    (y : Instant) × (after n M x ≡ some y) × (step M y ≡ next z)
+    (M : Machine) (n : ℕ) (x : Description) {z : Description} → after (suc n) M x ≡ some z →
+    (y : Description) × (after n M x ≡ some y) × (step M y ≡ next z)
 after-last M n x {z} e = further-from M (after n M x) z (sym (after-suc M n x) ∙ e)
 
 pub after-split :
-    (M : Machine) (m n : ℕ) (x : Instant) {z : Instant} → after (m + n) M x ≡ some z →
-    (y : Instant) × (after m M x ≡ some y) × (after n M y ≡ some z)
+    (M : Machine) (m n : ℕ) (x : Description) {z : Description} → after (m + n) M x ≡ some z →
+    (y : Description) × (after m M x ≡ some y) × (after n M y ≡ some z)
 after-split M m zero x {z} e = (z, (rw add-zero at e), after-zero M z)
 after-split M m (suc n) x {z} e =
     let (y, f, g) = after-last M (m + n) x (rw add-suc at e) in
@@ -85,7 +65,7 @@ after-split M m (suc n) x {z} e =
 
 -- a run that is on after n steps was on after fewer
 pub after-before :
-    (M : Machine) (k n : ℕ) (x : Instant) {z : Instant} → k ≤ n → after n M x ≡ some z → (y : Instant) × (after k M x ≡ some y)
+    (M : Machine) (k n : ℕ) (x : Description) {z : Description} → k ≤ n → after n M x ≡ some z → (y : Description) × (after k M x ≡ some y)
 after-before M k n x l e =
     let rest : n ≡ k + (n - k) = omega arith in
     let (y, f, g) = after-split M k (n - k) x (rw rest at e) in
@@ -93,14 +73,14 @@ after-before M k n x l e =
 
 -- and counts its steps from there
 pub after-rest :
-    (M : Machine) (k n : ℕ) (x : Instant) {y z : Instant} → k ≤ n → after k M x ≡ some y → after n M x ≡ some z →
+    (M : Machine) (k n : ℕ) (x : Description) {y z : Description} → k ≤ n → after k M x ≡ some y → after n M x ≡ some z →
     after (n - k) M y ≡ some z
 after-rest M k n x l e f =
     let rest : n ≡ k + (n - k) = omega arith in
     sym (after-then M k (n - k) x e) ∙ (rw rest at f)
 
 -- the first of so many
-pub after-front : (M : Machine) (n : ℕ) (x : Instant) {y : Instant} → step M x ≡ next y → after (suc n) M x ≡ after n M y
+pub after-front : (M : Machine) (n : ℕ) (x : Description) {y : Description} → step M x ≡ next y → after (suc n) M x ≡ after n M y
 after-front M n x {y} e =
     let one : after 1 M x ≡ some y = after-next M 0 x (after-zero M x) e in
     let k : suc n ≡ 1 + n = omega arith in
@@ -130,7 +110,7 @@ step-push M c i base h = ap (λ (a : Action). step-by a (c .head) (entry (c .sym
 
 pub step-pop :
     (M : Machine) (c : Config) (i : ℕ) (f : Entry) (es : List Entry) {p : ℕ} {r : Bool} → M .action c ≡ Pop p r →
-    step M (over-base c i (f ∷ es)) ≡ next (instant p (returned r i (c .head)) (f ∷ es))
+    step M (over-base c i (f ∷ es)) ≡ next (description p (returned r i (c .head)) (f ∷ es))
 unfolding step step-on step-by
 step-pop M c i f es h = ap (λ (a : Action). step-by a (c .head) (entry (c .symbol) i) (f ∷ es)) h
 
@@ -141,38 +121,38 @@ unfolding step step-on step-by
 step-pop-last M c i h = ap (λ (a : Action). step-by a (c .head) (entry (c .symbol) i) []) h
 
 -- with no entry left there is no step
-pub step-none : (M : Machine) (p i : ℕ) → step M (instant p i []) ≡ stopped Missing
+pub step-none : (M : Machine) (p i : ℕ) → step M (description p i []) ≡ stopped Missing
 unfolding step step-on
 step-none M p i = refl
 
 -- HALTED: there is no next step
-abbrev pub Halted : Machine → Instant → Type 0
+abbrev pub Halted : Machine → Description → Type 0
 Halted M x = only-next (step M x) ≡ none
 
-pub halted-stopped : (M : Machine) (x : Instant) {r : Reason} → step M x ≡ stopped r → Halted M x
+pub halted-stopped : (M : Machine) (x : Description) {r : Reason} → step M x ≡ stopped r → Halted M x
 unfolding only-next
 halted-stopped M x e = ap only-next e
 
-pub halted-over : (M : Machine) (x : Instant) {p i : ℕ} → step M x ≡ over p i → Halted M x
+pub halted-over : (M : Machine) (x : Description) {p i : ℕ} → step M x ≡ over p i → Halted M x
 unfolding only-next
 halted-over M x e = ap only-next e
 
-further-none : (M : Machine) (o : Option Instant) → o ≡ none → further M o ≡ none
+further-none : (M : Machine) (o : Option Description) → o ≡ none → further M o ≡ none
 unfolding further
 further-none M o e = ap (further M) e
 
-further-halted : (M : Machine) (x : Instant) → Halted M x → further M (some x) ≡ none
+further-halted : (M : Machine) (x : Description) → Halted M x → further M (some x) ≡ none
 unfolding further
 further-halted M x h = h
 
 -- once a run is not on, it is not on later
-pub after-none : (M : Machine) (m n : ℕ) (x : Instant) → after m M x ≡ none → after (m + n) M x ≡ none
+pub after-none : (M : Machine) (m n : ℕ) (x : Description) → after m M x ≡ none → after (m + n) M x ≡ none
 after-none M m zero x e = rw add-zero e
 after-none M m (suc n) x e =
     rw add-suc (after-suc M (m + n) x ∙ further-none M (after (m + n) M x) (after-none M m n x e))
 
 pub halted-no-more :
-    (M : Machine) (m n : ℕ) (x : Instant) {y : Instant} → after m M x ≡ some y → Halted M y → m < n → after n M x ≡ none
+    (M : Machine) (m n : ℕ) (x : Description) {y : Description} → after m M x ≡ some y → Halted M y → m < n → after n M x ≡ none
 halted-no-more M m n x {y} e h l =
     let now : after (suc m) M x ≡ none = after-suc M m x ∙ ap (further M) e ∙ further-halted M y h in
     let k : n ≡ suc m + (n - suc m) = omega arith in
@@ -186,7 +166,7 @@ some-same o e f = cc
 
 -- a run halts at one step only, and in one place
 pub halts-once :
-    (M : Machine) (m n : ℕ) (x : Instant) {y z : Instant} → after m M x ≡ some y → Halted M y → after n M x ≡ some z →
+    (M : Machine) (m n : ℕ) (x : Description) {y z : Description} → after m M x ≡ some y → Halted M y → after n M x ≡ some z →
     Halted M z → (m ≡ n) × (y ≡ z)
 halts-once M m n x {y} {z} e h f k = go (decLt m n) (decLt n m)
   where
@@ -198,19 +178,19 @@ halts-once M m n x {y} {z} e h f k = go (decLt m n) (decLt n m)
         (same, some-same (after n M x) (rw same at e) f)
 
 -- while a run goes on its stack has an entry
-pub record Topped (x : Instant) : Type 0 where
+pub record Topped (x : Description) : Type 0 where
   pub pointer : ℕ
   pub base : List Entry
   pub is : x ≡ over-base (config-of x) pointer base
 
-pub instant-topped : (p i : ℕ) (e : Entry) (es : List Entry) → Topped (instant p i (e ∷ es))
+pub instant-topped : (p i : ℕ) (e : Entry) (es : List Entry) → Topped (description p i (e ∷ es))
 unfolding config-of top
 instant-topped p i e es = record { pointer = e .pointer; base = es; is = refl }
 
-next-same : {x y : Instant} → next x ≡ next y → x ≡ y
+next-same : {x y : Description} → next x ≡ next y → x ≡ y
 next-same e = cc
 
-next-topped : (a : Action) (i : ℕ) (e : Entry) (es : List Entry) {z : Instant} → step-by a i e es ≡ next z → Topped z
+next-topped : (a : Action) (i : ℕ) (e : Entry) (es : List Entry) {z : Description} → step-by a i e es ≡ next z → Topped z
 unfolding step-by
 next-topped (Stop r) i e es h = let k : _≡_ {A = ℕ} 0 1 = cc in absurd (omega arith)
 next-topped (Change c) i e es h =
@@ -220,16 +200,16 @@ next-topped (Push c) i e es h =
 next-topped (Pop p r) i e [] h = let k : _≡_ {A = ℕ} 0 1 = cc in absurd (omega arith)
 next-topped (Pop p r) i e (f ∷ es) h = subst Topped (next-same h) (instant-topped p (returned r (e .pointer) i) f es)
 
-step-on-topped : (M : Machine) (p i : ℕ) (es : List Entry) {z : Instant} → step-on M p i es ≡ next z → Topped z
+step-on-topped : (M : Machine) (p i : ℕ) (es : List Entry) {z : Description} → step-on M p i es ≡ next z → Topped z
 unfolding step-on
 step-on-topped M p i [] h = let k : _≡_ {A = ℕ} 0 1 = cc in absurd (omega arith)
 step-on-topped M p i (e ∷ es) h = next-topped (M .action (record { state = p; head = i; symbol = e .symbol })) i e es h
 
-pub step-topped : (M : Machine) (x : Instant) {z : Instant} → step M x ≡ next z → Topped z
+pub step-topped : (M : Machine) (x : Description) {z : Description} → step M x ≡ next z → Topped z
 unfolding step
 step-topped M x h = step-on-topped M (x .state) (x .head) (x .stack) h
 
-pub after-topped : (M : Machine) (n : ℕ) (x : Instant) {y : Instant} → Topped x → after n M x ≡ some y → Topped y
+pub after-topped : (M : Machine) (n : ℕ) (x : Description) {y : Description} → Topped x → after n M x ≡ some y → Topped y
 after-topped M zero x t e = subst Topped (some-same (after 0 M x) (after-zero M x) e) t
 after-topped M (suc n) x t e = let (y, f, g) = after-last M n x e in step-topped M y g
 
@@ -237,5 +217,5 @@ start-topped : Topped start
 unfolding start
 start-topped = instant-topped 0 0 (entry 0 0) []
 
-pub entered-topped : (M : Machine) (n : ℕ) {x : Instant} → after n M start ≡ some x → Topped x
+pub entered-topped : (M : Machine) (n : ℕ) {x : Description} → after n M start ≡ some x → Topped x
 entered-topped M n e = after-topped M n start start-topped e

@@ -11,42 +11,15 @@ use lib.ListN.{length}
 use Rattle.machine.specs.declared.Config.{Config}
 use Rattle.machine.specs.declared.Action.{Action}
 use Rattle.machine.specs.declared.Action.the-variants.{Stop, Change, Push, Pop}
-use Rattle.machine.specs.Run.{
-  Machine,
-  Entry,
-  Instant,
-  instant,
-  over,
-  next,
-  returned,
-  step-by,
-  step-on,
-  step,
-  start,
-  after,
-  top,
-  config,
-  config-of,
-}
+use Rattle.machine.specs.Run.{Machine, Entry, Description, description, over, next, returned, step-by, step-on, step, start, after, top, config, config-of}
 use Rattle.machine.specs.Verdicts.{over-base, Ends-with, Ends-at}
 use Rattle.machine.specs.Removal.{Removed}
-use Rattle.machine.proofs.Runs.{
-  after-then,
-  after-last,
-  after-before,
-  after-rest,
-  config-over,
-  step-pop,
-  step-pop-last,
-  halted-over,
-  halts-once,
-  some-same,
-}
+use Rattle.machine.proofs.Runs.{after-then, after-last, after-before, after-rest, config-over, step-pop, step-pop-last, halted-over, halts-once, some-same}
 use Rattle.machine.proofs.Ends.{Ends, count, ends-reach, ends-pops, ends-inside, ends-at}
 use Rattle.machine.proofs.Kept.{Any, Within, ends-or-kept}
 
 -- THE LAST STEP: a pop of the only entry, to state p
-pub record Popped-last (M : Machine) (x : Instant) (p : ℕ) : Type 0 where
+pub record Popped-last (M : Machine) (x : Description) (p : ℕ) : Type 0 where
   pub returns : Bool
   pub action-is : M .action (config-of x) ≡ Pop p returns
   pub one-left : length (x .stack) ≡ 1
@@ -56,7 +29,7 @@ over-state e = cc
 
 over-by :
     (M : Machine) (p i : ℕ) (a : Action) (e : Entry) (es : List Entry) {q j : ℕ} → M .action (config p i (e .symbol)) ≡ a →
-    step-by a i e es ≡ over q j → Popped-last M (instant p i (e ∷ es)) q
+    step-by a i e es ≡ over q j → Popped-last M (description p i (e ∷ es)) q
 unfolding step-by config-of top
 over-by M p i (Stop r) e es h k = let z : _≡_ {A = ℕ} 0 1 = cc in absurd (omega arith)
 over-by M p i (Change c) e es h k = let z : _≡_ {A = ℕ} 0 1 = cc in absurd (omega arith)
@@ -64,12 +37,12 @@ over-by M p i (Push c) e es h k = let z : _≡_ {A = ℕ} 0 1 = cc in absurd (om
 over-by M p i (Pop s r) e [] h k = record { returns = r; action-is = h ∙ ap (λ (t : ℕ). Pop t r) (over-state k); one-left = refl }
 over-by M p i (Pop s r) e (f ∷ es) h k = let z : _≡_ {A = ℕ} 0 1 = cc in absurd (omega arith)
 
-over-on : (M : Machine) (p i : ℕ) (es : List Entry) {q j : ℕ} → step-on M p i es ≡ over q j → Popped-last M (instant p i es) q
+over-on : (M : Machine) (p i : ℕ) (es : List Entry) {q j : ℕ} → step-on M p i es ≡ over q j → Popped-last M (description p i es) q
 unfolding step-on
 over-on M p i [] h = let z : _≡_ {A = ℕ} 0 1 = cc in absurd (omega arith)
 over-on M p i (e ∷ es) h = over-by M p i (M .action (config p i (e .symbol))) e es refl h
 
-pub over-from : (M : Machine) (x : Instant) {q j : ℕ} → step M x ≡ over q j → Popped-last M x q
+pub over-from : (M : Machine) (x : Description) {q j : ℕ} → step M x ≡ over q j → Popped-last M x q
 unfolding step
 over-from M x h = over-on M (x .state) (x .head) (x .stack) h
 
@@ -106,19 +79,19 @@ one-end M c d e i j v =
 
 -- IN THE RUN ITSELF, on any base. A pop leaves no more than the base
 pop-lowers :
-    (M : Machine) (g : Config) (i : ℕ) (base : List Entry) {p : ℕ} {r : Bool} {z : Instant} → M .action g ≡ Pop p r →
+    (M : Machine) (g : Config) (i : ℕ) (base : List Entry) {p : ℕ} {r : Bool} {z : Description} → M .action g ≡ Pop p r →
     step M (over-base g i base) ≡ next z → length (z .stack) ≡ length base
 pop-lowers M g i [] {z = z} h e = let gone = step-pop-last M g i h in let k : _≡_ {A = ℕ} 0 1 = cc in absurd (omega arith)
 pop-lowers M g i (f ∷ es) {p} {r} {z} h e =
     let on = step-pop M g i f es h in
-    let same : z ≡ instant p (returned r i (g .head)) (f ∷ es) = cc in
-    ap (λ (u : Instant). length (u .stack)) same
+    let same : z ≡ description p (returned r i (g .head)) (f ∷ es) = cc in
+    ap (λ (u : Description). length (u .stack)) same
 
 -- a run whose stack stays above base is not past the pop that the big-step relation ends with
 no-later :
-    {M : Machine} {c d : Config} (x : Ends M Any c d) (i w : ℕ) (base : List Entry) {y : Instant} →
+    {M : Machine} {c d : Config} (x : Ends M Any c d) (i w : ℕ) (base : List Entry) {y : Description} →
     after w M (over-base c i base) ≡ some y →
-    ((k : ℕ) (u : Instant) → k ≤ w → after k M (over-base c i base) ≡ some u → length base < length (u .stack)) → w ≤ count x
+    ((k : ℕ) (u : Description) → k ≤ w → after k M (over-base c i base) ≡ some u → length base < length (u .stack)) → w ≤ count x
 no-later {M} {c} {d} x i w base reached high = go (decLt (count x) w)
   where
     past : count x < w → ⊥
@@ -148,11 +121,11 @@ module _ (M : Machine) (n i : ℕ) (c d : Config) (base : List Entry) (entered :
     never-lower = high;
   }
     where
-      high : (m : ℕ) (y : Instant) → n ≤ m → m ≤ n + count x → after m M start ≡ some y → suc (length base) ≤ length (y .stack)
+      high : (m : ℕ) (y : Description) → n ≤ m → m ≤ n + count x → after m M start ≡ some y → suc (length base) ≤ length (y .stack)
       high m y l b f =
           let (z, reached, any, above, later) = ends-inside x i base (m - n) (omega arith) in
           let same : z ≡ y = some-same (after (m - n) M (over-base c i base)) reached (after-rest M n m start l entered f) in
-          subst (λ (u : Instant). suc (length base) ≤ length (u .stack)) same above
+          subst (λ (u : Description). suc (length base) ≤ length (u .stack)) same above
 
   removed-ends : Removed M n i base d → Ends M Any c d
   removed-ends v = go (ends-or-kept M (v .wait) c)
@@ -160,7 +133,7 @@ module _ (M : Machine) (n i : ℕ) (c d : Config) (base : List Entry) (entered :
       there : after (v .wait) M (over-base c i base) ≡ some (over-base d i base)
       there = sym (after-then M n (v .wait) start entered) ∙ v .reached
 
-      high : (k : ℕ) (u : Instant) → k ≤ v .wait → after k M (over-base c i base) ≡ some u → length base < length (u .stack)
+      high : (k : ℕ) (u : Description) → k ≤ v .wait → after k M (over-base c i base) ≡ some u → length base < length (u .stack)
       high k u l f = v .never-lower (n + k) u (omega arith) (omega arith) (after-then M n k start entered ∙ f)
 
       go : Within M (v .wait) c → Ends M Any c d

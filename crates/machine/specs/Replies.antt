@@ -1,12 +1,12 @@
 -- The number of each verdict, and the numbers of what a check answers, as include/sejimakpu.h names them. Assumes nothing: these are definitions.
 use Prim.Native.Nat.{ℕ}
 use Rattle.machine.specs.declared.Config.{Config}
-use Rattle.machine.specs.declared.Refusal.{Refusal}
+use Rattle.refusal.specs.declared.Refusal.{Refusal}
 use Rattle.machine.specs.declared.Reply.{Reply}
 use Rattle.machine.specs.declared.Verdict.{Verdict}
 use Rattle.machine.specs.declared.Verdict.the-variants.{Accepted, Ended, Stuck, Looping}
-use Rattle.machine.specs.declared.Checked.{Checked}
-use Rattle.machine.specs.declared.Checked.the-variants.{Good, Refused}
+use Rattle.refusal.specs.declared.Checked.{Checked}
+use Rattle.refusal.specs.declared.Checked.the-variants.{Good, Refused}
 
 -- a verdict's number; 0 is none
 unfoldable pub verdict-number : Verdict → ℕ

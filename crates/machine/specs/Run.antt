@@ -37,7 +37,7 @@ config-by m g k = config (k / g / m) (k / g % m) (k % g)
 unfoldable pub how-many : Machine → ℕ
 how-many M = M .states * M .places * M .symbols
 
-pub record There (M : Machine) (c : Config) : Type 0 where
+pub record Valid-config (M : Machine) (c : Config) : Type 0 where
   pub state-below : c .state < M .states
   pub head-below : c .head < M .places
   pub symbol-below : c .symbol < M .symbols
@@ -47,7 +47,7 @@ pub record Entry : Type 0 where
   pub symbol : ℕ
   pub pointer : ℕ
 
-pub record Instant : Type 0 where
+pub record Description : Type 0 where
   pub state : ℕ
   pub head : ℕ
   pub stack : List Entry
@@ -55,14 +55,14 @@ pub record Instant : Type 0 where
 abbrev pub entry : (symbol pointer : ℕ) → Entry
 entry a i = record { symbol = a; pointer = i }
 
-abbrev pub instant : (state head : ℕ) → List Entry → Instant
-instant p i es = record { state = p; head = i; stack = es }
+abbrev pub description : (state head : ℕ) → List Entry → Description
+description p i es = record { state = p; head = i; stack = es }
 
 -- one step: a rule stops the run, it is over with the last entry gone, or it is on
 pub data Outcome : Type 0 where
   stopped : Reason → Outcome
   over : (state head : ℕ) → Outcome
-  next : Instant → Outcome
+  next : Description → Outcome
 
 -- the head after a pop: back at the removed entry's pointer, or where it is
 abbrev pub returned : (returns : Bool) → (pointer head : ℕ) → ℕ
@@ -70,20 +70,20 @@ returned b i j = cond b i j
 
 unfoldable pub step-by : Action → (head : ℕ) → Entry → List Entry → Outcome
 step-by (Stop r) i e es = stopped r
-step-by (Change c) i e es = next (instant (c .state) (c .head) (entry (c .symbol) (e .pointer) ∷ es))
-step-by (Push c) i e es = next (instant (c .state) (c .head) (entry (c .symbol) (c .head) ∷ e ∷ es))
+step-by (Change c) i e es = next (description (c .state) (c .head) (entry (c .symbol) (e .pointer) ∷ es))
+step-by (Push c) i e es = next (description (c .state) (c .head) (entry (c .symbol) (c .head) ∷ e ∷ es))
 step-by (Pop p r) i e [] = over p (returned r (e .pointer) i)
-step-by (Pop p r) i e (f ∷ es) = next (instant p (returned r (e .pointer) i) (f ∷ es))
+step-by (Pop p r) i e (f ∷ es) = next (description p (returned r (e .pointer) i) (f ∷ es))
 
 unfoldable pub step-on : Machine → (state head : ℕ) → List Entry → Outcome
 step-on M p i [] = stopped Missing
 step-on M p i (e ∷ es) = step-by (M .action (config p i (e .symbol))) i e es
 
-unfoldable pub step : Machine → Instant → Outcome
+unfoldable pub step : Machine → Description → Outcome
 step M x = step-on M (x .state) (x .head) (x .stack)
 
-unfoldable pub start : Instant
-start = instant 0 0 (entry 0 0 ∷ [])
+unfoldable pub start : Description
+start = description 0 0 (entry 0 0 ∷ [])
 
 -- how a run halts there, if it does
 unfoldable pub halt : Machine → Outcome → Option Halt
@@ -92,16 +92,16 @@ halt M (over p i) = some (Over (M .accepting p i))
 halt M (next y) = none
 
 -- where a run is after so many steps, if it goes on so far
-unfoldable pub only-next : Outcome → Option Instant
+unfoldable pub only-next : Outcome → Option Description
 only-next (stopped r) = none
 only-next (over p i) = none
 only-next (next y) = some y
 
-unfoldable pub further : Machine → Option Instant → Option Instant
+unfoldable pub further : Machine → Option Description → Option Description
 further M none = none
 further M (some x) = only-next (step M x)
 
-unfoldable pub after : (steps : ℕ) → Machine → Instant → Option Instant
+unfoldable pub after : (steps : ℕ) → Machine → Description → Option Description
 after zero M x = some x
 after (suc n) M x = further M (after n M x)
 
@@ -110,5 +110,5 @@ unfoldable pub top : List Entry → ℕ
 top [] = 0
 top (e ∷ es) = e .symbol
 
-unfoldable pub config-of : Instant → Config
+unfoldable pub config-of : Description → Config
 config-of x = config (x .state) (x .head) (top (x .stack))

@@ -13,23 +13,23 @@ use Rattle.machine.specs.declared.Verdict.{Verdict}
 use Rattle.machine.specs.declared.Halt.{Halt}
 use Rattle.machine.specs.declared.Verdict.the-variants.{Looping}
 use Rattle.machine.specs.Halting.{halt-verdict}
-use Rattle.machine.specs.Run.{Machine, There, Instant, instant, entry, over, step, start, halt, after, config-of, number}
+use Rattle.machine.specs.Run.{Machine, Valid-config, Description, description, entry, over, step, start, halt, after, config-of, number}
 
 -- ENTERED: the run is in it after some number of steps
 pub record Entered (M : Machine) (c : Config) : Type 0 where
   pub steps : ℕ
-  pub place : Instant
+  pub place : Description
   pub reached : after steps M start ≡ some place
   pub is : config-of place ≡ c
 
 -- a configuration with an entry of its symbol on top of others
-abbrev pub over-base : Config → (pointer : ℕ) → List Rattle.machine.specs.Run.Entry → Instant
-over-base c i es = instant (c .state) (c .head) (entry (c .symbol) i ∷ es)
+abbrev pub over-base : Config → (pointer : ℕ) → List Rattle.machine.specs.Run.Entry → Description
+over-base c i es = description (c .state) (c .head) (entry (c .symbol) i ∷ es)
 
 -- THE TERMINATOR: from the configuration with that entry alone, with some pointer, the one whose step removes it
 pub record Ends-with (M : Machine) (c : Config) (pointer : ℕ) (d : Config) : Type 0 where
   pub steps : ℕ
-  pub place : Instant
+  pub place : Description
   pub reached : after steps M (over-base c pointer []) ≡ some place
   pub is : config-of place ≡ d
   pub gone : (p : ℕ) × (i : ℕ) × (step M place ≡ over p i)
@@ -43,24 +43,24 @@ No-end M c = (d : Config) → Ends-at M c d → ⊥
 -- VERDICTS. The run halts at d, in the way h
 pub record Halts-at (M : Machine) (d : Config) (h : Halt) : Type 0 where
   pub steps : ℕ
-  pub place : Instant
+  pub place : Description
   pub reached : after steps M start ≡ some place
   pub is : config-of place ≡ d
   pub last : halt M (step M place) ≡ some h
 
 abbrev pub Goes-on : Machine → Type 0
-Goes-on M = (n : ℕ) → (x : Instant) × (after n M start ≡ some x)
+Goes-on M = (n : ℕ) → (x : Description) × (after n M start ≡ some x)
 
 -- after k steps the run is in a configuration that it was in before, and its stack has not gone below its height then
 pub record Again (M : Machine) (k : ℕ) : Type 0 where
   pub earlier : ℕ
   pub before : earlier < k
-  pub then-at : Instant
-  pub now-at : Instant
+  pub then-at : Description
+  pub now-at : Description
   pub was : after earlier M start ≡ some then-at
   pub is : after k M start ≡ some now-at
   pub same : config-of then-at ≡ config-of now-at
-  pub above : (m : ℕ) (x : Instant) → earlier ≤ m → m ≤ k → after m M start ≡ some x → length (then-at .stack) ≤ length (x .stack)
+  pub above : (m : ℕ) (x : Description) → earlier ≤ m → m ≤ k → after m M start ≡ some x → length (then-at .stack) ≤ length (x .stack)
 
 pub record First-again (M : Machine) (d : Config) : Type 0 where
   pub at-step : ℕ
@@ -89,10 +89,10 @@ note-cell (Closed k) = k + 2
 pub data Note-right (M : Machine) (c : Config) : Note → Type 0 where
   never : (Entered M c → ⊥) → Note-right M c Unseen
   unended : Entered M c → No-end M c → Note-right M c Open
-  ended : {d : Config} → Entered M c → There M d → Ends-at M c d → Note-right M c (Closed (number M d))
+  ended : {d : Config} → Entered M c → Valid-config M d → Ends-at M c d → Note-right M c (Closed (number M d))
 
 abbrev pub Noted : Machine → (notes : List ℕ) → Type 0
-Noted M notes = (c : Config) → There M c → Note-right M c (note-of (getD notes (number M c) 0))
+Noted M notes = (c : Config) → Valid-config M c → Note-right M c (note-of (getD notes (number M c) 0))
 
 -- READINGS: how many of the first so many notes are not 0
 unfoldable pub nonzero : (count : ℕ) → List ℕ → ℕ

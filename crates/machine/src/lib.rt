@@ -1,9 +1,5 @@
-// The machine: what an image says, and which rule a configuration selects.
-// Everything that runs a machine stands on these types.
-pub mod counting;
-pub mod format;
+// Machines: configurations, what a rule does, why and how a run halts, verdicts and notes. Nothing here sees a byte.
 pub mod halting;
-pub mod lookup;
 pub mod notes;
 
 // A surface configuration: state p, head i, top symbol A.
@@ -47,18 +43,6 @@ pub enum Note {
     Closed(u32),
 }
 
-// A refusal: its number in the table of refusals, and the place that it blames.
-pub struct Refusal {
-    pub number: u32,
-    pub place: usize,
-}
-
-// What the check of an image answers.
-pub enum Checked {
-    Good,
-    Refused(Refusal),
-}
-
 // Any call's answer by numbers: the refusal's number, or 0, with its place; the verdict's number, or 0 for none; a count and a configuration.
 // Which number and values each case of an enum has is defined beside that enum, in specs/Replies.antt of its crate.
 pub struct Reply {
@@ -67,18 +51,4 @@ pub struct Reply {
     pub verdict: u32,
     pub count: usize,
     pub end: Config,
-}
-
-// The counts that every lookup needs: classes K, symbols G, and tape places n + 2.
-pub struct Sizes {
-    pub classes: u32,
-    pub symbols: u32,
-    pub places: u32,
-}
-
-// What selects a rule: state, class under the head, top symbol.
-pub struct Selector {
-    pub state: u32,
-    pub class: u32,
-    pub symbol: u32,
 }

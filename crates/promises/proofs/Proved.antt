@@ -1,39 +1,39 @@
 -- Every promise is kept: one record, a field a claim, each by the lemma that proves it. Assumes nothing.
-use Rattle.machine.specs.Image.{machine}
-use Rattle.machine.proofs.ConditionsMet.{image-answer}
-use Rattle.machine.proofs.CaptureMet.{capture-answer}
-use Rattle.machine.proofs.Inside.{inside}
+use Rattle.image.specs.Image.{machine}
+use Rattle.image.proofs.ConditionsMet.{image-answer}
+use Rattle.image.proofs.CaptureMet.{capture-answer}
+use Rattle.image.proofs.Inside.{inside}
 use Rattle.machine.proofs.Reach.{entered-there}
 use Rattle.machine.proofs.Listing.{one-count}
 use Rattle.machine.proofs.OneVerdict.{one-verdict}
 use Rattle.machine.proofs.Terminators.{one-end, terminators-of-run}
 use Rattle.machine.proofs.NotesOfRun.{same-each-time, notes-of-run}
-use Rattle.machine.proofs.NotesImplied.{noted-implies}
-use Rattle.chain.proofs.ChainJudges.{chain-judges}
+use Rattle.image.proofs.NotesImplied.{noted-implies}
+use Rattle.chain_theory.proofs.ChainJudges.{chain-judges}
 use Rattle.simulator.proofs.ConditionsMet.{judging-answer}
 use Rattle.simulator.proofs.Answered.{later-kept}
 use Rattle.simulator.proofs.Determined.{judge-determined, judge-independent}
 use Rattle.simulator.proofs.Needing.{cells-are}
 use Rattle.simulator.proofs.JudgeLoop.{start-is}
-use Rattle.simulator.proofs.Promised.{verdict-there, verdict-exact, looping-exact, readings-entered, readings-noted, entered-numbered, notes-left, unentered-zero, notes-tell, by-the-chain, work-cleared}
+use Rattle.simulator.proofs.JudgingRight.{verdict-there, verdict-exact, looping-exact, readings-entered, readings-noted, entered-numbered, notes-left, unentered-zero, notes-tell, by-the-chain, work-cleared}
 use Rattle.interpreter.proofs.ConditionsMet.{running-answer}
-use Rattle.interpreter.proofs.Promised.{plain-run-true}
+use Rattle.interpreter.proofs.TrueEnd.{plain-run-true}
 use Rattle.interpreter.proofs.Answered.{run-determined, run-independent}
 use Rattle.grammar.proofs.ConditionsMet.{grammar-answer}
-use Rattle.grammar.proofs.BuildingMet.{building-answer}
-use Rattle.grammar.proofs.BuiltGood.{built-good}
-use Rattle.grammar.proofs.BuiltImage.{built-length-is}
-use Rattle.grammar.proofs.LongestImage.{longest-image, longest-there}
-use Rattle.grammar.proofs.RangeClasses.{classes-count, range-classes}
-use Rattle.grammar.proofs.Promised.{built-parses, few-readings}
-use Rattle.grammar.proofs.Answered.{build-determined, build-independent}
+use Rattle.builder.proofs.BuildingMet.{building-answer}
+use Rattle.builder.proofs.BuiltGood.{built-good}
+use Rattle.builder.proofs.BuiltImage.{built-length-is}
+use Rattle.builder.proofs.LongestImage.{longest-image, longest-there}
+use Rattle.builder.proofs.RangeClasses.{classes-count, range-classes}
+use Rattle.parsing_theory.proofs.BuiltParses.{built-parses, few-readings}
+use Rattle.builder.proofs.Answered.{build-determined, build-independent}
 use Rattle.answer.proofs.ConditionsMet.{input-answer, input-parts}
 use Rattle.answer.proofs.AnsweringMet.{answering-answer}
-use Rattle.answer.proofs.Promised.{line-whole, answer-determined, unread-refused, refusals-left}
+use Rattle.answer.proofs.LineWhole.{line-whole, answer-determined, unread-refused, refusals-left}
 use Rattle.answer.proofs.Answered.{line-parsed, answer-independent}
 use Rattle.answer.proofs.TwoCallsHold.{loops-exact, build-then-judge}
-use Rattle.captures.proofs.CapturesHold.{captures-hold, c1-image, c1-cells, c1-plain-runs}
-use Rattle.captures.proofs.ProgramPrints.{endless-printed}
+use Rattle.worked_examples.proofs.ExamplesHold.{examples-hold, c1-image, c1-cells, c1-plain-runs}
+use Rattle.worked_examples.proofs.ProgramPrints.{endless-printed}
 use Rattle.promises.specs.Promises.{Promises}
 use Rattle.promises.proofs.Told.{judge-refuses, run-refuses, build-refuses, answer-refuses, judge-answers, run-answers, accepted-told}
 
@@ -105,7 +105,7 @@ promises =
       endless-printed = endless-printed;
       unread-refused = unread-refused;
       refusals-left = refusals-left;
-      captures-hold = captures-hold;
+      examples-hold = examples-hold;
       c1-image = c1-image;
       c1-cells = c1-cells;
       c1-plain-runs = c1-plain-runs;

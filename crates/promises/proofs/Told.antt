@@ -8,7 +8,7 @@ use Rattle.machine.specs.declared.Config.{Config}
 use Rattle.machine.specs.declared.Verdict.{Verdict}
 use Rattle.machine.specs.declared.Verdict.the-variants.{Accepted, Ended, Stuck, Looping}
 use Rattle.machine.specs.Run.{Machine, start}
-use Rattle.machine.specs.Image.{machine}
+use Rattle.image.specs.Image.{machine}
 use Rattle.machine.specs.Verdicts.{Says}
 use Rattle.machine.specs.Replies.{verdict-number}
 use Rattle.simulator.specs.declared.Judgement.{Judgement}
@@ -20,8 +20,8 @@ use Rattle.simulator.proofs.Answered.{judged-refused, judged-right, answered-fi
 use Rattle.interpreter.specs.PlainRun.{run-on}
 use Rattle.interpreter.specs.Replies.{of-ran}
 use Rattle.interpreter.proofs.Answered.{run-refused, run-answered, run-holds}
-use Rattle.grammar.specs.Replies.{of-built}
-use Rattle.grammar.proofs.Answered.{build-refused}
+use Rattle.builder.specs.Replies.{of-built}
+use Rattle.builder.proofs.Answered.{build-refused}
 use Rattle.text.specs.Line.{Lined}
 use Rattle.answer.specs.Calls.{Answer-says}
 use Rattle.answer.proofs.Answered.{input-refused}
@@ -52,16 +52,16 @@ answer-refuses xs x y out out-now n says some =
 
 pub judge-answers : Judge-answers
 unfolding of-judged
-judge-answers bs cs r a a-now b b-now fine says =
-    let x = judged-right bs cs r a a-now b b-now fine says in
+judge-answers bs cs r a a-now b b-now no-refusal says =
+    let x = judged-right bs cs r a a-now b b-now no-refusal says in
     let j = x .judgement in
     (j .verdict, j .readings, j .end, x .answers, ap of-judged (x .answers))
 
 pub run-answers : Run-answers
 unfolding of-ran
-run-answers bs cs n r a a-now fine says =
-    let (told, cells) = run-answered bs cs n r a a-now fine says in
-    (run-on n (machine bs cs) 0 (length a) start, ap of-ran told, run-holds bs cs n (length a) fine, cells)
+run-answers bs cs n r a a-now no-refusal says =
+    let (told, cells) = run-answered bs cs n r a a-now no-refusal says in
+    (run-on n (machine bs cs) 0 (length a) start, ap of-ran told, run-holds bs cs n (length a) no-refusal, cells)
 
 -- the verdict's cell of a C caller's answer
 only-accepted : (v : Verdict) → verdict-number v ≡ 1 → v ≡ Accepted
@@ -77,8 +77,8 @@ accepted-by :
 unfolding of-judged
 accepted-by bs cs notes notes-now work work-now (Refused f) says e = absurd (omega arith)
 accepted-by bs cs notes notes-now work work-now (Answer j) says e =
-    let fine = answered-fine bs cs notes notes-now work work-now (j .verdict) (j .readings) (j .end) says in
-    let right = judged-right bs cs (Answer j) notes notes-now work work-now fine says in
+    let no-refusal = answered-fine bs cs notes notes-now work work-now (j .verdict) (j .readings) (j .end) says in
+    let right = judged-right bs cs (Answer j) notes notes-now work work-now no-refusal says in
     (refl, accepted-said (machine bs cs) j (right .judgement) (only-accepted (j .verdict) e) (right .answers) (right .right .says))
   where
     accepted-said :
@@ -92,5 +92,5 @@ pub accepted-told : Accepted-told
 unfolding cells
 accepted-told image capture notes notes-now work work-now returned answer t one =
     let verdict : of-judged (t .judged) .verdict ≡ 1 = ap (λ (l : List ℕ). getD l 1 0) (sym (t .tells .written)) ∙ one in
-    let (fine, says) = accepted-by image capture notes notes-now work work-now (t .judged) (t .says) verdict in
-    (t .tells .number ∙ fine, rw (t .tells .written) says)
+    let (no-refusal, says) = accepted-by image capture notes notes-now work work-now (t .judged) (t .says) verdict in
+    (t .tells .number ∙ no-refusal, rw (t .tells .written) says)

@@ -5,10 +5,11 @@ use mathlib.Core.List.{List}
 use mathlib.Core.Logic.{_↔_}
 use Prim.Native.Nat.{ℕ}
 use lib.ListN.{length, take, drop}
-use Rattle.machine.specs.Refusals.{refusal, image-refusal, capture-refusal}
-use Rattle.machine.specs.Conditions.{Image-row, Capture-row}
+use Rattle.refusal.specs.First.{refusal}
+use Rattle.image.specs.Refusals.{image-refusal, capture-refusal}
+use Rattle.image.specs.Conditions.{Image-row, Capture-row}
 use Rattle.machine.specs.Run.{how-many}
-use Rattle.machine.specs.Image.{machine}
+use Rattle.image.specs.Image.{machine}
 use Rattle.machine.specs.Replies.{refusal-reply}
 use Rattle.simulator.specs.declared.Judged.{Judged}
 use Rattle.simulator.specs.Calls.{judge-refusal, Judge-says}
@@ -18,12 +19,13 @@ use Rattle.interpreter.specs.declared.Ran.{Ran}
 use Rattle.interpreter.specs.Calls.{run-refusal, Run-says}
 use Rattle.interpreter.specs.Conditions.{Running-row}
 use Rattle.interpreter.specs.Replies.{of-ran}
-use Rattle.grammar.specs.declared.Built.{Built}
+use Rattle.builder.specs.declared.Built.{Built}
 use Rattle.grammar.specs.Grammar.{grammar-refusal}
-use Rattle.grammar.specs.Conditions.{Grammar-row, Building-row}
-use Rattle.grammar.specs.Image.{built-length}
-use Rattle.grammar.specs.Calls.{build-refusal, Build-says}
-use Rattle.grammar.specs.Replies.{of-built}
+use Rattle.grammar.specs.Conditions.{Grammar-row}
+use Rattle.builder.specs.Conditions.{Building-row}
+use Rattle.builder.specs.Image.{built-length}
+use Rattle.builder.specs.Calls.{build-refusal, Build-says}
+use Rattle.builder.specs.Replies.{of-built}
 use Rattle.text.specs.Line.{refusal-line, Lined}
 use Rattle.answer.specs.Input.{input-refusal, input-grammar, input-capture}
 use Rattle.answer.specs.Conditions.{Input-row, Answering-row}

@@ -9,12 +9,12 @@ use lib.ListN.{length, take, replicate}
 use Rattle.machine.specs.declared.Config.{Config}
 use Rattle.machine.specs.declared.Verdict.{Verdict}
 use Rattle.machine.specs.declared.Verdict.the-variants.{Accepted, Ended, Stuck, Looping}
-use Rattle.machine.specs.Format.{max-capture}
+use Rattle.image.specs.Format.{max-capture}
 use Rattle.machine.specs.Run.{Machine, start, how-many}
 use Rattle.codec.specs.Bytes.{Bytes}
-use Rattle.machine.specs.Image.{machine}
+use Rattle.image.specs.Image.{machine}
 use Rattle.machine.specs.Verdicts.{Says, Goes-on}
-use Rattle.machine.specs.Refusals.{Unrefused, image-refusal}
+use Rattle.image.specs.Refusals.{Unrefused, image-refusal}
 use Rattle.machine.specs.Replies.{verdict-number, answer-reply}
 use Rattle.simulator.specs.declared.Judged.{Judged}
 use Rattle.simulator.specs.declared.Judged.the-variants.{Answer}
@@ -24,14 +24,14 @@ use Rattle.interpreter.specs.declared.Ran.{Ran}
 use Rattle.interpreter.specs.PlainRun.{Run-end, run-on, True-end}
 use Rattle.interpreter.specs.Calls.{run-refusal, Run-says}
 use Rattle.interpreter.specs.Replies.{exit-number, of-ran}
-use Rattle.grammar.specs.declared.Built.{Built}
-use Rattle.grammar.specs.declared.Built.the-variants.{Image}
+use Rattle.builder.specs.declared.Built.{Built}
+use Rattle.builder.specs.declared.Built.the-variants.{Image}
 use Rattle.grammar.specs.Grammar.{expression, grammar-refusal}
 use Rattle.grammar.specs.Parsing.{Parses}
-use Rattle.grammar.specs.Classes.{class-in}
-use Rattle.grammar.specs.ClassMeaning.{Class-counts, Byte-of-class}
-use Rattle.grammar.specs.Image.{built, built-length}
-use Rattle.grammar.specs.Calls.{Build-says}
+use Rattle.builder.specs.Classes.{class-in}
+use Rattle.builder.specs.ClassMeaning.{Class-counts, Byte-of-class}
+use Rattle.builder.specs.Image.{built, built-length}
+use Rattle.builder.specs.Calls.{Build-says}
 use Rattle.answer.specs.TwoCalls.{Enough, Gets}
 
 -- THE RUN'S VERDICT: there is one, with its end configuration, and one only

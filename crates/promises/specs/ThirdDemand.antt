@@ -6,21 +6,21 @@ use Prim.Native.Nat.{ℕ, _+_, _*_, _<_, _≤_}
 use lib.ListN.{length, getD, take, drop, replicate}
 use Rattle.machine.specs.declared.Config.{Config}
 use Rattle.machine.specs.declared.Verdict.{Verdict}
-use Rattle.machine.specs.Format
-use Rattle.machine.specs.Run.{Machine, There, Entry, start, after, number, how-many}
+use Rattle.image.specs.Format
+use Rattle.machine.specs.Run.{Machine, Valid-config, Entry, start, after, number, how-many}
 use Rattle.codec.specs.Bytes.{Bytes}
 use Rattle.codec.specs.Numbers.{u32-at}
-use Rattle.machine.specs.Image.{machine}
+use Rattle.image.specs.Image.{machine}
 use Rattle.machine.specs.Verdicts.{Entered, over-base, Ends-with, Ends-at, Noted, nonzero, All-entered, note-of, Note-right}
 use Rattle.machine.specs.Removal.{Removed, Note-tells}
 use Rattle.machine.specs.Implications.{Noted-by-implication}
-use Rattle.machine.specs.Refusals.{Unrefused}
+use Rattle.image.specs.Refusals.{Unrefused}
 use Rattle.chain.specs.declared.JudgeState.{JudgeState}
 use Rattle.chain.specs.Chain.{Chain-correct, start-in, environment-of, start-state, chain, reached}
 use Rattle.simulator.specs.declared.Judged.the-variants.{Answer}
 use Rattle.simulator.specs.Calls.{judgement, Chain-ends, Judge-says}
 use Rattle.grammar.specs.Grammar.{rules, grammar-refusal}
-use Rattle.grammar.specs.Image.{built}
+use Rattle.builder.specs.Image.{built}
 
 -- READINGS ARE EXACTLY THE NUMBER OF DIFFERENT CONFIGURATIONS THAT THE RUN ENTERS, endless runs included: the length of a list without repeats of exactly those; every such list is as long; and as many notes are not 0
 abbrev pub Readings-entered : Type 0
@@ -47,7 +47,7 @@ Few-readings =
 abbrev pub Entered-numbered : Type 0
 Entered-numbered =
     (bs cs : List ℕ) → Unrefused bs cs → (c : Config) → Entered (machine bs cs) c →
-    There (machine bs cs) c × (number (machine bs cs) c < how-many (machine bs cs))
+    Valid-config (machine bs cs) c × (number (machine bs cs) c < how-many (machine bs cs))
 
 -- for each one entered the note names the one that pops its entry, or that none does,
 abbrev pub Notes-left : Type 0
@@ -59,7 +59,7 @@ Notes-left =
 abbrev pub Others-zero : Type 0
 Others-zero =
     (bs cs a a-now b b-now : List ℕ) (v : Verdict) (n : ℕ) (d : Config) → Bytes cs → Judge-says bs cs (Answer (judgement v n d)) a a-now b b-now →
-    (c : Config) → There (machine bs cs) c → (Entered (machine bs cs) c → ⊥) → getD a-now (number (machine bs cs) c) 0 ≡ 0
+    (c : Config) → Valid-config (machine bs cs) c → (Entered (machine bs cs) c → ⊥) → getD a-now (number (machine bs cs) c) 0 ≡ 0
 
 -- a note speaks of the run itself: each time that the run enters its configuration, of the entry then on top
 abbrev pub Notes-tell : Type 0
@@ -71,7 +71,7 @@ Notes-tell =
 -- so does it in any machine, for each of its configurations
 abbrev pub Notes-of-run : Type 0
 Notes-of-run =
-    (M : Machine) (notes : List ℕ) → Noted M notes → (n i : ℕ) (c : Config) (base : List Entry) → There M c →
+    (M : Machine) (notes : List ℕ) → Noted M notes → (n i : ℕ) (c : Config) (base : List Entry) → Valid-config M c →
     after n M start ≡ some (over-base c i base) → Note-tells M n i base (note-of (getD notes (number M c) 0))
 
 -- notes, one statement a cell, imply document 03's three implications

@@ -1,26 +1,26 @@
--- WHAT USERS GET: the program's line, the worked captures, the library for C. Assumes nothing: each claim is a type, and proofs/ has its proof.
+-- WHAT USERS GET: the program's line, the worked examples, the library for C. Assumes nothing: each claim is a type, and proofs/ has its proof.
 use mathlib.Core.Path.{_≡_}
 use mathlib.Core.List.{List, [], _∷_, _++_}
 use Prim.Native.Nat.{ℕ, _≤_}
 use lib.Dec.{ltb}
 use lib.ListN.{length, getD, take, drop}
 use Rattle.machine.specs.declared.Verdict.the-variants.{Accepted}
-use Rattle.machine.specs.Format.{max-capture}
+use Rattle.image.specs.Format.{max-capture}
 use Rattle.machine.specs.Run.{config, how-many}
 use Rattle.codec.specs.Bytes.{Bytes}
-use Rattle.machine.specs.Image.{machine}
+use Rattle.image.specs.Image.{machine}
 use Rattle.machine.specs.Verdicts.{Says}
-use Rattle.machine.specs.Refusals.{refusal, or-else, refuse-if}
+use Rattle.refusal.specs.First.{refusal, or-else, refuse-if}
 use Rattle.simulator.specs.Calls.{judge-refusal}
 use Rattle.grammar.specs.Grammar.{grammar-refusal}
-use Rattle.grammar.specs.Image.{built}
+use Rattle.builder.specs.Image.{built}
 use Rattle.text.specs.Line.{line-feed, field, refused-word, max-line, Lined}
 use Rattle.answer.specs.Input.{input-grammar, input-capture}
 use Rattle.answer.specs.Conditions.{Input-right, Input-parts}
 use Rattle.answer.specs.Calls.{Lent, answer-refusal, Input-says, Answer-says}
 use Rattle.answer.specs.TwoCalls.{Line-parsed}
-use Rattle.captures.specs.Captures.{Row-holds, Each, table, empty-grammar, Plain-holds, plain-table}
-use Rattle.captures.specs.ProgramLine.{endless-input, endless-line, Program-room}
+use Rattle.worked_examples.specs.Examples.{Row-holds, Each, table, empty-grammar, Plain-holds, plain-table}
+use Rattle.worked_examples.specs.ProgramLine.{endless-input, endless-line, Program-room}
 use Rattle.sejimakpu.specs.Calls.{Judge-tells}
 
 -- THE LINE: for every input that is not refused, that of a verdict which parsing gives, with few readings
@@ -60,8 +60,8 @@ Refusals-left =
     (refuse-if (ltb work (how-many (machine (built gs) cs))) (refusal 9 (how-many (machine (built gs) cs)))))
 
 -- C1 TO C10, and C1's image, N and plain runs
-abbrev pub Captures-hold : Type 0
-Captures-hold = Each Row-holds table
+abbrev pub Examples-hold : Type 0
+Examples-hold = Each Row-holds table
 
 abbrev pub C1-image : Type 0
 C1-image = length (built empty-grammar) ≡ 468

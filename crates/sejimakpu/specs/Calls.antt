@@ -3,16 +3,16 @@ use Prim.Native.Nat.{ℕ}
 use mathlib.Core.List.{List}
 use Rattle.simulator.specs.declared.Judged.{Judged}
 use Rattle.interpreter.specs.declared.Ran.{Ran}
-use Rattle.grammar.specs.declared.Built.{Built}
-use Rattle.machine.specs.Refusals.{image-refusal, capture-refusal}
-use Rattle.machine.specs.Calls.{checked}
+use Rattle.builder.specs.declared.Built.{Built}
+use Rattle.image.specs.Refusals.{image-refusal, capture-refusal}
+use Rattle.refusal.specs.Checking.{checked}
 use Rattle.machine.specs.Replies.{of-checked}
 use Rattle.simulator.specs.Calls.{cells-needed, needs, Judge-says}
 use Rattle.interpreter.specs.Calls.{Run-says}
-use Rattle.grammar.specs.Calls.{Build-says}
+use Rattle.builder.specs.Calls.{Build-says}
 use Rattle.simulator.specs.Replies.{of-needs, of-judged}
 use Rattle.interpreter.specs.Replies.{of-ran}
-use Rattle.grammar.specs.Replies.{of-built}
+use Rattle.builder.specs.Replies.{of-built}
 use Rattle.sejimakpu.specs.Cells.{Reply-written}
 
 -- the check of an image

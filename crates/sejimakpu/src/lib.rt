@@ -2,7 +2,7 @@
 // A slice is never null, not even an empty one: hence the names. The header's inline functions let C pass null with length 0.
 pub mod reply;
 
-use grammar::build::build_image;
+use builder::build::build_image;
 use interpreter::plain_run;
 use reply::build_reply;
 use reply::cells_reply;

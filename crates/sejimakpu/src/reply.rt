@@ -1,20 +1,20 @@
 // A reply: what every call of the library answers, by numbers, and the six cells that it is written to.
-use grammar::Built;
+use builder::Built;
 use interpreter::Exit;
 use interpreter::Ran;
-use machine::Checked;
 use machine::Config;
-use machine::Refusal;
 use machine::Reply;
 use machine::Verdict;
 use machine::halting::halt_verdict;
+use refusal::Checked;
+use refusal::Refusal;
 use simulator::Judged;
 use simulator::Needs;
 ghost use mathlib.Core.Path.{_≡_};
 ghost use Rattle.machine.specs.Replies.{verdict-number as number-of, refusal-reply, answer-reply, count-reply, of-checked};
 ghost use Rattle.simulator.specs.Replies.{of-needs, of-judged};
 ghost use Rattle.interpreter.specs.Replies.{exit-number as number-of-exit, of-ran};
-ghost use Rattle.grammar.specs.Replies.{of-built};
+ghost use Rattle.builder.specs.Replies.{of-built};
 ghost use Rattle.sejimakpu.specs.Cells.{Reply-written};
 
 // A verdict's number.

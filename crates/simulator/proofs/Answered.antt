@@ -6,13 +6,14 @@ use native.Mathlib.Omega.{arith}
 use lib.ListN.{length, drop, replicate, length-replicate}
 use lib.Seq.{drop-at}
 use Rattle.machine.specs.declared.Config.{Config}
-use Rattle.machine.specs.declared.Refusal.{Refusal}
+use Rattle.refusal.specs.declared.Refusal.{Refusal}
 use Rattle.machine.specs.declared.Verdict.{Verdict}
 use Rattle.machine.specs.Run.{how-many}
 use Rattle.codec.specs.Bytes.{byte}
-use Rattle.machine.specs.Image.{machine}
-use Rattle.machine.specs.Refusals.{Unrefused, capture-refusal}
-use Rattle.machine.proofs.Refused.{neither, unrefused-by}
+use Rattle.image.specs.Image.{machine}
+use Rattle.image.specs.Refusals.{Unrefused, capture-refusal}
+use Rattle.refusal.proofs.Refused.{neither}
+use Rattle.image.proofs.CaptureRefused.{unrefused-by}
 use Rattle.simulator.specs.declared.Judged.{Judged}
 use Rattle.simulator.specs.declared.Judged.the-variants.{Refused, Answer}
 use Rattle.simulator.specs.Calls.{judgement, judge-refusal, Judged-right, Judge-as, Judge-says}

@@ -8,11 +8,11 @@ use native.Mathlib.Omega.{arith}
 use lib.ListN.{length}
 use borrow.Author.Tests.{lt-ltb, le-ltb}
 use Rattle.machine.specs.Run.{how-many}
-use Rattle.machine.specs.Image.{machine}
-use Rattle.machine.specs.Refusals.{refusal, or-else, refuse-if}
-use Rattle.machine.specs.Conditions.{Capture-right}
-use Rattle.machine.proofs.Rows.{Some-row, exactly, Check, checks, stops, goes-on, then-row}
-use Rattle.machine.proofs.CaptureMet.{capture-check}
+use Rattle.image.specs.Image.{machine}
+use Rattle.refusal.specs.First.{refusal, or-else, refuse-if}
+use Rattle.image.specs.Conditions.{Capture-right}
+use Rattle.refusal.proofs.Rows.{Some-row, exactly, Check, checks, stops, goes-on, then-row}
+use Rattle.image.proofs.CaptureMet.{capture-check}
 use Rattle.simulator.specs.Calls.{judge-refusal}
 use Rattle.simulator.specs.Conditions.{Judging-right, Judging-row, unrefused-judging, refused-capture, few-notes, few-work}
 

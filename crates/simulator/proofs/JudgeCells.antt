@@ -4,7 +4,7 @@ use mathlib.Core.List.{List, _++_, append-nil}
 use Prim.Native.Nat.{ℕ, _≤_}
 use native.Mathlib.Omega.{arith}
 use lib.ListN.{length, drop, replicate, drop-of-length-le}
-use Rattle.simulator.specs.Checked.{Checked, Cleared}
+use Rattle.simulator.specs.code.Checked.{Checked, Cleared}
 
 -- a list that is filled to its end
 pub all-filled :

@@ -8,27 +8,27 @@ use native.Mathlib.Decide.{decLt}
 use native.Mathlib.Omega.{arith}
 use lib.ListN.{length, take, drop, replicate, length-replicate}
 use Rattle.machine.specs.declared.Verdict.{Verdict}
-use Rattle.machine.specs.Format
+use Rattle.image.specs.Format
 use Rattle.machine.specs.Run.{how-many}
 use Rattle.codec.specs.Numbers.{u32-at}
-use Rattle.machine.specs.Image.{machine}
+use Rattle.image.specs.Image.{machine}
 use Rattle.machine.specs.Verdicts.{Says, Noted, nonzero}
-use Rattle.machine.specs.Refusals.{Unrefused}
+use Rattle.image.specs.Refusals.{Unrefused}
 use Rattle.machine.proofs.Nonzero.{nonzero-most}
-use Rattle.machine.proofs.Rules.{good}
+use Rattle.image.proofs.Rules.{good}
 use Rattle.chain.specs.declared.Mode.the-variants.{Done}
 use Rattle.chain.specs.declared.Environment.{Environment}
 use Rattle.chain.specs.declared.Registers.{Registers}
 use Rattle.chain.specs.declared.JudgeState.{JudgeState}
 use Rattle.chain.specs.Step.{Program-state}
-use Rattle.chain.specs.Ready.{Ready, Step-says}
+use Rattle.chain.specs.code.Ready.{Ready, Step-says}
 use Rattle.chain.specs.Chain.{Chain-correct, environment-of, start-in, start-state, started, chain, reached, stepped, verdict-of}
 use Rattle.simulator.specs.Calls.{Judgement-right, judgement}
-use Rattle.simulator.specs.Checked.{Cleared}
-use Rattle.chain.specs.StepParts.{u32-end}
+use Rattle.simulator.specs.code.Checked.{Cleared}
+use Rattle.chain.specs.code.StepParts.{u32-end}
 use Rattle.chain.proofs.StepSafe.{few-cells}
-use Rattle.chain.proofs.ChainJudges.{start-environment}
-use Rattle.chain.proofs.Interface.{chain-judges, chain-ready}
+use Rattle.chain_theory.proofs.ChainJudges.{start-environment}
+use Rattle.chain_theory.proofs.Interface.{chain-judges, chain-ready}
 
 abbrev at-reached : Environment → Registers → (notes work : List ℕ) → Program-state JudgeState
 at-reached e r ns ws = record { state = record { environment = e; registers = r }; notes = ns; work = ws }

@@ -6,16 +6,17 @@ use native.Mathlib.Omega.{arith}
 use lib.ListN.{length, take, drop}
 use lib.Seq.{length-take-le}
 use borrow.Author.Tests.{lt-ltb, le-ltb, eq-eqb, ne-eqb}
-use Rattle.machine.specs.declared.Refusal.{Refusal}
+use Rattle.refusal.specs.declared.Refusal.{Refusal}
 use Rattle.machine.specs.Run.{how-many}
 use Rattle.codec.specs.Bytes.{byte}
-use Rattle.machine.specs.Image.{machine}
-use Rattle.machine.proofs.Refused.{unrefused-by}
-use Rattle.machine.specs.Refusals.{refusal, fine, or-else, refuse-if, capture-refusal}
+use Rattle.image.specs.Image.{machine}
+use Rattle.image.proofs.CaptureRefused.{unrefused-by}
+use Rattle.refusal.specs.First.{refusal, no-refusal, or-else, refuse-if}
+use Rattle.image.specs.Refusals.{capture-refusal}
 use Rattle.simulator.specs.declared.Judgement.{Judgement}
 use Rattle.simulator.specs.declared.Judged.{Judged}
 use Rattle.simulator.specs.declared.Judged.the-variants.{Refused, Answer}
-use Rattle.simulator.specs.Checked.{Checked, Sized}
+use Rattle.simulator.specs.code.Checked.{Checked, Sized}
 use Rattle.simulator.proofs.Needing.{cells-are}
 use Rattle.simulator.specs.Calls.{judge-refusal, Judgement-right, Judge-as, Judge-says}
 
@@ -34,7 +35,7 @@ module _ (bs cs : List ℕ) (a b : ℕ) where
       unfolding judge-refusal or-else refuse-if
       work-refused h = rw (eq-eqb _ _ fine-so-far, le-ltb _ _ enough, lt-ltb _ _ h)
 
-      pub not-refused : how-many (machine bs cs) ≤ b → judge-refusal bs cs a b ≡ fine
+      pub not-refused : how-many (machine bs cs) ≤ b → judge-refusal bs cs a b ≡ no-refusal
       unfolding judge-refusal or-else refuse-if
       not-refused h = rw (eq-eqb _ _ fine-so-far, le-ltb _ _ enough, le-ltb _ _ h)
 
@@ -61,7 +62,7 @@ pub checked :
     Checked bs cs (take n x) (take n y)
 checked bs cs x y {n} sized bytes h k =
     record {
-      unrefused = unrefused-by bs cs bytes (sized .fine);
+      unrefused = unrefused-by bs cs bytes (sized .no-refusal);
       notes-long = length-take-le n x h ∙ enough-are sized;
       work-long = length-take-le n y k ∙ enough-are sized;
     }
@@ -77,12 +78,12 @@ module _ (bs cs x y : List ℕ) {r : Judged} where
     pub notes-says : length x < n → r ≡ Refused (refusal 8 n) → Judge-says bs cs r x x y y
     notes-says h q =
         let e : n ≡ how-many (machine bs cs) = enough-are sized in
-        refused-says bs cs x y (notes-refused bs cs (length x) (length y) (sized .fine) (omega arith)) (λ z. omega arith) (rw e at q)
+        refused-says bs cs x y (notes-refused bs cs (length x) (length y) (sized .no-refusal) (omega arith)) (λ z. omega arith) (rw e at q)
 
     pub work-says : n ≤ length x → length y < n → r ≡ Refused (refusal 9 n) → Judge-says bs cs r x x y y
     work-says h k q =
         let e : n ≡ how-many (machine bs cs) = enough-are sized in
-        refused-says bs cs x y (work-refused bs cs (length x) (length y) (sized .fine) (omega arith) (omega arith)) (λ z. omega arith) (rw e at q)
+        refused-says bs cs x y (work-refused bs cs (length x) (length y) (sized .no-refusal) (omega arith) (omega arith)) (λ z. omega arith) (rw e at q)
 
     -- an answer over the lent part is one over the whole
     pub answer-says :
@@ -92,7 +93,7 @@ module _ (bs cs x y : List ℕ) {r : Judged} where
     answer-says h k {x′} {y′} {j} q a =
         let e : n ≡ how-many (machine bs cs) = enough-are sized in
         rw
-        (not-refused bs cs (length x) (length y) (sized .fine) (omega arith) (omega arith))
+        (not-refused bs cs (length x) (length y) (sized .no-refusal) (omega arith) (omega arith))
         (record {
           judgement = j;
           notes = x′;

@@ -7,4 +7,4 @@ pub mod JudgeRefusals
 pub mod Determined
 pub mod ConditionsMet
 pub mod Answered
-pub mod Promised
+pub mod JudgingRight

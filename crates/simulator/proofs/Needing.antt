@@ -7,11 +7,11 @@ use native.Mathlib.Omega.{arith}
 use lib.Dec.{eqb}
 use lib.ListN.{length, getD, replicate, length-replicate}
 use borrow.Author.Tests.{eq-eqb, ne-eqb, eqb-true, eqb-false}
-use Rattle.machine.specs.declared.Refusal.{Refusal}
-use Rattle.machine.specs.Format
+use Rattle.refusal.specs.declared.Refusal.{Refusal}
+use Rattle.image.specs.Format
 use Rattle.machine.specs.Run.{how-many}
-use Rattle.machine.specs.Image.{machine, states, symbols}
-use Rattle.machine.specs.Refusals.{image-refusal, Unrefused}
+use Rattle.image.specs.Image.{machine, states, symbols}
+use Rattle.image.specs.Refusals.{image-refusal, Unrefused}
 use Rattle.simulator.specs.declared.Needs.{Needs}
 use Rattle.simulator.specs.declared.Needs.the-variants.{Cells, Refused}
 use Rattle.simulator.specs.Calls.{cells-needed, needs}

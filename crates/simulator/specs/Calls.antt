@@ -7,12 +7,13 @@ use lib.Dec.{ltb, eqb}
 use mathlib.Core.Option.{none, some}
 use lib.ListN.{length, drop, replicate}
 use Rattle.machine.specs.declared.Config.{Config}
-use Rattle.machine.specs.declared.Refusal.{Refusal}
+use Rattle.refusal.specs.declared.Refusal.{Refusal}
 use Rattle.machine.specs.declared.Verdict.{Verdict}
 use Rattle.machine.specs.Run.{how-many}
-use Rattle.machine.specs.Image.{machine, states, symbols}
+use Rattle.image.specs.Image.{machine, states, symbols}
 use Rattle.machine.specs.Verdicts.{Says, Noted, nonzero}
-use Rattle.machine.specs.Refusals.{refusal, or-else, refuse-if, capture-refusal}
+use Rattle.refusal.specs.First.{refusal, or-else, refuse-if}
+use Rattle.image.specs.Refusals.{capture-refusal}
 use Rattle.simulator.specs.declared.Needs.{Needs}
 use Rattle.simulator.specs.declared.Needs.the-variants.{Cells, Refused as Unneeded}
 use Rattle.simulator.specs.declared.Judgement.{Judgement}

@@ -4,8 +4,8 @@ use mathlib.Core.List.{List}
 use Prim.Native.Nat.{ℕ, _<_, _≤_}
 use lib.ListN.{length}
 use Rattle.machine.specs.Run.{how-many}
-use Rattle.machine.specs.Image.{machine}
-use Rattle.machine.specs.Conditions.{Capture-right, Capture-row}
+use Rattle.image.specs.Image.{machine}
+use Rattle.image.specs.Conditions.{Capture-right, Capture-row}
 
 -- an image and a capture that are right, and N notes and work cells
 pub record Judging-right (bs cs : List ℕ) (notes work : ℕ) : Type 0 where

@@ -7,23 +7,24 @@ use chain::JudgeState;
 use chain::Mode;
 use chain::Registers;
 use chain::step::step;
+use image::Sizes;
+use image::format::STATES_OFFSET;
+use image::format::SYMBOLS_OFFSET;
+use image::lookup;
 use machine::Config;
-use machine::Refusal;
-use machine::Sizes;
-use machine::format::STATES_OFFSET;
-use machine::format::SYMBOLS_OFFSET;
-use machine::lookup;
+use refusal::Refusal;
 use validator::check::capture_refusal;
 ghost use mathlib.Core.Path.{_≡_};
 ghost use Prim.Native.Nat.{_≤_};
 ghost use lib.ListN.{length, replicate};
-ghost use Rattle.machine.specs.declared.Refusal.{Refusal};
-ghost use Rattle.machine.specs.Format.{max-capture};
-ghost use Rattle.machine.specs.Refusals.{image-refusal, capture-refusal, refusal};
+ghost use Rattle.refusal.specs.declared.Refusal.{Refusal};
+ghost use Rattle.image.specs.Format.{max-capture};
+ghost use Rattle.image.specs.Refusals.{image-refusal, capture-refusal};
+ghost use Rattle.refusal.specs.First.{refusal};
 ghost use Rattle.simulator.specs.declared.Judged.the-variants.{Refused};
 ghost use Rattle.chain.specs.Chain.{start-in, environment-by};
 ghost use Rattle.simulator.specs.Calls.{cells-needed, needs, Judgement-right, Judge-says};
-ghost use Rattle.simulator.specs.Checked.{Checked, Cleared, Sized};
+ghost use Rattle.simulator.specs.code.Checked.{Checked, Cleared, Sized};
 
 // The start state, from the image's counts and finals and the capture's length.
 pub fn start(sizes: Sizes, finals: u32) -> JudgeState
@@ -133,7 +134,8 @@ fn judge_sized(
     work: &mut [u32],
 ) -> Judged
     requires { ⌜ Sized (now image) (now capture) cells ⌝ }
-    ensures { λ r. ⌜ Judge-says (now (image .entry)) (now (capture .entry)) r (now (notes .entry)) (now (notes .exit)) (now (work .entry)) (now (work .exit)) ⌝ }
+    ensures { λ r. ⌜ Judge-says (now (image .entry)) (now (capture .entry)) r
+        (now (notes .entry)) (now (notes .exit)) (now (work .entry)) (now (work .exit)) ⌝ }
 {
     if notes.len() < cells {
         return refused(8, cells);
@@ -147,7 +149,8 @@ fn judge_sized(
 
 // Judges a capture by an image: verdict, readings and end configuration, with the notes of every configuration in the lent cells, or a refusal.
 pub fn judge(image: &[u8], capture: &[u8], notes: &mut [u32], work: &mut [u32]) -> Judged
-    ensures { λ r. ⌜ Judge-says (now (image .entry)) (now (capture .entry)) r (now (notes .entry)) (now (notes .exit)) (now (work .entry)) (now (work .exit)) ⌝ }
+    ensures { λ r. ⌜ Judge-says (now (image .entry)) (now (capture .entry)) r
+        (now (notes .entry)) (now (notes .exit)) (now (work .entry)) (now (work .exit)) ⌝ }
 {
     let needs = cells(image, capture.len());
     match needs {

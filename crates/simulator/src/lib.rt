@@ -2,8 +2,8 @@
 pub mod judge;
 
 use machine::Config;
-use machine::Refusal;
 use machine::Verdict;
+use refusal::Refusal;
 
 // What judging comes to: the run's verdict, how many configurations it enters, and its end configuration.
 pub struct Judgement {

@@ -7,7 +7,7 @@ use native.Mathlib.Omega.{arith}
 use lib.Dec.{lit≤}
 use lib.ListN.{length, length-append}
 use Rattle.machine.specs.declared.Config.{Config}
-use Rattle.machine.specs.declared.Refusal.{Refusal}
+use Rattle.refusal.specs.declared.Refusal.{Refusal}
 use Rattle.machine.specs.declared.Verdict.{Verdict}
 use Rattle.machine.specs.declared.Verdict.the-variants.{Accepted, Ended, Stuck, Looping}
 use Rattle.text.specs.Line.{line-feed, decimal, field, config-fields, verdict-word, refused-word, refusal-line, answer-line, max-line}

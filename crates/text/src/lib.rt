@@ -1,7 +1,7 @@
 // The answer's line as bytes, written into a buffer one byte after the other as far as there is room. Each function takes the place to go on at, and answers the next one.
 use machine::Config;
-use machine::Refusal;
 use machine::Verdict;
+use refusal::Refusal;
 ghost use mathlib.Core.List.{_∷_, []};
 ghost use Rattle.text.specs.Line.{Lined, decimal, field, verdict-word, refusal-line, answer-line};
 ghost use Rattle.text.specs.code.Writing.{Adds, Adds-config};

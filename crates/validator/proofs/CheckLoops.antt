@@ -6,13 +6,14 @@ use Prim.Native.Nat.{ℕ, suc, _+_, _*_, _-_, _<_, _≤_}
 use native.Mathlib.Omega.{arith}
 use lib.ListN.{length}
 use borrow.Author.Tests.{le-leb, lt-leb}
-use Rattle.machine.specs.declared.Selector.{Selector}
-use Rattle.machine.specs.Format
+use Rattle.image.specs.declared.Selector.{Selector}
+use Rattle.image.specs.Format
 use Rattle.codec.specs.Bytes.{byte}
-use Rattle.machine.specs.Image.{classes, symbols, rule-from}
-use Rattle.machine.specs.Refusals.{refusal, fine, map-from, rule-bad, index-class, rule-count, rules-refusal-from}
-use Rattle.machine.specs.code.Counting.{first-selector, next-selector, Selects, Counts-on}
-use Rattle.machine.proofs.CountingOn.{selects-first, selects-next, class-of, counts-on}
+use Rattle.image.specs.Image.{classes, symbols, rule-from}
+use Rattle.refusal.specs.First.{refusal, no-refusal}
+use Rattle.image.specs.Refusals.{map-from, rule-bad, index-class, rule-count, rules-refusal-from}
+use Rattle.image.specs.code.Counting.{first-selector, next-selector, Selects, Counts-on}
+use Rattle.image.proofs.CountingOn.{selects-first, selects-next, class-of, counts-on}
 
 -- THE CLASS MAP, with the bytes from i on still to be checked
 map-refused : (k i : ℕ) (bs : List ℕ) → classes bs ≤ byte bs i → map-from (suc k) i bs ≡ refusal 5 i
@@ -23,7 +24,7 @@ map-passed : (k i : ℕ) (bs : List ℕ) → byte bs i < classes bs → map-from
 unfolding map-from
 map-passed k i bs h = simp (lt-leb (classes bs) (byte bs i) h)
 
-map-empty : (i : ℕ) (bs : List ℕ) → map-from 0 i bs ≡ fine
+map-empty : (i : ℕ) (bs : List ℕ) → map-from 0 i bs ≡ no-refusal
 unfolding map-from
 map-empty i bs = refl
 
@@ -44,7 +45,7 @@ map-next bs at e h good =
     ∙ ap (λ (k : ℕ). map-from k (suc at) bs) less
     ∙ ap (λ (i : ℕ). map-from (Format.rules-offset - (at + 1)) i bs) further
 
-pub map-end : (bs : List ℕ) (at : ℕ) → Map-left bs at → Format.rules-offset ≤ at → fine ≡ map-from Format.map-length Format.map-offset bs
+pub map-end : (bs : List ℕ) (at : ℕ) → Map-left bs at → Format.rules-offset ≤ at → no-refusal ≡ map-from Format.map-length Format.map-offset bs
 map-end bs at e h =
     let nothing : Format.rules-offset - at ≡ 0 = omega arith in
     sym (e ∙ ap (λ (k : ℕ). map-from k at bs) nothing ∙ map-empty at bs)
@@ -70,7 +71,7 @@ rules-passed :
 unfolding rules-refusal-from
 rules-passed n i bs e = simp e
 
-rules-empty : (i : ℕ) (bs : List ℕ) → rules-refusal-from 0 i bs ≡ fine
+rules-empty : (i : ℕ) (bs : List ℕ) → rules-refusal-from 0 i bs ≡ no-refusal
 unfolding rules-refusal-from
 rules-empty i bs = refl
 
@@ -99,7 +100,7 @@ module _ (bs : List ℕ) (s : Selector) (at : ℕ) (w : Rules-left bs s at) (lon
       rule-bad bs (index-class bs (w .index)) (rule-from bs (Format.rules-offset + Format.rule-length * w .index)) ≡ t
   at-index t e = rw (index-class-is bs s at w, ← w .at-is) (sym e)
 
-  pub rules-end : length bs ≤ at → fine ≡ rules-refusal-from (rule-count bs) 0 bs
+  pub rules-end : length bs ≤ at → no-refusal ≡ rules-refusal-from (rule-count bs) 0 bs
   rules-end h =
       let nothing : w .left ≡ 0 = omega arith in
       sym (w .same ∙ ap (λ (n : ℕ). rules-refusal-from n (w .index) bs) nothing ∙ rules-empty (w .index) bs)

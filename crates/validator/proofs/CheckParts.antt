@@ -9,7 +9,7 @@ use lib.Dec.{ltb, eqb}
 use borrow.Author.Tests.{ltb-true, ltb-false, eq-eqb, ne-eqb}
 use Rattle.codec.specs.declared.Pair.{Pair}
 use Rattle.codec.specs.Numbers.{u32-at, pair-at}
-use Rattle.machine.specs.Refusals.{pair-is}
+use Rattle.image.specs.Refusals.{pair-is}
 
 -- nothing is left of a number over a larger one, and only then
 pub no-quotient : (n m : ℕ) → 0 < m → eqb (n / m) 0 ≡ ltb n m

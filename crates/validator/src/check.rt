@@ -2,36 +2,37 @@
 use crate::rule_check::rules;
 use codec::read_pair;
 use codec::read_u32;
-use machine::Checked;
-use machine::Refusal;
-use machine::format::CLASSES_OFFSET;
-use machine::format::COUNTS_LENGTH;
-use machine::format::COUNTS_OFFSET;
-use machine::format::COUNTS_PAIR;
-use machine::format::FINALS_OFFSET;
-use machine::format::MAP_LENGTH;
-use machine::format::MAP_OFFSET;
-use machine::format::MAP_PAIR;
-use machine::format::MAX_CAPTURE;
-use machine::format::MAX_CLASSES;
-use machine::format::MAX_STATES;
-use machine::format::MAX_SYMBOLS;
-use machine::format::RULE_LENGTH;
-use machine::format::RULES_OFFSET;
-use machine::format::RULES_PAIR;
-use machine::format::RULES_SIZE;
-use machine::format::STATES_OFFSET;
-use machine::format::SYMBOLS_OFFSET;
-use machine::format::ZERO_OFFSET;
+use image::format::CLASSES_OFFSET;
+use image::format::COUNTS_LENGTH;
+use image::format::COUNTS_OFFSET;
+use image::format::COUNTS_PAIR;
+use image::format::FINALS_OFFSET;
+use image::format::MAP_LENGTH;
+use image::format::MAP_OFFSET;
+use image::format::MAP_PAIR;
+use image::format::MAX_CAPTURE;
+use image::format::MAX_CLASSES;
+use image::format::MAX_STATES;
+use image::format::MAX_SYMBOLS;
+use image::format::RULE_LENGTH;
+use image::format::RULES_OFFSET;
+use image::format::RULES_PAIR;
+use image::format::RULES_SIZE;
+use image::format::STATES_OFFSET;
+use image::format::SYMBOLS_OFFSET;
+use image::format::ZERO_OFFSET;
+use refusal::Checked;
+use refusal::Refusal;
 ghost use mathlib.Core.Path.{_≡_};
 ghost use mathlib.Core.Bool.{cond};
 ghost use Prim.Native.Nat.{_+_, _*_, _^_, _<_, _≤_};
 ghost use lib.Dec.{ltb};
 ghost use lib.ListN.{length};
 ghost use Rattle.codec.specs.Numbers.{pair-width};
-ghost use Rattle.machine.specs.Format.{map-offset, map-length, rules-offset, max-states};
-ghost use Rattle.machine.specs.Refusals.{refusal, fine, pair-is, directory as directory-of, count-wrong, counts as counts-of, map-from, rule-count, body-refusal, image-refusal, capture-refusal};
-ghost use Rattle.machine.specs.Calls.{checked};
+ghost use Rattle.image.specs.Format.{map-offset, map-length, rules-offset, max-states};
+ghost use Rattle.refusal.specs.First.{refusal, no-refusal};
+ghost use Rattle.image.specs.Refusals.{pair-is, directory as directory-of, count-wrong, counts as counts-of, map-from, rule-count, body-refusal, image-refusal, capture-refusal};
+ghost use Rattle.refusal.specs.Checking.{checked};
 ghost use Rattle.validator.specs.code.Checking.{Counts-checked};
 
 // Whether the directory's pair at a place is this offset and length.
@@ -47,7 +48,7 @@ fn pair_is(image: &[u8], at: usize, offset: usize, long: usize) -> bool
 
 // A refusal, or number 0 where a test is passed.
 fn refuse_unless(right: bool, number: u32, place: usize) -> Refusal
-    ensures { λ r. ⌜ r ≡ cond right fine (refusal number place) ⌝ }
+    ensures { λ r. ⌜ r ≡ cond right no-refusal (refusal number place) ⌝ }
 {
     if right {
         Refusal {

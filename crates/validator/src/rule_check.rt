@@ -1,24 +1,24 @@
 // The check of an image's rules: refusal 6. Class by class, since a move is bad only on a marker.
-use machine::Refusal;
-use machine::counting;
-use machine::format::CLASSES_OFFSET;
-use machine::format::KIND_NONE;
-use machine::format::KIND_POP;
-use machine::format::MOVE_LEFT;
-use machine::format::MOVE_RIGHT;
-use machine::format::POP_RETURN;
-use machine::format::RULE_LENGTH;
-use machine::format::RULES_OFFSET;
-use machine::format::STATES_OFFSET;
-use machine::format::SYMBOLS_OFFSET;
+use image::counting;
+use image::format::CLASSES_OFFSET;
+use image::format::DIRECTION_LEFT;
+use image::format::DIRECTION_RIGHT;
+use image::format::KIND_NONE;
+use image::format::KIND_POP;
+use image::format::POP_RETURN;
+use image::format::RULE_LENGTH;
+use image::format::RULES_OFFSET;
+use image::format::STATES_OFFSET;
+use image::format::SYMBOLS_OFFSET;
+use refusal::Refusal;
 ghost use mathlib.Core.Path.{_≡_};
 ghost use mathlib.Core.Bool.{not, _&&_, _||_};
 ghost use Prim.Native.Nat.{_+_, _*_, _<_, _≤_};
 ghost use lib.Dec.{eqb, ltb};
 ghost use lib.ListN.{length};
-ghost use Rattle.machine.specs.Format.{map-offset, pop-return};
-ghost use Rattle.machine.specs.Image.{rule-from};
-ghost use Rattle.machine.specs.Refusals.{move-off, rule-bad, rules-refusal-from, rule-count};
+ghost use Rattle.image.specs.Format.{map-offset, pop-return};
+ghost use Rattle.image.specs.Image.{rule-from};
+ghost use Rattle.image.specs.Refusals.{move-off, rule-bad, rules-refusal-from, rule-count};
 ghost use Rattle.validator.specs.code.Checking.{Rule-inside, Length-checked};
 
 // Whether a rule of no kind says anything.
@@ -51,11 +51,11 @@ fn move_off(image: &[u8], class: u32, direction: u8) -> bool
 {
     let left = image[CLASSES_OFFSET] as u32;
     if class == left {
-        return direction == MOVE_LEFT;
+        return direction == DIRECTION_LEFT;
     }
     let right = left + 1;
     if class == right {
-        return direction == MOVE_RIGHT;
+        return direction == DIRECTION_RIGHT;
     }
     false
 }
@@ -86,7 +86,7 @@ fn rule_bad(image: &[u8], at: usize, class: u32) -> bool
     if symbols <= symbol {
         return true;
     }
-    if MOVE_LEFT < direction {
+    if DIRECTION_LEFT < direction {
         return true;
     }
     move_off(image, class, direction)

@@ -1,6 +1,6 @@
 -- `answer::answer_planned` meets its contract: refused with nothing written, or told. Assumes nothing.
 use mathlib.Core.Path.{sym, ap, _∙_}
-use Rattle.machine.specs.declared.Refusal.{Refusal}
+use Rattle.refusal.specs.declared.Refusal.{Refusal}
 use Rattle.answer.proofs.Answering.{parts-refused, parts-judged}
 use borrow.Author.Needs.{needs}
 use Rattle.answer.proofs.answer_planned.Statement.{statement}
@@ -29,7 +29,7 @@ build-and-judge-requires c κs =
     let checked = test .before .before in
     let earlier = checked .before .before .before .before in
     let start = earlier .before .before .before in
-    record { planned = start .pre; fine = ap (λ (f : Refusal). f .number) (sym (checked .lent-refusal .ensures)) ∙ test .if1 .left }
+    record { planned = start .pre; no-refusal = ap (λ (f : Refusal). f .number) (sym (checked .lent-refusal .ensures)) ∙ test .if1 .left }
 
 put-judgement-requires : tie.Need-put-judgement-requires
 put-judgement-requires c κs = search needs

@@ -2,7 +2,7 @@
 use mathlib.Core.Path.{_∙_}
 use Prim.Native.Nat.{_-_}
 use borrow.Author.Needs.{needs}
-use Rattle.machine.specs.Image.{machine}
+use Rattle.image.specs.Image.{machine}
 use Rattle.interpreter.proofs.MachineLaws.{image-long}
 use Rattle.interpreter.proofs.WalkLaws.{Walked, walk-starts, goes-on, walks-on, walks-less, answers}
 use Rattle.interpreter.proofs.run.Statement.{statement}

@@ -8,14 +8,14 @@ use lib.ListN.{length, getD, set}
 use Rattle.machine.specs.declared.Config.{Config}
 use Rattle.machine.specs.declared.Action.{Action}
 use Rattle.machine.specs.declared.Action.the-variants.{Stop, Change, Push, Pop}
-use Rattle.machine.specs.declared.Sizes.{Sizes}
+use Rattle.image.specs.declared.Sizes.{Sizes}
 use Rattle.machine.specs.declared.Halt.the-variants.{Over, Stopped}
-use Rattle.machine.specs.Run.{Machine, There, Entry, entry, Instant, config, returned, start}
-use Rattle.machine.specs.Format
+use Rattle.machine.specs.Run.{Machine, Valid-config, Entry, entry, Description, config, returned, start}
+use Rattle.image.specs.Format
 use Rattle.codec.specs.Numbers.{u32-at}
-use Rattle.machine.specs.Image.{sizes-of, action, machine}
+use Rattle.image.specs.Image.{sizes-of, action, machine}
 use Rattle.machine.specs.Verdicts.{over-base}
-use Rattle.machine.specs.Refusals.{Unrefused}
+use Rattle.image.specs.Refusals.{Unrefused}
 use Rattle.interpreter.specs.declared.Exit.{Exit}
 use Rattle.interpreter.specs.declared.Exit.the-variants.{Halted, Spent, Deep}
 use Rattle.interpreter.specs.declared.RunState.{RunState}
@@ -38,8 +38,8 @@ stack-of zero ks = []
 stack-of (suc n) ks = entry (getD ks n 0 % cell-symbols) (getD ks n 0 / cell-symbols) ∷ stack-of n ks
 
 -- the instant of a run that a state of the code and the cells stand for; the top entry is in the state
-abbrev pub instant-of : RunState → (cells : List ℕ) → Instant
-instant-of s ks = over-base (s .at) (s .pointer) (stack-of (s .below) ks)
+abbrev pub description-of : RunState → (cells : List ℕ) → Description
+description-of s ks = over-base (s .at) (s .pointer) (stack-of (s .below) ks)
 
 abbrev pub run-state : Config → (pointer below steps : ℕ) → RunState
 run-state c i d n = record { at = c; pointer = i; below = d; steps = n }
@@ -96,7 +96,7 @@ cells-by b s ks a = cond (eqb (s .steps) b) ks (cells-taken s ks a)
 
 -- WHAT A STEP NEEDS: the configuration is one of the machine's, the stack fits the cells, and the cells in use hold entries of the machine's
 pub record Stack-ready (M : Machine) (s : RunState) (ks : List ℕ) : Type 0 where
-  pub there : There M (s .at)
+  pub there : Valid-config M (s .at)
   pub pointer-below : s .pointer < M .places
   pub room : s .below < length ks
   pub symbols-below : (i : ℕ) → i < s .below → getD ks i 0 % cell-symbols < M .symbols

@@ -3,9 +3,9 @@ use mathlib.Core.Path.{_≡_}
 use mathlib.Core.List.{List}
 use Prim.Native.Nat.{ℕ, _+_, _*_, _<_, _≤_}
 use lib.ListN.{length}
-use Rattle.machine.specs.Format
-use Rattle.machine.specs.Image.{symbols}
-use Rattle.machine.specs.Refusals.{rule-count}
+use Rattle.image.specs.Format
+use Rattle.image.specs.Image.{symbols}
+use Rattle.image.specs.Refusals.{rule-count}
 
 -- after the counts: they are there, and there is a symbol
 pub record Counts-checked (image : List ℕ) : Type 0 where

@@ -25,7 +25,11 @@ refused-requires-3 : tie.Need-refused-requires-3
 refused-requires-3 c κs = search needs
 
 returns-3 : tie.Need-returns-3
-returns-3 c = c .refused3 .ensures ∙ sym (first-refused _ (c .before .before .before .before .if1 .left) (c .before .before .before .if2 .left) (sym (c .before .before .first-pair-right .ensures) ∙ not-true _ (c .before .if3 .taken)))
+returns-3 c =
+    let at-first = c .before .before in
+    let lengths = at-first .before in
+    let wrong = sym (at-first .first-pair-right .ensures) ∙ not-true _ (c .before .if3 .taken) in
+    c .refused3 .ensures ∙ sym (first-refused _ (lengths .before .if1 .left) (lengths .if2 .left) wrong)
 
 second-pair-right-requires : tie.Need-second-pair-right-requires
 second-pair-right-requires c κs = search needs
@@ -34,10 +38,22 @@ refused-requires-4 : tie.Need-refused-requires-4
 refused-requires-4 c κs = search needs
 
 returns-4 : tie.Need-returns-4
-returns-4 c = c .refused4 .ensures ∙ sym (second-refused _ (c .before .before .before .before .before .before .if1 .left) (c .before .before .before .before .before .if2 .left) (sym (c .before .before .before .before .first-pair-right .ensures) ∙ not-false _ (c .before .before .before .if3 .left)) (sym (c .before .before .second-pair-right .ensures) ∙ not-true _ (c .before .if4 .taken)))
+returns-4 c =
+    let at-second = c .before .before in
+    let at-first = at-second .before .before in
+    let lengths = at-first .before in
+    let right = sym (at-first .first-pair-right .ensures) ∙ not-false _ (at-second .before .if3 .left) in
+    let wrong = sym (at-second .second-pair-right .ensures) ∙ not-true _ (c .before .if4 .taken) in
+    c .refused4 .ensures ∙ sym (second-refused _ (lengths .before .if1 .left) (lengths .if2 .left) right wrong)
 
 returns-5 : tie.Need-returns-5
-returns-5 c = sym (not-refused _ (c .before .before .before .before .before .if1 .left) (c .before .before .before .before .if2 .left) (sym (c .before .before .before .first-pair-right .ensures) ∙ not-false _ (c .before .before .if3 .left)) (sym (c .before .second-pair-right .ensures) ∙ not-false _ (c .if4 .left)))
+returns-5 c =
+    let at-second = c .before in
+    let at-first = at-second .before .before in
+    let lengths = at-first .before in
+    let first = sym (at-first .first-pair-right .ensures) ∙ not-false _ (at-second .before .if3 .left) in
+    let second = sym (at-second .second-pair-right .ensures) ∙ not-false _ (c .if4 .left) in
+    sym (not-refused _ (lengths .before .if1 .left) (lengths .if2 .left) first second)
 
 pub input-refusal-spec : {M : Type 1} → statement M
 input-refusal-spec =

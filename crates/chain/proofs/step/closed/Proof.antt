@@ -1,13 +1,13 @@
 -- `chain::step::closed` meets its contract. Assumes nothing.
 use Rattle.chain.specs.Step
-use Rattle.machine.specs.Image.{machine}
+use Rattle.image.specs.Image.{machine}
 use Rattle.chain.proofs.StepSafe.{closed-resumes}
 use borrow.Author.Needs.{needs}
 use Rattle.chain.proofs.step.closed.Statement.{statement}
 use Rattle.chain.proofs.step.closed.Tie as tie
 use Rattle.chain.proofs.step.registers_of.Reads as registers-of-reads
 use Rattle.chain.proofs.step.resumed.Reads as resumed-reads
-use Rattle.machine.proofs.lookup.action_of.Reads as action-of-reads
+use Rattle.image.proofs.lookup.action_of.Reads as action-of-reads
 
 action-of-requires : tie.Need-action-of-requires
 action-of-requires c κs = search needs

@@ -2,7 +2,7 @@
 use Rattle.chain.specs.Step
 use Rattle.chain.proofs.StepSafe.{at-fits, note-there, first-ready, counts-some, closable}
 use mathlib.Core.Path.{sym, _∙_}
-use Rattle.machine.specs.Image.{machine}
+use Rattle.image.specs.Image.{machine}
 use Rattle.chain.proofs.LookBy.{look-unseen, look-open, look-closed}
 use borrow.Author.Needs.{needs}
 use Rattle.chain.proofs.step.look.Statement.{statement}
@@ -10,9 +10,9 @@ use Rattle.chain.proofs.step.look.Tie as tie
 use Rattle.chain.proofs.step.closed.Reads as closed-reads
 use Rattle.chain.proofs.step.first_look.Reads as first-look-reads
 use Rattle.chain.proofs.step.registers_of.Reads as registers-of-reads
-use Rattle.machine.proofs.lookup.action_of.Reads as action-of-reads
-use Rattle.machine.proofs.lookup.config_from.Reads as config-from-reads
-use Rattle.machine.proofs.lookup.number.Reads as number-reads
+use Rattle.image.proofs.lookup.action_of.Reads as action-of-reads
+use Rattle.image.proofs.lookup.config_from.Reads as config-from-reads
+use Rattle.image.proofs.lookup.number.Reads as number-reads
 use Rattle.machine.proofs.notes.note_of.Reads as note-of-reads
 
 number-requires : tie.Need-number-requires

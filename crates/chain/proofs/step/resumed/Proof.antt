@@ -6,7 +6,7 @@ use borrow.Author.Needs.{needs}
 use Rattle.chain.proofs.step.resumed.Statement.{statement}
 use Rattle.chain.proofs.step.resumed.Tie as tie
 use Rattle.chain.proofs.step.after_pop.Reads as after-pop-reads
-use Rattle.machine.proofs.lookup.returned.Reads as returned-reads
+use Rattle.image.proofs.lookup.returned.Reads as returned-reads
 
 enum-told : tie.Need-enum-told
 enum-told c = search needs

@@ -6,7 +6,7 @@ use borrow.Author.Needs.{needs}
 use Rattle.chain.proofs.step.unwind.Statement.{statement}
 use Rattle.chain.proofs.step.unwind.Tie as tie
 use Rattle.chain.proofs.step.unwound.Reads as unwound-reads
-use Rattle.machine.proofs.lookup.number.Reads as number-reads
+use Rattle.image.proofs.lookup.number.Reads as number-reads
 
 sub-k : tie.Need-sub-k
 sub-k c = search needs

@@ -1,7 +1,7 @@
 -- `chain::step::unwound` meets its contract. Assumes nothing.
 use Rattle.chain.specs.Step
 use borrow.Author.Tests.{eq-eqb, ne-eqb}
-use Rattle.machine.specs.Image.{machine}
+use Rattle.image.specs.Image.{machine}
 use mathlib.Core.Path.{sym, _∙_}
 use Rattle.chain.proofs.StepSafe.{counts-positive, unwind-pops}
 use borrow.Author.Needs.{needs}
@@ -10,7 +10,7 @@ use Rattle.chain.proofs.step.unwound.Tie as tie
 use Rattle.chain.proofs.step.after_pop.Reads as after-pop-reads
 use Rattle.chain.proofs.step.head_after.Reads as head-after-reads
 use Rattle.chain.proofs.step.registers_of.Reads as registers-of-reads
-use Rattle.machine.proofs.lookup.action_of.Reads as action-of-reads
+use Rattle.image.proofs.lookup.action_of.Reads as action-of-reads
 
 registers-of-requires : tie.Need-registers-of-requires
 registers-of-requires c κs = search needs

@@ -1,7 +1,7 @@
 -- `grammar::check::check_grammar` meets its contract: number 0 is no refusal. Assumes nothing.
 use borrow.Author.Tests.{eq-eqb, ne-eqb}
 use borrow.Author.Needs.{needs}
-use Rattle.machine.specs.Calls.{checked}
+use Rattle.refusal.specs.Checking.{checked}
 use Rattle.grammar.proofs.check.check_grammar.Statement.{statement}
 use Rattle.grammar.proofs.check.check_grammar.Tie as tie
 

@@ -49,10 +49,11 @@ both-zero-requires c κs = search needs
 returns-5 : tie.Need-returns-5
 unfolding rule-right
 returns-5 c =
+    let choice = c .before .before .before in
     simp (
-      eq-eqb _ _ (c .before .before .before .before .before .if1 .left),
-      ne-eqb _ _ (c .before .before .before .before .if2 .left),
-      ne-eqb _ _ (c .before .before .before .if3 .left),
+      eq-eqb _ _ (choice .before .before .if1 .left),
+      ne-eqb _ _ (choice .before .if2 .left),
+      ne-eqb _ _ (choice .if3 .left),
       ne-eqb _ _ (c .before .before .if4 .left),
       eq-eqb _ _ (c .before .if5 .taken),
     )
@@ -61,10 +62,11 @@ returns-5 c =
 returns-6 : tie.Need-returns-6
 unfolding rule-right
 returns-6 c =
+    let choice = c .before .before .before in
     simp (
-      eq-eqb _ _ (c .before .before .before .before .before .if1 .left),
-      ne-eqb _ _ (c .before .before .before .before .if2 .left),
-      ne-eqb _ _ (c .before .before .before .if3 .left),
+      eq-eqb _ _ (choice .before .before .if1 .left),
+      ne-eqb _ _ (choice .before .if2 .left),
+      ne-eqb _ _ (choice .if3 .left),
       ne-eqb _ _ (c .before .before .if4 .left),
       ne-eqb _ _ (c .before .if5 .left),
       ne-eqb _ _ (c .if6 .taken),
@@ -73,10 +75,11 @@ returns-6 c =
 returns-7 : tie.Need-returns-7
 unfolding rule-right
 returns-7 c =
+    let choice = c .before .before .before in
     simp (
-      eq-eqb _ _ (c .before .before .before .before .before .if1 .left),
-      ne-eqb _ _ (c .before .before .before .before .if2 .left),
-      ne-eqb _ _ (c .before .before .before .if3 .left),
+      eq-eqb _ _ (choice .before .before .if1 .left),
+      ne-eqb _ _ (choice .before .if2 .left),
+      ne-eqb _ _ (choice .if3 .left),
       ne-eqb _ _ (c .before .before .if4 .left),
       ne-eqb _ _ (c .before .if5 .left),
       eq-eqb _ _ (c .if6 .left),

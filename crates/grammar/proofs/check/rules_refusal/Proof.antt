@@ -50,10 +50,10 @@ right-requires c κs = tt
 returns : tie.Need-returns Inv-loop μ-loop
 unfolding rules kind-of b-of c-of
 returns c =
-    check-stop (c .before .before .before .before .before .before .before .before .before .args .grammar .now)
-    (c .before .before .before .before .before .before .before .loop .k)
-    (c .before .before .before .before .before .before .before .loop .inv)
-    (c .before .before .before .before .before .before .loop-test .taken)
+    let reads = c .before .before .before in
+    let test = reads .before .before .before in
+    let turn = test .before in
+    check-stop (turn .before .before .args .grammar .now) (turn .loop .k) (turn .loop .inv) (test .loop-test .taken)
     (sym (c .before .right .ensures) ∙ not-true _ (c .if1 .taken))
 
 add-k : tie.Need-add-k Inv-loop μ-loop
@@ -65,10 +65,10 @@ loop-less c = omega arith
 loop-again : tie.Need-loop-again Inv-loop μ-loop
 unfolding rules kind-of b-of c-of
 loop-again c =
-    check-next (c .before .before .before .before .before .before .before .before .before .args .grammar .now)
-    (c .before .before .before .before .before .before .before .loop .k)
-    (c .before .before .before .before .before .before .before .loop .inv)
-    (c .before .before .before .before .before .before .loop-test .taken)
+    let reads = c .before .before .before in
+    let test = reads .before .before .before in
+    let turn = test .before in
+    check-next (turn .before .before .args .grammar .now) (turn .loop .k) (turn .loop .inv) (test .loop-test .taken)
     (sym (c .before .right .ensures) ∙ not-false _ (c .if1 .left))
 
 returns-2 : tie.Need-returns-2 Inv-loop μ-loop

@@ -1,5 +1,5 @@
 -- `sejimakpu::reply::build_reply` meets its contract. Assumes nothing.
-use Rattle.grammar.specs.Replies.{of-built}
+use Rattle.builder.specs.Replies.{of-built}
 use borrow.Author.Needs.{needs}
 use Rattle.sejimakpu.proofs.reply.build_reply.Statement.{statement}
 use Rattle.sejimakpu.proofs.reply.build_reply.Tie as tie

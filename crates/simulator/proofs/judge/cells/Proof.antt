@@ -1,7 +1,7 @@
 -- `simulator::judge::cells` meets its contract. Assumes nothing.
 use Rattle.simulator.proofs.Needing.{needs-none, needs-cells, needs-as}
-use Rattle.machine.proofs.Refused.{capture-fine}
-use Rattle.machine.specs.declared.Refusal.{Refusal}
+use Rattle.image.proofs.CaptureRefused.{capture-fine}
+use Rattle.refusal.specs.declared.Refusal.{Refusal}
 use mathlib.Core.Path.{sym, ap, _∙_}
 use borrow.Author.Needs.{needs}
 use Rattle.simulator.proofs.judge.cells.Statement.{statement}

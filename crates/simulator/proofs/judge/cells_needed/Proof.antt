@@ -2,9 +2,9 @@
 use mathlib.Core.Path.{refl}
 use native.Mathlib.Omega.{arith}
 use borrow.Author.Needs.{needs}
-use Rattle.machine.proofs.Rules.{good}
-use Rattle.machine.specs.Format
-use Rattle.machine.specs.Image.{states, symbols}
+use Rattle.image.proofs.Rules.{good}
+use Rattle.image.specs.Format
+use Rattle.image.specs.Image.{states, symbols}
 use Rattle.simulator.specs.Calls.{cells-needed}
 use Rattle.simulator.proofs.Needing.{some-capture, few-places-of, few-cells-of}
 use Rattle.simulator.proofs.judge.cells_needed.Statement.{statement}

@@ -19,7 +19,7 @@ judge-sized-requires : tie.Need-judge-sized-requires
 judge-sized-requires c κs =
     let back4 = c .before .before .before .before in
     let told = needs-so-many _ _ _ (sym (back4 .before .cells .ensures) ∙ c .before .before .before .needs2 .given .1) in
-    record { fine = told .0; counted = told .1 }
+    record { no-refusal = told .0; counted = told .1 }
 
 returns : tie.Need-returns
 returns c =

@@ -2,7 +2,7 @@
 use Prim.Native.Nat.{_+_, _*_, _-_}
 use native.Mathlib.Omega.{arith}
 use borrow.Author.Needs.{needs}
-use Rattle.machine.specs.Image.{machine}
+use Rattle.image.specs.Image.{machine}
 use Rattle.machine.specs.Run.{how-many}
 use Rattle.simulator.proofs.JudgeMode.{not-done}
 use Rattle.simulator.proofs.JudgeLoop.{After-steps, long-image, at-start, ready, notes-kept, work-kept, next, few-steps, steps-room, right}

@@ -3,8 +3,8 @@ use mathlib.Core.Path.{_≡_, _∙_, ap}
 use Prim.Native.Nat.{ℕ, _+_, _*_}
 use borrow.Author.Tests.{eq-eqb, ne-eqb}
 use borrow.Author.Needs.{needs}
-use Rattle.machine.specs.Format
-use Rattle.machine.specs.Refusals.{or-else}
+use Rattle.image.specs.Format
+use Rattle.refusal.specs.First.{or-else}
 use Rattle.validator.proofs.check.body_refusal.Statement.{statement}
 use Rattle.validator.proofs.check.body_refusal.Tie as tie
 

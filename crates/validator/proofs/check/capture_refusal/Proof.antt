@@ -1,5 +1,5 @@
 -- `validator::check::capture_refusal` meets its contract. Assumes nothing.
-use Rattle.machine.proofs.Refused.{image-first, then-long, then-fine}
+use Rattle.image.proofs.CaptureRefused.{image-first, then-long, then-fine}
 use borrow.Author.Needs.{needs}
 use Rattle.validator.proofs.check.capture_refusal.Statement.{statement}
 use Rattle.validator.proofs.check.capture_refusal.Tie as tie

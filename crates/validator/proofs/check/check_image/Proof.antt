@@ -1,7 +1,7 @@
 -- `validator::check::check_image` meets its contract: number 0 is no refusal. Assumes nothing.
 use borrow.Author.Tests.{eq-eqb, ne-eqb}
 use borrow.Author.Needs.{needs}
-use Rattle.machine.specs.Calls.{checked}
+use Rattle.refusal.specs.Checking.{checked}
 use Rattle.validator.proofs.check.check_image.Statement.{statement}
 use Rattle.validator.proofs.check.check_image.Tie as tie
 

@@ -2,8 +2,8 @@
 use mathlib.Core.Path.{refl}
 use Prim.Native.Nat.{_-_, _≤_}
 use native.Mathlib.Omega.{arith}
-use Rattle.machine.specs.Format
-use Rattle.machine.specs.Image.{classes}
+use Rattle.image.specs.Format
+use Rattle.image.specs.Image.{classes}
 use Rattle.validator.proofs.CheckLoops.{Map-left, map-stop, map-next, map-end}
 use Rattle.validator.proofs.check.class_map.Statement.{statement}
 use Rattle.validator.proofs.check.class_map.Tie as tie

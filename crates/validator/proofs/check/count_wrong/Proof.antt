@@ -1,6 +1,6 @@
 -- `validator::check::count_wrong` meets its contract: 0, or more than the limit. Assumes nothing.
 use borrow.Author.Tests.{eq-eqb, ne-eqb}
-use Rattle.machine.specs.Refusals.{count-wrong}
+use Rattle.image.specs.Refusals.{count-wrong}
 use Rattle.validator.proofs.check.count_wrong.Statement.{statement}
 use Rattle.validator.proofs.check.count_wrong.Tie as tie
 

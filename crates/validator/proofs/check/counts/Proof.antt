@@ -2,10 +2,10 @@
 use mathlib.Core.Path.{sym, _∙_}
 use borrow.Author.Tests.{eq-eqb, ne-eqb}
 use borrow.Author.Needs.{needs}
-use Rattle.machine.specs.Format
-use Rattle.machine.specs.Refusals.{counts}
-use Rattle.machine.specs.Image.{states, classes, symbols}
-use Rattle.machine.proofs.CheckGood.{count-right}
+use Rattle.image.specs.Format
+use Rattle.image.specs.Refusals.{counts}
+use Rattle.image.specs.Image.{states, classes, symbols}
+use Rattle.image.proofs.CheckGood.{count-right}
 use Rattle.validator.proofs.check.counts.Statement.{statement}
 use Rattle.validator.proofs.check.counts.Tie as tie
 

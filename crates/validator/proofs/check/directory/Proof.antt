@@ -1,7 +1,7 @@
 -- `validator::check::directory` meets its contract: each return is the first pair that is wrong, or none. Assumes nothing.
 use borrow.Author.Tests.{lt-leb, le-leb}
 use borrow.Author.Needs.{needs}
-use Rattle.machine.specs.Refusals.{directory}
+use Rattle.image.specs.Refusals.{directory}
 use Rattle.validator.proofs.check.directory.Statement.{statement}
 use Rattle.validator.proofs.check.directory.Tie as tie
 

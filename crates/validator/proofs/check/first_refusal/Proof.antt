@@ -3,9 +3,10 @@ use mathlib.Core.Path.{sym, _∙_, ap}
 use native.Mathlib.Omega.{arith}
 use borrow.Author.Tests.{eq-eqb, ne-eqb, lt-ltb, le-ltb}
 use borrow.Author.Needs.{needs}
-use Rattle.machine.specs.declared.Refusal.{Refusal}
-use Rattle.machine.specs.Refusals.{or-else, image-refusal}
-use Rattle.machine.proofs.CheckGood.{some-symbol}
+use Rattle.refusal.specs.declared.Refusal.{Refusal}
+use Rattle.refusal.specs.First.{or-else}
+use Rattle.image.specs.Refusals.{image-refusal}
+use Rattle.image.proofs.CheckGood.{some-symbol}
 use Rattle.validator.proofs.check.first_refusal.Statement.{statement}
 use Rattle.validator.proofs.check.first_refusal.Tie as tie
 

@@ -2,9 +2,9 @@
 use mathlib.Core.Path.{refl}
 use native.Mathlib.Omega.{arith}
 use borrow.Author.Needs.{needs}
-use Rattle.machine.specs.Format
-use Rattle.machine.specs.Refusals.{rule-count}
-use Rattle.machine.specs.Image.{states, classes, symbols}
+use Rattle.image.specs.Format
+use Rattle.image.specs.Refusals.{rule-count}
+use Rattle.image.specs.Image.{states, classes, symbols}
 use Rattle.validator.proofs.CheckParts.{two-counts, three-counts}
 use Rattle.validator.proofs.check.rule_count.Statement.{statement}
 use Rattle.validator.proofs.check.rule_count.Tie as tie

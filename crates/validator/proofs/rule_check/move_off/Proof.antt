@@ -2,9 +2,9 @@
 use native.Mathlib.Omega.{arith}
 use borrow.Author.Tests.{eq-eqb, ne-eqb}
 use borrow.Author.Needs.{needs}
-use Rattle.machine.specs.Format
-use Rattle.machine.specs.Refusals.{move-off}
-use Rattle.machine.specs.Image.{classes}
+use Rattle.image.specs.Format
+use Rattle.image.specs.Refusals.{move-off}
+use Rattle.image.specs.Image.{classes}
 use Rattle.validator.proofs.CheckParts.{at-left}
 use Rattle.validator.proofs.rule_check.move_off.Statement.{statement}
 use Rattle.validator.proofs.rule_check.move_off.Tie as tie

@@ -1,8 +1,8 @@
 -- `validator::rule_check::rule_bad` meets its contract: each return is the case of the rule's kind. Assumes nothing.
 use borrow.Author.Tests.{eq-eqb, ne-eqb, lt-ltb, le-ltb, le-leb, lt-leb}
 use borrow.Author.Needs.{needs}
-use Rattle.machine.specs.Refusals.{rule-bad}
-use Rattle.machine.specs.Image.{states, symbols, rule-from}
+use Rattle.image.specs.Refusals.{rule-bad}
+use Rattle.image.specs.Image.{states, symbols, rule-from}
 use Rattle.validator.proofs.rule_check.rule_bad.Statement.{statement}
 use Rattle.validator.proofs.rule_check.rule_bad.Tie as tie
 

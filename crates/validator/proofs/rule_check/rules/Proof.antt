@@ -1,9 +1,9 @@
 -- `validator::rule_check::rules` meets its contract. Assumes nothing.
-use Rattle.machine.specs.Format
+use Rattle.image.specs.Format
 use Rattle.validator.proofs.CheckLoops.{Rules-left, rules-start, whole-rule, rules-count, rules-stop, rules-next, rules-end, left-as}
 use Rattle.validator.proofs.CheckParts.{three-counts}
-use Rattle.machine.specs.Refusals.{rule-count}
-use Rattle.machine.specs.Image.{states, classes, symbols}
+use Rattle.image.specs.Refusals.{rule-count}
+use Rattle.image.specs.Image.{states, classes, symbols}
 use lib.ListN.{length}
 use native.Mathlib.Omega.{arith}
 use Prim.Native.Nat.{_-_}

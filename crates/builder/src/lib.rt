@@ -1,0 +1,41 @@
+// Building: the image of a grammar. Its byte classes, the table of its rules, its plan, and its bytes.
+pub mod build;
+pub mod byte_classes;
+pub mod planning;
+pub mod rows;
+
+use refusal::Refusal;
+
+// The answer of building: the image's length.
+pub enum Built {
+    Refused(Refusal),
+    Image(usize),
+}
+
+// What building needs of a grammar: the count of classes, of the image's rules, and the image's length.
+pub struct Plan {
+    pub classes: u32,
+    pub count: u32,
+    pub long: usize,
+}
+
+// A rule of the image, as its four bytes.
+pub struct RuleBytes {
+    pub kind: u8,
+    pub state: u8,
+    pub symbol: u8,
+    pub direction: u8,
+}
+
+// The rules of one symbol in states work, ok and fail.
+pub struct RowBytes {
+    pub work: RuleBytes,
+    pub ok: RuleBytes,
+    pub fail: RuleBytes,
+}
+
+// The six rules of a grammar rule, by its first and second symbol.
+pub struct RowsBytes {
+    pub first: RowBytes,
+    pub second: RowBytes,
+}

@@ -1,0 +1,251 @@
+// The table: the six rules of a grammar rule, and which of them a symbol and a state select.
+use crate::RowBytes;
+use crate::RowsBytes;
+use crate::RuleBytes;
+use grammar::Expression;
+use image::format::DIRECTION_RIGHT;
+use image::format::DIRECTION_STAY;
+use image::format::KIND_CHANGE;
+use image::format::KIND_NONE;
+use image::format::KIND_POP;
+use image::format::KIND_PUSH;
+use image::format::POP_RETURN;
+use image::format::POP_STAY;
+ghost use mathlib.Core.Path.{_≡_};
+ghost use mathlib.Core.Bool.{_&&_, cond};
+ghost use Prim.Native.Nat.{_+_, _*_, _<_};
+ghost use lib.Dec.{eqb};
+ghost use Rattle.grammar.specs.Grammar.{max-rules};
+ghost use Rattle.builder.specs.Table.{push-first, to-second, pass-byte, pop-fail, rows, by-state, unruled as unruled-of, select as select-of, row-zero};
+ghost use Rattle.builder.specs.code.Writing.{rule-of, row-of, rows-of, Few};
+
+// The states.
+const START: u8 = 0;
+
+const WORK: u8 = 1;
+
+const OK: u8 = 2;
+
+const FAIL: u8 = 3;
+
+const DONE: u8 = 4;
+
+pub const STATES: u8 = 5;
+
+// The final ones: done alone, a bit for each state.
+pub const FINALS: u32 = 16;
+
+// The rules that do not depend on a grammar rule: none, and pops whose head stays or returns.
+pub const NO_RULE: RuleBytes = RuleBytes {
+    kind: KIND_NONE,
+    state: 0,
+    symbol: 0,
+    direction: 0,
+};
+
+const POP_OK: RuleBytes = RuleBytes {
+    kind: KIND_POP,
+    state: OK,
+    symbol: 0,
+    direction: POP_STAY,
+};
+
+const POP_FAIL: RuleBytes = RuleBytes {
+    kind: KIND_POP,
+    state: FAIL,
+    symbol: 0,
+    direction: POP_STAY,
+};
+
+const BACK_OK: RuleBytes = RuleBytes {
+    kind: KIND_POP,
+    state: OK,
+    symbol: 0,
+    direction: POP_RETURN,
+};
+
+const BACK_FAIL: RuleBytes = RuleBytes {
+    kind: KIND_POP,
+    state: FAIL,
+    symbol: 0,
+    direction: POP_RETURN,
+};
+
+const NO_ROW: RowBytes = RowBytes {
+    work: NO_RULE,
+    ok: NO_RULE,
+    fail: NO_RULE,
+};
+
+// A push of a rule's first symbol.
+fn push(k: u8) -> RuleBytes
+    requires { ⌜ k < max-rules ⌝ }
+    ensures { λ r. ⌜ rule-of r ≡ push-first k ⌝ }
+{
+    let symbol = 2 * k + 1;
+    RuleBytes {
+        kind: KIND_PUSH,
+        state: WORK,
+        symbol,
+        direction: DIRECTION_STAY,
+    }
+}
+
+// A change to a rule's second symbol.
+fn change(k: u8) -> RuleBytes
+    requires { ⌜ k < max-rules ⌝ }
+    ensures { λ r. ⌜ rule-of r ≡ to-second k ⌝ }
+{
+    let symbol = 2 * k + 2;
+    RuleBytes {
+        kind: KIND_CHANGE,
+        state: WORK,
+        symbol,
+        direction: DIRECTION_STAY,
+    }
+}
+
+// A byte that is in the range is passed; any other, and a marker, fails.
+fn one_byte(k: u8, inside: bool) -> RuleBytes
+    requires { ⌜ k < max-rules ⌝ }
+    ensures { λ r. ⌜ rule-of r ≡ cond inside (pass-byte k) pop-fail ⌝ }
+{
+    let symbol = 2 * k + 1;
+    if inside {
+        return RuleBytes {
+            kind: KIND_CHANGE,
+            state: OK,
+            symbol,
+            direction: DIRECTION_RIGHT,
+        };
+    }
+    POP_FAIL
+}
+
+// The six rules of rule k; inside says of a range whether the class is in it.
+pub fn rows_by(e: Expression, k: u8, inside: bool) -> RowsBytes
+    requires { ⌜ Few k e ⌝ }
+    ensures { λ r. ⌜ rows-of r ≡ rows e k inside ⌝ }
+{
+    match e {
+        Expression::Sequence(b, c) => RowsBytes {
+            first: RowBytes {
+                work: push(b),
+                ok: change(k),
+                fail: BACK_FAIL,
+            },
+            second: RowBytes {
+                work: push(c),
+                ok: POP_OK,
+                fail: BACK_FAIL, // back to before b
+            },
+        },
+        Expression::Choice(b, c) => RowsBytes {
+            first: RowBytes {
+                work: push(b),
+                ok: POP_OK,
+                fail: change(k),
+            },
+            second: RowBytes {
+                work: push(c),
+                ok: POP_OK,
+                fail: POP_FAIL,
+            },
+        },
+        Expression::Not(b) => RowsBytes {
+            first: RowBytes {
+                work: push(b),
+                ok: BACK_FAIL,
+                fail: BACK_OK,
+            },
+            second: NO_ROW,
+        },
+        Expression::Empty => RowsBytes {
+            first: RowBytes {
+                work: POP_OK,
+                ok: NO_RULE,
+                fail: NO_RULE,
+            },
+            second: NO_ROW,
+        },
+        Expression::Range(_, _) => RowsBytes {
+            first: RowBytes {
+                work: one_byte(k, inside),
+                ok: POP_OK,
+                fail: NO_RULE,
+            },
+            second: NO_ROW,
+        },
+    }
+}
+
+// Whether a grammar rule's symbols have no rule in a state: start and done.
+pub fn unruled(state: u32) -> bool
+    ensures { λ r. ⌜ r ≡ unruled-of state ⌝ }
+{
+    if state < WORK as u32 {
+        return true;
+    }
+    (FAIL as u32) < state
+}
+
+// The rule of a state, of those for work, ok and fail.
+fn by_state(state: u32, r: RowBytes) -> RuleBytes
+    ensures { λ answer. ⌜ rule-of answer ≡ by-state state (row-of r) ⌝ }
+{
+    if state == WORK as u32 {
+        return r.work;
+    }
+    if state == OK as u32 {
+        return r.ok;
+    }
+    if state == FAIL as u32 {
+        return r.fail;
+    }
+    NO_RULE
+}
+
+// The rule of a grammar rule's first or second symbol in a state.
+pub fn select(r: RowsBytes, second: bool, state: u32) -> RuleBytes
+    ensures { λ answer. ⌜ rule-of answer ≡ select-of (rows-of r) second state ⌝ }
+{
+    if second {
+        by_state(state, r.second)
+    } else {
+        by_state(state, r.first)
+    }
+}
+
+fn stands(state: u32, class: u32, at: u32, on: u32) -> bool
+    ensures { λ r. ⌜ r ≡ (eqb state at && eqb class on) ⌝ }
+{
+    if state != at {
+        return false;
+    }
+    class == on
+}
+
+// The rows of symbol 0: start on the left marker, ok on the right one.
+pub fn row_zero(classes: u32, state: u32, class: u32) -> RuleBytes
+    requires { ⌜ classes < 256 ⌝ }
+    ensures { λ r. ⌜ rule-of r ≡ row-zero classes state class ⌝ }
+{
+    if stands(state, class, START as u32, classes) {
+        return RuleBytes {
+            kind: KIND_PUSH,
+            state: WORK,
+            symbol: 1,
+            direction: DIRECTION_RIGHT,
+        };
+    }
+    let right = classes + 1;
+    if stands(state, class, OK as u32, right) {
+        return RuleBytes {
+            kind: KIND_POP,
+            state: DONE,
+            symbol: 0,
+            direction: POP_STAY,
+        };
+    }
+    NO_RULE
+}

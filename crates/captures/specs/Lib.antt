@@ -1,3 +1,0 @@
--- The ten worked captures.
-pub mod Captures
-pub mod ProgramLine

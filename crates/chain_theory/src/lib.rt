@@ -1,0 +1,1 @@
+// The theory of the judge's own steps: see proofs/. No code.

@@ -1,0 +1,43 @@
+-- `image::lookup::sizes_of` meets its contract: an image that is not refused has its counts. Assumes nothing.
+use native.Mathlib.Omega.{arith}
+use borrow.Author.Needs.{needs}
+use Rattle.image.specs.Image.{sizes-of, classes, symbols}
+use Rattle.image.proofs.Rules.{good}
+use Rattle.image.proofs.lookup.sizes_of.Statement.{statement}
+use Rattle.image.proofs.lookup.sizes_of.Tie as tie
+
+cast-n : tie.Need-cast-n
+cast-n c = search needs
+
+add-places : tie.Need-add-places
+add-places c = search needs
+
+shared-slice-read-wide : tie.Need-shared-slice-read-wide
+shared-slice-read-wide c = omega (arith, good (c .before .before .before .pre) .long)
+
+wide-requires : tie.Need-wide-requires
+wide-requires c κs = search needs
+
+shared-slice-read-wide-2 : tie.Need-shared-slice-read-wide-2
+shared-slice-read-wide-2 c =
+    let at-places = c .before .before in
+    omega (arith, good (at-places .before .before .before .pre) .long)
+
+wide-requires-2 : tie.Need-wide-requires-2
+wide-requires-2 c κs = search needs
+
+returns : tie.Need-returns
+unfolding sizes-of classes symbols
+returns c = simp (c .before .before .wide .ensures, c .wide2 .ensures)
+
+pub sizes-of-spec : {M : Type 1} → statement M
+sizes-of-spec =
+    tie.close
+    (tie.spec
+    cast-n
+    add-places
+    shared-slice-read-wide
+    wide-requires
+    shared-slice-read-wide-2
+    wide-requires-2
+    returns)

@@ -1,0 +1,1 @@
+// The theory of a grammar's machine: see proofs/. No code.

@@ -1,0 +1,3 @@
+-- The ten worked examples.
+pub mod Examples
+pub mod ProgramLine

@@ -1,0 +1,1 @@
+// The ten worked examples C1 to C10 of the scope, as one proved table over the definitions: specs/Examples.antt has it. No code.
