@@ -1,4 +1,4 @@
--- What a reader must believe of the program's answer: numbers and words as text, the line, the parts of the input, and what the call answers.
+-- What a reader must believe of the program's answer: the parts of the input, what the call answers and leaves, and what users get by the two calls.
 pub mod Input
 pub mod Calls
 pub mod Conditions

@@ -45,7 +45,7 @@ ends-leaves {M} {c = c} {d = d} x i base y at-y =
     let (p, r, a) = ends-pops x in
     popped-height M d i base a y (subst (λ (w : Description). step M w ≡ next y) same goes)
 
--- after t steps from an instant that m steps lead to
+-- after t steps from a description that m steps lead to
 pub since :
     (M : Machine) (x : Description) {y : Description} (m t : ℕ) (z : Description) → after m M x ≡ some y → m ≤ t → after t M x ≡ some z →
     after (t - m) M y ≡ some z

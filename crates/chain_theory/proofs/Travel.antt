@@ -30,7 +30,7 @@ abbrev pub Travels : Machine → (Config → Type 0) → ℕ → (c e : Config) 
 Travels M P n c e = (i : ℕ) (base : List Entry) → Arrival M P n (over-base c i base) base e
 
 module _ {M : Machine} {P : Config → Type 0} where
-  -- what is visited from an instant that x comes to, over a higher base, is visited from x
+  -- what is visited from a description that x comes to, over a higher base, is visited from x
   pub visit-later :
       (x : Description) {y : Description} (base ground : List Entry) (m k : ℕ) → after m M x ≡ some y → length base ≤ length ground → m ≤ k → Visit M P (k - m) y ground →
       Visit M P k x base

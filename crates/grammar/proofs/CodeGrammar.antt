@@ -1,4 +1,4 @@
--- The loops over a grammar's rules: what a turn leaves to be looked at. Assumes nothing.
+-- The loop over a grammar's rules that checks them: what a turn leaves to be looked at. Assumes nothing.
 use mathlib.Core.Path.{_≡_, refl, sym, ap, _∙_}
 use mathlib.Core.Bool.{Bool, true, false, _||_, not}
 use mathlib.Core.List.{List}

@@ -1,4 +1,4 @@
-// Grammars: parsing expression grammars of at most 31 rules, their check, and the image that is built of one.
+// Grammars: parsing expression grammars of at most 31 rules, and their check.
 pub mod check;
 
 // What a grammar rule is. Sequence, Choice and Not name other rules; a Range names its first and last byte.

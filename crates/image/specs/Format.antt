@@ -66,7 +66,7 @@ kind-push = 2
 abbrev pub kind-pop : ℕ
 kind-pop = 3
 
--- the directions of a change or a push
+-- the directions of a change or a push; document 01 says moves
 abbrev pub direction-stay : ℕ
 direction-stay = 0
 

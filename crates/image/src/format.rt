@@ -31,7 +31,7 @@ pub const SYMBOLS_OFFSET: usize = 26;
 
 pub const ZERO_OFFSET: usize = 27;
 
-// A rule is four bytes: kind, state, symbol, move.
+// A rule is four bytes: kind, state, symbol, direction.
 pub const RULE_LENGTH: usize = 4;
 
 // Its kinds.

@@ -1,2 +1,2 @@
--- What is refused is defined in machine/specs/Refusals.antt; here is only what the code of the check needs.
+-- What is refused is defined in image/specs/Refusals.antt; here is only what the code of the check needs.
 pub mod code

@@ -37,7 +37,7 @@ unfoldable pub stack-of : (count : ℕ) → List ℕ → List Entry
 stack-of zero ks = []
 stack-of (suc n) ks = entry (getD ks n 0 % cell-symbols) (getD ks n 0 / cell-symbols) ∷ stack-of n ks
 
--- the instant of a run that a state of the code and the cells stand for; the top entry is in the state
+-- the description of a run that a state of the code and the cells stand for; the top entry is in the state
 abbrev pub description-of : RunState → (cells : List ℕ) → Description
 description-of s ks = over-base (s .at) (s .pointer) (stack-of (s .below) ks)
 
