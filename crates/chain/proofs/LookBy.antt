@@ -1,7 +1,8 @@
--- What the code's look comes to, by the note that it finds: the step's definition on lists. Assumes nothing.
-use mathlib.Core.Path.{_≡_, sym, _∙_, ap}
+-- What the code's look comes to, by the note that it finds: the step's definition on lists. The code tests the cell; the definition goes by the note. Assumes nothing.
+use mathlib.Core.Path.{_≡_, refl, ap}
 use mathlib.Core.List.{List}
-use Prim.Native.Nat.{ℕ}
+use Prim.Native.Nat.{ℕ, zero, suc, _-_}
+use native.Mathlib.Omega.{arith}
 use lib.ListN.{getD}
 use Rattle.machine.specs.declared.Config.{Config}
 use Rattle.machine.specs.declared.Action.{Action}
@@ -15,6 +16,21 @@ use Rattle.chain.specs.declared.Environment.{Environment}
 use Rattle.chain.specs.declared.Registers.{Registers}
 use Rattle.chain.specs.Step.{with-cells, registers-of, number-in, config-in, closed, look, step-by-mode}
 use Rattle.chain.specs.code.StepParts.{First-looks, Steps-by}
+
+-- the note by the tests of its cell
+pub note-unseen : {v : ℕ} → v ≡ 0 → note-of v ≡ Unseen
+unfolding note-of
+note-unseen e = rw e refl
+
+pub note-open : {v : ℕ} → v ≡ 1 → note-of v ≡ Open
+unfolding note-of
+note-open e = rw e refl
+
+pub note-closed : (v : ℕ) → (v ≡ 0 → ⊥) → (v ≡ 1 → ⊥) → note-of v ≡ Closed (v - 2)
+unfolding note-of
+note-closed zero a b = absurd (a refl)
+note-closed (suc zero) a b = absurd (b refl)
+note-closed (suc (suc k)) a b = let e : k ≡ suc (suc k) - 2 = omega arith in ap Closed e
 
 module _
     {bs cs : List ℕ} {E : Environment} {r x : Registers} {ns ns′ ws ws′ : List ℕ} {k : ℕ} (number-is : k ≡ number-in E (r .at))

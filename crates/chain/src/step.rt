@@ -7,11 +7,9 @@ use image::lookup;
 use machine::Action;
 use machine::Config;
 use machine::Halt;
-use machine::Note;
 use machine::Verdict;
 use machine::halting::halt_verdict;
 use machine::halting::stop_verdict;
-use machine::notes::note_of;
 ghost use mathlib.Core.Path.{_≡_};
 ghost use Prim.Native.Nat.{_+_, _*_, _/_, _%_, _<_, _≤_};
 ghost use lib.ListN.{length};
@@ -211,24 +209,22 @@ fn look(
     let at = r.at;
     let k = lookup::number(e.sizes, at);
     let i = k as usize;
-    let note = note_of(notes[i]);
-    match note {
-        Note::Unseen => {
-            let action = lookup::action_of(image, capture, e.sizes, at);
-            first_look(e, r, k, action, notes, work)
-        }
-        Note::Open => registers_of(
+    let cell = notes[i];
+    if cell == 0 {
+        let action = lookup::action_of(image, capture, e.sizes, at);
+        return first_look(e, r, k, action, notes, work);
+    }
+    if cell == 1 {
+        return registers_of(
             Mode::Clear(Verdict::Looping),
             at,
             r.pushed,
             r.top,
             r.readings,
-        ),
-        Note::Closed(terminator) => {
-            let d = lookup::config_from(e.sizes, terminator);
-            closed(image, capture, e, r, d)
-        }
+        );
     }
+    let d = lookup::config_from(e.sizes, cell - 2);
+    closed(image, capture, e, r, d)
 }
 
 // What the newest open configuration's work cell makes of the registers. One rule is read at most, the terminator's.

@@ -126,10 +126,11 @@ pub fn step(
     ensures { λ r. ⌜ Plain-step-says (now (image .entry)) (now (capture .entry)) budget here (now (stack .entry)) r (now (stack .exit)) ⌝ }
 {
     let steps = here.steps;
-    let action = action_of(image, capture, sizes, here.at);
     if steps == budget {
-        let exit = spent_exit(action);
+        let halts = action_of(image, capture, sizes, here.at);
+        let exit = spent_exit(halts);
         return StepResult::Exited { exit, steps };
     }
+    let action = action_of(image, capture, sizes, here.at);
     take(action, finals, sizes.places, here, stack)
 }
