@@ -46,7 +46,7 @@ enum {
     SEJIMAKPU_WORK_SHORT = 9,        /* fewer work cells than configurations: the cells needed */
     SEJIMAKPU_STACK_EMPTY = 10,      /* no stack cell: 0 */
     SEJIMAKPU_GRAMMAR_LENGTH = 11,   /* a grammar of 0 or over 124 bytes, or with a part of a rule: its length */
-    SEJIMAKPU_GRAMMAR_RULE = 12,     /* a wrong grammar rule: the offset of the first */
+    SEJIMAKPU_GRAMMAR_RULE = 12,     /* a wrong grammar rule (a range with b above c is right): the offset of the first */
     SEJIMAKPU_IMAGE_BUFFER_SHORT = 13 /* an image buffer too short for the image: the bytes needed */
 };
 
@@ -177,6 +177,9 @@ static inline uint32_t sejimakpu_plain_run(const uint8_t *image, size_t image_le
 /*
  * Builds the image of a grammar at the start of a buffer: answer->count is its length, and later bytes stay. Refusals 11
  * to 13; a refused call changes no byte.
+ *
+ * A rule of kind 5 matches one byte from b to c. With b above c it always fails: it is legal, matches no byte anywhere,
+ * consumes nothing, and adds no class to the image.
  */
 static inline uint32_t sejimakpu_build(const uint8_t *grammar, size_t grammar_length,
                                        uint8_t *image, size_t image_length,

@@ -4,9 +4,10 @@ use mathlib.Core.Bool.{Bool, true, false, _&&_, cond}
 use mathlib.Core.List.{List}
 use Prim.Native.Nat.{ℕ, zero, suc, _+_, _-_, _<_, _≤_}
 use native.Mathlib.Nat.{zero-add, le-of-eq, le-trans}
+use native.Mathlib.Decide.{decLe}
 use native.Mathlib.Omega.{arith}
 use lib.Dec.{leb, eqb}
-use borrow.Author.Tests.{ltb-true, leb-true, leb-false, le-leb, lt-leb, lt-ltb, le-ltb, eq-eqb}
+use borrow.Author.Tests.{ltb-true, leb-true, leb-false, le-leb, lt-leb, lt-ltb, le-ltb, eq-eqb, ne-eqb}
 use Rattle.grammar.specs.declared.ByteRange.{ByteRange}
 use Rattle.grammar.specs.declared.ByteRange.the-variants.{Between, Nothing}
 use Rattle.grammar.specs.Grammar.{rules, expression, range-of}
@@ -15,7 +16,7 @@ use Rattle.builder.specs.Classes.{cuts-at, cut-from, cut, class-of, clas
 use Rattle.builder.specs.Table.{class-inside}
 use Rattle.grammar.proofs.Bools.{both-true, first-holds, second-holds}
 use Rattle.grammar.proofs.Matches.{matches}
-use Rattle.grammar.proofs.GrammarGood.{Ordered}
+use Rattle.grammar.proofs.Inverted.{none-between}
 
 -- CUTS: where a rule cuts, the grammar does
 cut-there : (n k j m v : ℕ) (gs : List ℕ) → k + j ≡ m → j < n → cuts-at (range-of (expression gs m)) v ≡ true → cut-from n k gs v ≡ true
@@ -30,13 +31,14 @@ pub cut-of-rule : (gs : List ℕ) (k v : ℕ) → k < rules gs → cuts-at (rang
 unfolding cut
 cut-of-rule gs k v h q = cut-there (rules gs) 0 k k v gs (zero-add k) h q
 
-cuts-low : (b c : ℕ) → cuts-at (Between b c) b ≡ true
+-- a range in order cuts at its first byte and after its last
+cuts-low : (b c : ℕ) → b ≤ c → cuts-at (Between b c) b ≡ true
 unfolding cuts-at
-cuts-low b c = first-holds (eqb b b) (eqb (c + 1) b) (eq-eqb b b refl)
+cuts-low b c h = rw (eq-eqb b b refl) (le-leb b c h)
 
-cuts-high : (b c : ℕ) → cuts-at (Between b c) (c + 1) ≡ true
+cuts-high : (b c : ℕ) → b ≤ c → cuts-at (Between b c) (c + 1) ≡ true
 unfolding cuts-at
-cuts-high b c = second-holds (eqb b (c + 1)) (eqb (c + 1) (c + 1)) (eq-eqb (c + 1) (c + 1) refl)
+cuts-high b c h = rw (ne-eqb b (c + 1) (λ e. omega arith), eq-eqb (c + 1) (c + 1) refl) (le-leb b c h)
 
 -- CLASSES GROW, strictly over a cut
 class-step : (gs : List ℕ) (v : ℕ) → class-of gs v ≤ class-of gs (suc v)
@@ -69,7 +71,7 @@ byte-class-below gs v h =
     omega arith
 
 -- A RANGE by classes
-module _ (gs : List ℕ) (k b c : ℕ) (there : k < rules gs) (is : range-of (expression gs k) ≡ Between b c) where
+module _ (gs : List ℕ) (k b c : ℕ) (there : k < rules gs) (is : range-of (expression gs k) ≡ Between b c) (order : b ≤ c) where
   low-end : (v : ℕ) → leb (class-of gs b) (class-of gs v) ≡ leb b v
   low-end v = go (leb b v) refl
     where
@@ -78,7 +80,7 @@ module _ (gs : List ℕ) (k b c : ℕ) (there : k < rules gs) (is : range-of (ex
       go false e =
           lt-leb _ _
           (class-apart gs v b (leb-false b v e)
-          (cut-of-rule gs k b there (subst (λ (x : ByteRange). cuts-at x b ≡ true) (sym is) (cuts-low b c))))
+          (cut-of-rule gs k b there (subst (λ (x : ByteRange). cuts-at x b ≡ true) (sym is) (cuts-low b c order))))
 
   high-end : (v : ℕ) → leb (class-of gs v) (class-of gs c) ≡ leb v c
   high-end v = go (leb v c) refl
@@ -86,7 +88,7 @@ module _ (gs : List ℕ) (k b c : ℕ) (there : k < rules gs) (is : range-of (ex
       over : class-of gs c < class-of gs (c + 1)
       over =
           class-apart gs c (c + 1) (omega arith)
-          (cut-of-rule gs k (c + 1) there (subst (λ (x : ByteRange). cuts-at x (c + 1) ≡ true) (sym is) (cuts-high b c)))
+          (cut-of-rule gs k (c + 1) there (subst (λ (x : ByteRange). cuts-at x (c + 1) ≡ true) (sym is) (cuts-high b c order)))
 
       go : (t : Bool) → leb v c ≡ t → leb (class-of gs v) (class-of gs c) ≡ t
       go true e = le-leb _ _ (class-monotone gs v c (leb-true v c e))
@@ -94,20 +96,34 @@ module _ (gs : List ℕ) (k b c : ℕ) (there : k < rules gs) (is : range-of (ex
           let l : c < v = leb-false v c e in
           lt-leb _ _ (le-trans over (class-monotone gs (c + 1) v (omega arith)))
 
-  pub class-in-range : b ≤ c → (v : ℕ) → class-in gs b c (class-of gs v) ≡ in-range b c v
+  class-in-order : (v : ℕ) → class-in gs b c (class-of gs v) ≡ in-range b c v
   unfolding class-in in-range
-  class-in-range h v = rw (le-leb b c h, low-end v, high-end v)
+  class-in-order v = rw (le-leb b c order, low-end v, high-end v)
+
+-- a range that is not in order has neither class nor byte
+class-in-none : (gs : List ℕ) (b c v : ℕ) → c < b → class-in gs b c (class-of gs v) ≡ in-range b c v
+unfolding class-in
+class-in-none gs b c v h = rw (lt-leb b c h) (sym (none-between b c v h))
+
+pub class-in-range :
+    (gs : List ℕ) (k b c : ℕ) → k < rules gs → range-of (expression gs k) ≡ Between b c → (v : ℕ) →
+    class-in gs b c (class-of gs v) ≡ in-range b c v
+class-in-range gs k b c there is v = go (decLe b c)
+  where
+    go : Dec (b ≤ c) → class-in gs b c (class-of gs v) ≡ in-range b c v
+    go (yes h) = class-in-order gs k b c there is h v
+    go (no h) = class-in-none gs b c v (omega arith)
 
 -- WHETHER A RULE HAS THE CLASS: a byte's class exactly if the rule matches the byte, and no marker's
 pub inside-byte :
-    (gs : List ℕ) (k v : ℕ) → k < rules gs → Ordered (range-of (expression gs k)) → v < 256 →
+    (gs : List ℕ) (k v : ℕ) → k < rules gs → v < 256 →
     class-inside gs (range-of (expression gs k)) (class-of gs v) ≡ matches (range-of (expression gs k)) v
-unfolding class-inside matches Ordered
-inside-byte gs k v there o h = go (range-of (expression gs k)) refl o
+unfolding class-inside matches
+inside-byte gs k v there h = go (range-of (expression gs k)) refl
   where
-    go : (x : ByteRange) → range-of (expression gs k) ≡ x → Ordered x → class-inside gs x (class-of gs v) ≡ matches x v
-    go Nothing e l = refl
-    go (Between b c) e l = rw (lt-ltb _ _ (byte-class-below gs v h)) (class-in-range gs k b c there e l v)
+    go : (x : ByteRange) → range-of (expression gs k) ≡ x → class-inside gs x (class-of gs v) ≡ matches x v
+    go Nothing e = refl
+    go (Between b c) e = rw (lt-ltb _ _ (byte-class-below gs v h)) (class-in-range gs k b c there e v)
 
 pub inside-below : (gs : List ℕ) (x : ByteRange) (k : ℕ) → class-inside gs x k ≡ true → k < class-count gs
 unfolding class-inside

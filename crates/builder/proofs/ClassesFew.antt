@@ -1,10 +1,10 @@
 -- There are few byte classes: a rule cuts at two values at most. Assumes nothing.
 use mathlib.Core.Path.{_≡_, refl, ap}
-use mathlib.Core.Bool.{Bool, true, false, _||_, cond}
+use mathlib.Core.Bool.{Bool, true, false, _&&_, _||_, cond}
 use mathlib.Core.List.{List}
 use Prim.Native.Nat.{ℕ, zero, suc, _+_, _*_, _<_, _≤_}
 use native.Mathlib.Omega.{arith}
-use lib.Dec.{eqb}
+use lib.Dec.{leb, eqb}
 use borrow.Author.Tests.{eqb-true, ne-eqb}
 use Rattle.grammar.specs.declared.ByteRange.{ByteRange}
 use Rattle.grammar.specs.declared.ByteRange.the-variants.{Between, Nothing}
@@ -25,13 +25,20 @@ bit-or true false = omega arith
 bit-or false true = omega arith
 bit-or false false = omega arith
 
+bit-or-and : (a b t : Bool) → bit ((a || b) && t) ≤ bit a + bit b
+bit-or-and true b true = omega arith
+bit-or-and true b false = omega arith
+bit-or-and false true true = omega arith
+bit-or-and false true false = omega arith
+bit-or-and false false t = omega arith
+
 counted-or :
-    (f g h : ℕ → Bool) → ((u : ℕ) → h u ≡ (f u || g u)) → (v : ℕ) → counted h v ≤ counted f v + counted g v
+    (f g h : ℕ → Bool) → ((u : ℕ) → bit (h u) ≤ bit (f u) + bit (g u)) → (v : ℕ) → counted h v ≤ counted f v + counted g v
 unfolding counted
 counted-or f g h e zero = omega arith
 counted-or f g h e (suc v) =
     let l : counted h v ≤ counted f v + counted g v = counted-or f g h e v in
-    let m : bit (h (suc v)) ≤ bit (f (suc v)) + bit (g (suc v)) = rw (e (suc v)) (bit-or (f (suc v)) (g (suc v))) in
+    let m : bit (h (suc v)) ≤ bit (f (suc v)) + bit (g (suc v)) = e (suc v) in
     omega arith
 
 counted-none : (f : ℕ → Bool) → ((u : ℕ) → f u ≡ false) → (v : ℕ) → counted f v ≡ 0
@@ -72,7 +79,7 @@ unfolding cuts-at
 cuts-most Nothing v = none-most (cuts-at Nothing) 2 (λ u. refl) v
 cuts-most (Between b c) v =
     let l : counted (cuts-at (Between b c)) v ≤ counted (eqb b) v + counted (eqb (c + 1)) v =
-    counted-or (eqb b) (eqb (c + 1)) (cuts-at (Between b c)) (λ u. refl) v
+    counted-or (eqb b) (eqb (c + 1)) (cuts-at (Between b c)) (λ u. bit-or-and (eqb b u) (eqb (c + 1) u) (leb b c)) v
     in
     omega (arith, counted-once b v, counted-once (c + 1) v)
 
@@ -82,7 +89,7 @@ cut-most zero k gs v = none-most (cut-from zero k gs) 0 (λ u. refl) v
 cut-most (suc n) k gs v =
     let x : ByteRange = range-of (expression gs k) in
     let l : counted (cut-from (suc n) k gs) v ≤ counted (cuts-at x) v + counted (cut-from n (suc k) gs) v =
-    counted-or (cuts-at x) (cut-from n (suc k) gs) (cut-from (suc n) k gs) (λ u. refl) v
+    counted-or (cuts-at x) (cut-from n (suc k) gs) (cut-from (suc n) k gs) (λ u. bit-or (cuts-at x u) (cut-from n (suc k) gs u)) v
     in
     let m : counted (cuts-at x) v ≤ 2 = cuts-most x v in
     let o : counted (cut-from n (suc k) gs) v ≤ 2 * n = cut-most n (suc k) gs v in

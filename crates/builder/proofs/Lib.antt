@@ -3,6 +3,7 @@ pub mod EachRow
 pub mod Classes
 pub mod ClassesFew
 pub mod RangeClasses
+pub mod InvertedRanges
 pub mod PartsMade
 pub mod BuiltImage
 pub mod BuiltRules

@@ -15,7 +15,7 @@ use Rattle.grammar.specs.declared.Expression.the-variants.{Sequence, Choice, No
 use Rattle.grammar.specs.Grammar.{rules, expression, range-of}
 use Rattle.builder.specs.Classes.{cuts-at, cut-from, cut, class-of, class-in}
 use Rattle.builder.specs.ClassMeaning.{Range-cut, Class-counts, Byte-of-class}
-use Rattle.grammar.proofs.Bools.{both-true, first-holds, second-holds}
+use Rattle.grammar.proofs.Bools.{both-true, both-hold, first-holds, second-holds}
 use Rattle.builder.proofs.Classes.{cut-of-rule, class-monotone}
 
 -- A RANGE HAS ITS BYTES' CLASSES: classes rise by one at most, so none is left out
@@ -66,18 +66,23 @@ either-true : (a b : Bool) → (a || b) ≡ true → (a ≡ true) ⊎ (b ≡ tru
 either-true true b e = inl refl
 either-true false b e = inr e
 
-ends-at : (b c u : ℕ) → cuts-at (Between b c) u ≡ true → (u ≡ b) ⊎ (u ≡ c + 1)
+ends-at : (b c u : ℕ) → cuts-at (Between b c) u ≡ true → ((u ≡ b) ⊎ (u ≡ c + 1)) × (b ≤ c)
 unfolding cuts-at
-ends-at b c u e = go (either-true (eqb b u) (eqb (c + 1) u) e)
+ends-at b c u e =
+    let (ends, order) = both-true (eqb b u || eqb (c + 1) u) (leb b c) e in
+    (go (either-true (eqb b u) (eqb (c + 1) u) ends), leb-true b c order)
   where
     go : (eqb b u ≡ true) ⊎ (eqb (c + 1) u ≡ true) → (u ≡ b) ⊎ (u ≡ c + 1)
     go (inl p) = inl (sym (eqb-true b u p))
     go (inr p) = inr (sym (eqb-true (c + 1) u p))
 
-cuts-end : (b c u : ℕ) → (u ≡ b) ⊎ (u ≡ c + 1) → cuts-at (Between b c) u ≡ true
+cuts-end : (b c u : ℕ) → (u ≡ b) ⊎ (u ≡ c + 1) → b ≤ c → cuts-at (Between b c) u ≡ true
 unfolding cuts-at
-cuts-end b c u (inl e) = first-holds (eqb b u) (eqb (c + 1) u) (eq-eqb b u (sym e))
-cuts-end b c u (inr e) = second-holds (eqb b u) (eqb (c + 1) u) (eq-eqb (c + 1) u (sym e))
+cuts-end b c u end order = both-hold (eqb b u || eqb (c + 1) u) (leb b c) (go end) (le-leb b c order)
+  where
+    go : (u ≡ b) ⊎ (u ≡ c + 1) → (eqb b u || eqb (c + 1) u) ≡ true
+    go (inl e) = first-holds (eqb b u) (eqb (c + 1) u) (eq-eqb b u (sym e))
+    go (inr e) = second-holds (eqb b u) (eqb (c + 1) u) (eq-eqb (c + 1) u (sym e))
 
 module _ (gs : List ℕ) (u : ℕ) where
   cut-of-expression : (k : ℕ) → k < rules gs → (x : Expression) → expression gs k ≡ x → cuts-at (range-of x) u ≡ true → Range-cut gs u
@@ -86,7 +91,9 @@ module _ (gs : List ℕ) (u : ℕ) where
   cut-of-expression k h (Choice b c) e q = absurd (let z : _≡_ {A = ℕ} 0 1 = cc in omega arith)
   cut-of-expression k h (Not b) e q = absurd (let z : _≡_ {A = ℕ} 0 1 = cc in omega arith)
   cut-of-expression k h Empty e q = absurd (let z : _≡_ {A = ℕ} 0 1 = cc in omega arith)
-  cut-of-expression k h (Range b c) e q = record { rule = k; low = b; high = c; there = h; is = e; at-end = ends-at b c u q }
+  cut-of-expression k h (Range b c) e q =
+      let (end, order) = ends-at b c u q in
+      record { rule = k; low = b; high = c; there = h; is = e; in-order = order; at-end = end }
 
   cut-among : (n k : ℕ) → n + k ≡ rules gs → cut-from n k gs u ≡ true → Range-cut gs u
   unfolding cut-from
@@ -106,7 +113,7 @@ module _ (gs : List ℕ) (u : ℕ) where
 
   pub cut-holds : Range-cut gs u → cut gs u ≡ true
   unfolding range-of
-  cut-holds x = cut-of-rule gs (x .rule) u (x .there) (rw (x .is) (cuts-end (x .low) (x .high) u (x .at-end)))
+  cut-holds x = cut-of-rule gs (x .rule) u (x .there) (rw (x .is) (cuts-end (x .low) (x .high) u (x .at-end) (x .in-order)))
 
 -- A CLASS COUNTS: one value more, with its cut or without
 counts-none : (gs : List ℕ) → Class-counts gs 0

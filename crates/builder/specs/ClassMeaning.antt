@@ -9,13 +9,14 @@ use Rattle.grammar.specs.declared.Expression.the-variants.{Range}
 use Rattle.grammar.specs.Grammar.{rules, expression}
 use Rattle.builder.specs.Classes.{class-of}
 
--- u is among the b and c + 1 of the ranges
+-- u is among the b and c + 1 of the ranges that match some byte
 pub record Range-cut (gs : List ℕ) (u : ℕ) : Type 0 where
   pub rule : ℕ
   pub low : ℕ
   pub high : ℕ
   pub there : rule < rules gs
   pub is : expression gs rule ≡ Range low high
+  pub in-order : low ≤ high
   pub at-end : (u ≡ low) ⊎ (u ≡ high + 1)
 
 -- A CLASS COUNTS: there is a list without repeats of exactly the cuts in 1..v, as long as v's class is high

@@ -1,4 +1,4 @@
--- Byte classes of a grammar: bytes that no range tells apart. A class begins at each cut, the first byte of a range or the one after its last. Assumes nothing: these are definitions.
+-- Byte classes of a grammar: bytes that no range tells apart. A class begins at each cut, the first byte of a range or the one after its last; a range that matches nothing has none. Assumes nothing: these are definitions.
 use mathlib.Core.Bool.{Bool, false, _&&_, _||_, cond}
 use mathlib.Core.List.{List}
 use Prim.Native.Nat.{ℕ, zero, suc, _+_}
@@ -7,10 +7,10 @@ use Rattle.grammar.specs.declared.ByteRange.{ByteRange}
 use Rattle.grammar.specs.declared.ByteRange.the-variants.{Between, Nothing}
 use Rattle.grammar.specs.Grammar.{rules, expression, range-of}
 
--- whether a range cuts at v
+-- whether a range cuts at v: at one of its two ends, if its first byte is not above its last
 unfoldable pub cuts-at : ByteRange → (v : ℕ) → Bool
 cuts-at Nothing v = false
-cuts-at (Between b c) v = eqb b v || eqb (c + 1) v
+cuts-at (Between b c) v = (eqb b v || eqb (c + 1) v) && leb b c
 
 -- whether a rule from k on cuts at v
 unfoldable pub cut-from : (left k : ℕ) → List ℕ → (v : ℕ) → Bool

@@ -5,28 +5,39 @@ use grammar::check::expression_of;
 use grammar::check::range_of;
 use image::format::MAP_OFFSET;
 ghost use mathlib.Core.Path.{_≡_};
-ghost use mathlib.Core.Bool.{cond};
+ghost use mathlib.Core.Bool.{cond, _||_};
 ghost use mathlib.Core.List.{_++_};
 ghost use Prim.Native.Nat.{_+_, _<_, _≤_};
+ghost use lib.Dec.{eqb};
 ghost use lib.ListN.{length, take, drop};
 ghost use Rattle.image.specs.Format.{map-offset, map-length, rules-offset};
 ghost use Rattle.grammar.specs.Grammar.{rules, expression, range-of};
 ghost use Rattle.builder.specs.Classes.{cuts-at, cut as cut-of, class-count as class-count-of};
 ghost use Rattle.builder.specs.Image.{map-made};
 
-// Whether a range begins at v, or ends before it.
-fn cuts_at(r: ByteRange, v: u32) -> bool
-    ensures { λ answer. ⌜ answer ≡ cuts-at r v ⌝ }
+// Whether v is b, or the value after c.
+fn is_end(b: u8, c: u8, v: u32) -> bool
+    ensures { λ r. ⌜ r ≡ (eqb b v || eqb (c + 1) v) ⌝ }
 {
-    let ByteRange::Between(b, c) = r else {
-        return false;
-    };
     let first = b as u32;
     if first == v {
         return true;
     }
     let after = c as u32 + 1;
     after == v
+}
+
+// Whether a range begins at v, or ends before it. One with its low byte above its high byte does neither; that is asked last, since most values are no end.
+fn cuts_at(r: ByteRange, v: u32) -> bool
+    ensures { λ answer. ⌜ answer ≡ cuts-at r v ⌝ }
+{
+    let ByteRange::Between(b, c) = r else {
+        return false;
+    };
+    if !is_end(b, c, v) {
+        return false;
+    }
+    b <= c
 }
 
 // Whether rule k cuts at v.

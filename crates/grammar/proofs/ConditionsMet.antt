@@ -11,7 +11,7 @@ use Rattle.refusal.specs.declared.Refusal.{Refusal}
 use Rattle.refusal.specs.First.{refusal, no-refusal}
 use Rattle.grammar.specs.Grammar.{max-rules, rules, kind-of, b-of, c-of, rule-right, grammar-rules-from, grammar-refusal}
 use Rattle.grammar.specs.Conditions.{Grammar-length-right, last-of, Grammar-rule-right, sequence-right, choice-right, not-right, empty-right, range-right, Grammar-rules-right, Grammar-right, First-wrong-rule, Grammar-row, unrefused-grammar, wrong-grammar-length, wrong-grammar-rule}
-use Rattle.refusal.proofs.Reflects.{Reflects, restated, equal, less, at-most, both, either, by-cases, Refuses, when-passed, when-refused, passing, refuses-as, unless, if-so, over, any-of}
+use Rattle.refusal.proofs.Reflects.{Reflects, restated, equal, less, both, either, by-cases, Refuses, when-passed, when-refused, passing, refuses-as, unless, if-so, over, any-of}
 use Rattle.refusal.proofs.Searching.{Looked, all-have, lacking, look, Search, none-found, first-found}
 use Rattle.refusal.proofs.Rows.{Some-row, Table, exactly, Check, checks}
 
@@ -30,11 +30,8 @@ module _ (gs : List ℕ) (k : ℕ) where
   abbrev None : Type 0
   None = (b-of gs k ≡ 0) × (c-of gs k ≡ 0)
 
-  abbrev Range : Type 0
-  Range = (kind-of gs k ≡ 5) × (b-of gs k ≤ c-of gs k)
-
   abbrev Other : Type 0
-  Other = (kind-of gs k ≡ 3 → One) × ((kind-of gs k ≡ 3 → ⊥) → (kind-of gs k ≡ 4 → None) × ((kind-of gs k ≡ 4 → ⊥) → Range))
+  Other = (kind-of gs k ≡ 3 → One) × ((kind-of gs k ≡ 3 → ⊥) → (kind-of gs k ≡ 4 → None) × ((kind-of gs k ≡ 4 → ⊥) → kind-of gs k ≡ 5))
 
   abbrev Named : Type 0
   Named = ((kind-of gs k ≡ 1) ⊎ (kind-of gs k ≡ 2) → Two) × (((kind-of gs k ≡ 1) ⊎ (kind-of gs k ≡ 2) → ⊥) → Other)
@@ -45,7 +42,7 @@ module _ (gs : List ℕ) (k : ℕ) where
       both (equal _ _)
       (by-cases (either (equal _ _) (equal _ _)) (both (less _ _) (less _ _))
       (by-cases (equal _ _) (both (less _ _) (equal _ _))
-      (by-cases (equal _ _) (both (equal _ _) (equal _ _)) (both (equal _ _) (at-most _ _)))))
+      (by-cases (equal _ _) (both (equal _ _) (equal _ _)) (equal _ _))))
 
   -- a kind that is neither 1 nor 2
   module _ {d : ℕ} (e : kind-of gs k ≡ d) (f : d ≡ 1 → ⊥) (g : d ≡ 2 → ⊥) where
@@ -62,7 +59,7 @@ module _ (gs : List ℕ) (k : ℕ) where
   by-kind : (last-of gs k ≡ 0) × Named → (d : ℕ) → kind-of gs k ≡ d → Grammar-rule-right gs k
   by-kind (z, n) zero e =
       let o = to-other e (λ h. omega arith) (λ h. omega arith) n in
-      absurd (omega (arith, o .1 (λ h. omega arith) .1 (λ h. omega arith) .0))
+      absurd (omega (arith, o .1 (λ h. omega arith) .1 (λ h. omega arith)))
   by-kind (z, n) (suc zero) e = let t = n .0 (inl e) in sequence-right e (t .0) (t .1) z
   by-kind (z, n) (suc (suc zero)) e = let t = n .0 (inr e) in choice-right e (t .0) (t .1) z
   by-kind (z, n) (suc (suc (suc zero))) e =
@@ -73,7 +70,7 @@ module _ (gs : List ℕ) (k : ℕ) where
       empty-right e (o .0) (o .1) z
   by-kind (z, n) (suc (suc (suc (suc (suc d))))) e =
       let o = to-other e (λ h. omega arith) (λ h. omega arith) n .1 (λ h. omega arith) .1 (λ h. omega arith) in
-      range-right (o .0) (o .1) z
+      range-right o z
 
   nested : Grammar-rule-right gs k → (last-of gs k ≡ 0) × Named
   nested (sequence-right e b c z) = (z, (λ h. (b, c), λ h. absurd (h (inl e))))
@@ -82,8 +79,8 @@ module _ (gs : List ℕ) (k : ℕ) where
       (z, from-other e (λ h. omega arith) (λ h. omega arith) (λ f. (b, c), λ f. absurd (f e)))
   nested (empty-right e b c z) =
       (z, from-other e (λ h. omega arith) (λ h. omega arith) (λ f. absurd (omega arith), λ f. (λ g. (b, c), λ g. absurd (g e))))
-  nested (range-right e o z) =
-      (z, from-other e (λ h. omega arith) (λ h. omega arith) (λ f. absurd (omega arith), λ f. (λ g. absurd (omega arith), λ g. (e, o))))
+  nested (range-right e z) =
+      (z, from-other e (λ h. omega arith) (λ h. omega arith) (λ f. absurd (omega arith), λ f. (λ g. absurd (omega arith), λ g. e)))
 
   rule-test : Refuses (Grammar-rule-right gs k) (not (right-at gs k))
   rule-test = unless (restated (λ n. by-kind n (kind-of gs k) refl) nested nested-test)

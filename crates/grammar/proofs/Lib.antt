@@ -4,3 +4,4 @@ pub mod Bools
 pub mod ConditionsMet
 pub mod GrammarGood
 pub mod CodeGrammar
+pub mod Inverted

@@ -16,13 +16,13 @@ pub record Grammar-length-right (gs : List ℕ) : Type 0 where
 abbrev pub last-of : List ℕ → (k : ℕ) → ℕ
 last-of gs k = byte gs (4 * k + 3)
 
--- A RULE, by its kind. What it names is a rule below m, a range is in order, and a byte that it has no use for is 0
+-- A RULE, by its kind. What it names is a rule below m, a range may have any two bytes, and a byte that it has no use for is 0
 pub data Grammar-rule-right (gs : List ℕ) (k : ℕ) : Type 0 where
   sequence-right : kind-of gs k ≡ kind-sequence → b-of gs k < rules gs → c-of gs k < rules gs → last-of gs k ≡ 0 → Grammar-rule-right gs k
   choice-right : kind-of gs k ≡ kind-choice → b-of gs k < rules gs → c-of gs k < rules gs → last-of gs k ≡ 0 → Grammar-rule-right gs k
   not-right : kind-of gs k ≡ kind-not → b-of gs k < rules gs → c-of gs k ≡ 0 → last-of gs k ≡ 0 → Grammar-rule-right gs k
   empty-right : kind-of gs k ≡ kind-empty → b-of gs k ≡ 0 → c-of gs k ≡ 0 → last-of gs k ≡ 0 → Grammar-rule-right gs k
-  range-right : kind-of gs k ≡ kind-range → b-of gs k ≤ c-of gs k → last-of gs k ≡ 0 → Grammar-rule-right gs k
+  range-right : kind-of gs k ≡ kind-range → last-of gs k ≡ 0 → Grammar-rule-right gs k
 
 abbrev pub Grammar-rules-right : List ℕ → Type 0
 Grammar-rules-right gs = (k : ℕ) → k < rules gs → Grammar-rule-right gs k

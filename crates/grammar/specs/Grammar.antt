@@ -1,8 +1,9 @@
 -- A grammar's bytes: four a rule, kind, b, c and 0; and when they are refused, by 11 or 12. Assumes nothing: these are definitions.
 use mathlib.Core.Bool.{Bool, _&&_, _||_, not, cond}
-use mathlib.Core.List.{List}
+use mathlib.Core.List.{List, [], _∷_}
+use mathlib.Core.Path.{_≡_}
 use Prim.Native.Nat.{ℕ, zero, suc, _+_, _*_, _/_, _%_, _<_}
-use lib.Dec.{ltb, leb, eqb}
+use lib.Dec.{ltb, eqb}
 use lib.ListN.{length}
 use Rattle.refusal.specs.declared.Refusal.{Refusal}
 use Rattle.codec.specs.Bytes.{byte}
@@ -44,6 +45,10 @@ b-of gs k = byte gs (4 * k + 1)
 unfoldable pub c-of : List ℕ → (k : ℕ) → ℕ
 c-of gs k = byte gs (4 * k + 2)
 
+-- the four bytes of a range
+abbrev pub range-bytes : (low high : ℕ) → List ℕ
+range-bytes b c = kind-range ∷ b ∷ c ∷ 0 ∷ []
+
 -- what rule k of a grammar that is not refused is
 unfoldable pub expression-by : (kind b c : ℕ) → Expression
 expression-by d b c =
@@ -61,6 +66,11 @@ range-of (Not b) = Nothing
 range-of Empty = Nothing
 range-of (Range b c) = Between b c
 
+-- A RANGE THAT MATCHES NOTHING: rule k is a range with its low byte above its high byte. Generators write it for 004's failure, F = !ε
+pub record Inverted (gs : List ℕ) (k : ℕ) : Type 0 where
+  pub is-range : kind-of gs k ≡ kind-range
+  pub low-above : c-of gs k < b-of gs k
+
 -- the rules that a rule names are below m
 unfoldable pub Parts-below : (m : ℕ) → Expression → Type 0
 Parts-below m (Sequence b c) = (b < m) × (c < m)
@@ -75,7 +85,7 @@ rule-right m d b c z =
     eqb z 0
     && cond (eqb d kind-sequence || eqb d kind-choice) (ltb b m && ltb c m)
     (cond (eqb d kind-not) (ltb b m && eqb c 0)
-    (cond (eqb d kind-empty) (eqb b 0 && eqb c 0) (eqb d kind-range && leb b c)))
+    (cond (eqb d kind-empty) (eqb b 0 && eqb c 0) (eqb d kind-range)))
 
 unfoldable pub grammar-rules-from : (left k : ℕ) → List ℕ → Refusal
 grammar-rules-from zero k gs = no-refusal

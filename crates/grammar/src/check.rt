@@ -89,10 +89,7 @@ fn right(m: u8, kind: u8, b: u8, c: u8, last: u8) -> bool
     if kind == EMPTY {
         return both_zero(b, c);
     }
-    if kind != RANGE {
-        return false;
-    }
-    b <= c
+    kind == RANGE // any two bytes: with b above c it matches nothing
 }
 
 // Refusal 12: the first rule that is not right.

@@ -106,7 +106,7 @@ module _ (gs cs : List ℕ) (good : Good-grammar gs) (bytes : (i : ℕ) → byte
           (t : Bool) →
           class-inside gs (range-of (expression gs k)) (cond t (class-of gs (byte cs i)) (class-count gs + 1))
           ≡ (t && matches (range-of (expression gs k)) (byte cs i))
-      go true = inside-byte gs k (byte cs i) h (good .ordered k h) (bytes i)
+      go true = inside-byte gs k (byte cs i) h (bytes i)
       go false = inside-marker gs (range-of (expression gs k)) (class-count gs + 1) (omega arith)
 
   at-symbol :

@@ -20,12 +20,14 @@ use Rattle.interpreter.proofs.ConditionsMet.{running-answer}
 use Rattle.interpreter.proofs.TrueEnd.{plain-run-true}
 use Rattle.interpreter.proofs.Answered.{run-determined, run-independent}
 use Rattle.grammar.proofs.ConditionsMet.{grammar-answer}
+use Rattle.grammar.proofs.Inverted.{inverted-legal, inverted-fails, inverted-as-failure}
 use Rattle.builder.proofs.BuildingMet.{building-answer}
 use Rattle.builder.proofs.BuiltGood.{built-good}
 use Rattle.builder.proofs.BuiltImage.{built-length-is}
 use Rattle.builder.proofs.LongestImage.{longest-image, longest-there}
 use Rattle.builder.proofs.RangeClasses.{classes-count, range-classes}
-use Rattle.parsing_theory.proofs.BuiltParses.{built-parses, few-readings}
+use Rattle.builder.proofs.InvertedRanges.{inverted-adds-none}
+use Rattle.parsing_theory.proofs.BuiltParses.{built-parses, few-readings, inverted-pops}
 use Rattle.builder.proofs.Answered.{build-determined, build-independent}
 use Rattle.answer.proofs.ConditionsMet.{input-answer, input-parts}
 use Rattle.answer.proofs.AnsweringMet.{answering-answer}
@@ -42,6 +44,7 @@ promises =
     record {
       image-refused = image-answer;
       grammar-refused = grammar-answer;
+      inverted-legal = inverted-legal;
       capture-refused = capture-answer;
       judging-refused = judging-answer;
       running-refused = running-answer;
@@ -72,6 +75,10 @@ promises =
       built-goes-on = λ gs cs good bytes. let b = built-parses gs cs good bytes in (λ on o p. b .parses-halts o p on, b .no-parse-goes-on);
       built-stuck = λ gs cs good bytes. let b = built-parses gs cs good bytes in (λ (d, s). b .stuck-parses d s, λ (o, p, other). b .parses-stuck o p other);
       built-not-ended = λ gs cs good bytes. built-parses gs cs good bytes .never-ended;
+      inverted-fails = inverted-fails;
+      inverted-as-failure = inverted-as-failure;
+      inverted-pops = inverted-pops;
+      inverted-adds-none = inverted-adds-none;
       build-then-judge = build-then-judge;
       plain-run-true = plain-run-true;
       run-answers = run-answers;

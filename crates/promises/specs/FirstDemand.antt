@@ -3,7 +3,7 @@
 use mathlib.Core.Path.{_≡_}
 use mathlib.Core.List.{List}
 use mathlib.Core.Logic.{_↔_}
-use Prim.Native.Nat.{ℕ}
+use Prim.Native.Nat.{ℕ, _*_}
 use lib.ListN.{length, take, drop}
 use Rattle.refusal.specs.First.{refusal}
 use Rattle.image.specs.Refusals.{image-refusal, capture-refusal}
@@ -20,8 +20,8 @@ use Rattle.interpreter.specs.Calls.{run-refusal, Run-says}
 use Rattle.interpreter.specs.Conditions.{Running-row}
 use Rattle.interpreter.specs.Replies.{of-ran}
 use Rattle.builder.specs.declared.Built.{Built}
-use Rattle.grammar.specs.Grammar.{grammar-refusal}
-use Rattle.grammar.specs.Conditions.{Grammar-row}
+use Rattle.grammar.specs.Grammar.{Inverted, grammar-refusal}
+use Rattle.grammar.specs.Conditions.{last-of, Grammar-rule-right, Grammar-row}
 use Rattle.builder.specs.Conditions.{Building-row}
 use Rattle.builder.specs.Image.{built-length}
 use Rattle.builder.specs.Calls.{build-refusal, Build-says}
@@ -37,6 +37,11 @@ Image-refused = (bs : List ℕ) (n p : ℕ) → (image-refusal bs ≡ refusal n 
 
 abbrev pub Grammar-refused : Type 0
 Grammar-refused = (gs : List ℕ) (n p : ℕ) → (grammar-refusal gs ≡ refusal n p) ↔ Grammar-row gs n p
+
+-- A RANGE WITH ITS LOW BYTE ABOVE ITS HIGH BYTE IS LEGAL, whatever rules stand beside it: it is right, and never the rule that refusal 12 blames
+abbrev pub Inverted-legal : Type 0
+Inverted-legal =
+    (gs : List ℕ) (k : ℕ) → Inverted gs k → last-of gs k ≡ 0 → Grammar-rule-right gs k × (grammar-refusal gs ≡ refusal 12 (4 * k) → ⊥)
 
 -- SO IS A BAD CAPTURE, by its length, after what its image is refused for: by the call `cells`, and by every call that is given both before it looks at what is lent
 abbrev pub Capture-refused : Type 0

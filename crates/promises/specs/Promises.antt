@@ -8,6 +8,7 @@ pub record Promises : Type 0 where
   -- the first demand: refusals, and what follows from the input alone
   pub image-refused : First.Image-refused
   pub grammar-refused : First.Grammar-refused
+  pub inverted-legal : First.Inverted-legal
   pub capture-refused : First.Capture-refused
   pub judging-refused : First.Judging-refused
   pub running-refused : First.Running-refused
@@ -39,6 +40,10 @@ pub record Promises : Type 0 where
   pub built-goes-on : Second.Built-goes-on
   pub built-stuck : Second.Built-stuck
   pub built-not-ended : Second.Built-not-ended
+  pub inverted-fails : Second.Inverted-fails
+  pub inverted-as-failure : Second.Inverted-as-failure
+  pub inverted-pops : Second.Inverted-pops
+  pub inverted-adds-none : Second.Inverted-adds-none
   pub build-then-judge : Second.Build-then-judge
   pub plain-run-true : Second.Plain-run-true
   pub run-answers : Second.Run-answers

@@ -1,16 +1,17 @@
 -- THE SECOND DEMAND: accepted, ended, stuck exactly where the step-by-step run, unbounded in time and stack, ends so; looping only where it has no end. A machine built from a grammar accepts where parsing from the start rule consumes all, loops where parsing has no result, and is stuck in all other cases. Assumes nothing: each claim is a type, and proofs/ has its proof.
 use mathlib.Core.Path.{_≡_}
-use mathlib.Core.Bool.{true}
-use mathlib.Core.List.{List}
+use mathlib.Core.Bool.{true, false}
+use mathlib.Core.List.{List, _++_}
 use mathlib.Core.Logic.{_↔_}
-use mathlib.Core.Option.{Option, some}
-use Prim.Native.Nat.{ℕ, _<_, _≤_}
+use mathlib.Core.Option.{Option, none, some}
+use Prim.Native.Nat.{ℕ, suc, _%_, _<_, _≤_}
 use lib.ListN.{length, take, replicate}
 use Rattle.machine.specs.declared.Config.{Config}
+use Rattle.machine.specs.declared.Action.the-variants.{Pop}
 use Rattle.machine.specs.declared.Verdict.{Verdict}
 use Rattle.machine.specs.declared.Verdict.the-variants.{Accepted, Ended, Stuck, Looping}
 use Rattle.image.specs.Format.{max-capture}
-use Rattle.machine.specs.Run.{Machine, start, how-many}
+use Rattle.machine.specs.Run.{Machine, config, start, how-many}
 use Rattle.codec.specs.Bytes.{Bytes}
 use Rattle.image.specs.Image.{machine}
 use Rattle.machine.specs.Verdicts.{Says, Goes-on}
@@ -26,10 +27,12 @@ use Rattle.interpreter.specs.Calls.{run-refusal, Run-says}
 use Rattle.interpreter.specs.Replies.{exit-number, of-ran}
 use Rattle.builder.specs.declared.Built.{Built}
 use Rattle.builder.specs.declared.Built.the-variants.{Image}
-use Rattle.grammar.specs.Grammar.{expression, grammar-refusal}
+use Rattle.grammar.specs.declared.Expression.the-variants.{Not, Empty}
+use Rattle.grammar.specs.Grammar.{Inverted, rules, range-bytes, expression, grammar-refusal}
 use Rattle.grammar.specs.Parsing.{Parses}
-use Rattle.builder.specs.Classes.{class-in}
+use Rattle.builder.specs.Classes.{class-of, class-count, class-in}
 use Rattle.builder.specs.ClassMeaning.{Class-counts, Byte-of-class}
+use Rattle.builder.specs.Table.{state-work, state-fail, first}
 use Rattle.builder.specs.Image.{built, built-length}
 use Rattle.builder.specs.Calls.{Build-says}
 use Rattle.answer.specs.TwoCalls.{Enough, Gets}
@@ -93,6 +96,29 @@ Built-stuck =
 abbrev pub Built-not-ended : Type 0
 Built-not-ended =
     (gs cs : List ℕ) → grammar-refusal gs .number ≡ 0 → Bytes cs → (d : Config) → Says (machine (built gs) cs) Ended d → ⊥
+
+-- A RANGE WITH ITS LOW BYTE ABOVE ITS HIGH BYTE ALWAYS FAILS: at every place of every capture it has one result, failure,
+abbrev pub Inverted-fails : Type 0
+Inverted-fails = (gs cs : List ℕ) (k : ℕ) → Inverted gs k → (i : ℕ) (o : Option ℕ) → Parses (expression gs) cs k i o ↔ (o ≡ none)
+
+-- as 004's failure has, F = !ε,
+abbrev pub Inverted-as-failure : Type 0
+Inverted-as-failure =
+    (gs cs : List ℕ) (k f e : ℕ) → Inverted gs k → expression gs f ≡ Not e → expression gs e ≡ Empty →
+    (i : ℕ) (o : Option ℕ) → Parses (expression gs) cs k i o ↔ Parses (expression gs) cs f i o
+
+-- it consumes nothing: the machine, with the rule's symbol on top at any place, pops it in one step, fails, and the head stays,
+abbrev pub Inverted-pops : Type 0
+Inverted-pops =
+    (gs cs : List ℕ) (k i : ℕ) → grammar-refusal gs .number ≡ 0 → Bytes cs → k < rules gs → Inverted gs k → i ≤ length cs →
+    machine (built gs) cs .action (config state-work (suc i) (first k)) ≡ Pop state-fail false
+
+-- and it adds no value to the class count, nor to a byte's class: without its four bytes the grammar has the same
+abbrev pub Inverted-adds-none : Type 0
+Inverted-adds-none =
+    (before after : List ℕ) (b c : ℕ) → length before % 4 ≡ 0 → c < b →
+    (class-count (before ++ range-bytes b c ++ after) ≡ class-count (before ++ after))
+    × ((v : ℕ) → class-of (before ++ range-bytes b c ++ after) v ≡ class-of (before ++ after) v)
 
 -- THE TWO CALLS: building, then judging by the image that was built, gives what parsing says, and few readings
 abbrev pub Build-then-judge : Type 0

@@ -31,7 +31,7 @@ impl Numbers {
                 2 => [2, self.byte(m), self.byte(m), 0],
                 3 => [3, self.byte(m), 0, 0],
                 4 => [4, 0, 0, 0],
-                _ => [5, b'a' + self.byte(2), b'b' + self.byte(2), 0],
+                _ => [5, b'a' + self.byte(3), b'a' + self.byte(3), 0],
             });
         }
         grammar

@@ -74,9 +74,9 @@ impl Machines {
     }
 }
 
-/// All rules of a grammar of so many rules over the bytes a and b.
+/// All rules of a grammar of so many rules over the bytes a and b, with a range that has neither.
 fn grammar_rules(rules: u8) -> Vec<[u8; 4]> {
-    let mut all = vec![[4, 0, 0, 0], [5, b'a', b'a', 0], [5, b'b', b'b', 0], [5, b'a', b'b', 0]];
+    let mut all = vec![[4, 0, 0, 0], [5, b'a', b'a', 0], [5, b'b', b'b', 0], [5, b'a', b'b', 0], [5, b'b', b'a', 0]];
     for b in 0..rules {
         all.push([3, b, 0, 0]);
         for c in 0..rules {

@@ -70,6 +70,10 @@ fn leaf(rng: &mut Rng) -> [u8; 4] {
         2 => (rng.byte(), 255),
         _ => (rng.pick(ALPHABET), rng.pick(ALPHABET)),
     };
+    // Now and then the wrong way round, which always fails.
+    if rng.percent(10) {
+        return [5, one.max(other), one.min(other), 0];
+    }
     [5, one.min(other), one.max(other), 0]
 }
 
@@ -136,6 +140,7 @@ fn derive(rng: &mut Rng, grammar: &[Part], rule: usize, calls: &mut usize, captu
             derive(rng, grammar, one, calls, capture);
         }
         Part::Not(_) | Part::Empty => {}
+        Part::Byte(low, high) if low > high => {}
         Part::Byte(low, high) => capture.push(rng.within(low as usize..=high as usize) as u8),
     }
 }

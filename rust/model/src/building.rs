@@ -45,8 +45,11 @@ fn pop_return(state: u8) -> [u8; 4] {
 fn borders(grammar: &[Part]) -> BTreeSet<usize> {
     let mut borders = BTreeSet::new();
     for part in grammar {
-        if let Part::Byte(low, high) = *part {
-            borders.extend([low as usize, high as usize + 1]);
+        match *part {
+            // No byte is in such a range, so it has no borders.
+            Part::Byte(low, high) if low > high => {}
+            Part::Byte(low, high) => borders.extend([low as usize, high as usize + 1]),
+            _ => {}
         }
     }
     borders.retain(|value| (1..=255).contains(value));

@@ -11,7 +11,7 @@ pub enum Part {
     /// Not a rule: nothing is consumed.
     Not(usize),
     Empty,
-    /// One byte in a range.
+    /// One byte in a range; with its first byte above its last there is none, and it always fails.
     Byte(u8, u8),
 }
 
@@ -33,7 +33,7 @@ fn read_rule(rule: &[u8], rules: usize) -> Option<Part> {
         2 if first < rules && second < rules => Part::Choice(first, second),
         3 if first < rules && c == 0 => Part::Not(first),
         4 if b == 0 && c == 0 => Part::Empty,
-        5 if b <= c => Part::Byte(b, c),
+        5 => Part::Byte(b, c),
         _ => return None,
     };
     (fourth == 0).then_some(part)

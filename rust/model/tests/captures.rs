@@ -78,3 +78,15 @@ fn parsing() {
     assert_eq!(parse(&[Part::Not(1), Part::Byte(b'a', b'a')], b"a", 100), Some(Parsed::Failure));
     assert_eq!(parse(&[Part::Not(1), Part::Byte(b'a', b'a')], b"b", 100), Some(Parsed::Rest(0)));
 }
+
+#[test]
+fn a_range_that_has_no_byte() {
+    let parts = grammar::read(&[5, b'z', b'a', 0]).unwrap();
+    assert_eq!(parts, [Part::Byte(b'z', b'a')]);
+    for capture in [&b""[..], b"a", b"m", b"z"] {
+        assert_eq!(parse(&parts, capture, 100), Some(Parsed::Failure));
+        assert_eq!(program::output(&program::input(&[5, b'z', b'a', 0], capture)), "stuck 3 3 1 0\n");
+    }
+    assert_eq!(building::build(&parts).len(), 288 + 4 * 5 * 3 * 3);
+    assert!(grammar::read(&[5, b'z', b'a', 1]).is_err());
+}

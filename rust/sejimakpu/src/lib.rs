@@ -110,6 +110,17 @@ pub fn plain_run(image: &[u8], capture: &[u8], budget: u32, stack: &mut [u32]) -
 
 /// Builds the image of a grammar at the start of a buffer, and answers its length. Later bytes stay.
 ///
+/// A range with its low byte above its high byte is legal and always fails:
+///
+/// ```
+/// // Such a range, or else one byte 'a': as 'a' alone, with the three classes of 'a'.
+/// let grammar = [2, 1, 2, 0, 5, 0xff, 0x00, 0, 5, b'a', b'a', 0];
+/// let mut image = [0; sejimakpu::MAX_BUILT_IMAGE];
+/// let length = sejimakpu::build(&grammar, &mut image)?;
+/// assert_eq!(length, 288 + 4 * 5 * (3 + 2) * 7);
+/// # Ok::<(), sejimakpu::Error>(())
+/// ```
+///
 /// # Errors
 ///
 /// [`Error::Refused`]: refusals 11 to 13; a refused call changes no byte.

@@ -33,9 +33,9 @@ impl Expression {
         }
     }
 
-    /// Whether a range begins at a byte value, or ends before it.
+    /// Whether a range begins at a byte value, or ends before it; one that is not in order does neither.
     fn cuts_at(self, value: u8) -> bool {
-        matches!(self, Expression::Range(b, c) if b == value || u32::from(c) + 1 == u32::from(value))
+        matches!(self, Expression::Range(b, c) if (b == value || u32::from(c) + 1 == u32::from(value)) && b <= c)
     }
 
     fn first(self, k: u8, state: u8, inside: bool) -> [u8; 4] {
@@ -89,7 +89,7 @@ fn is_right([kind, b, c, last]: [u8; 4], m: u8) -> bool {
         1 | 2 => b < m && c < m,
         3 => b < m && c == 0,
         4 => b == 0 && c == 0,
-        5 => b <= c,
+        5 => true,
         _ => false,
     };
     named_right && last == 0
@@ -151,8 +151,8 @@ fn write_rules(rules: &[[u8; 4]], map: &[u8; 256], classes: u32, symbols: u32, i
 fn is_inside(expression: Expression, map: &[u8; 256], class: u32) -> bool {
     match expression {
         Expression::Range(b, c) => {
-            // The markers' classes are above every byte's.
-            (u32::from(map[usize::from(b)])..=u32::from(map[usize::from(c)])).contains(&class)
+            // The markers' classes are above every byte's. Both ends of a range that is not in order may have one class.
+            b <= c && (u32::from(map[usize::from(b)])..=u32::from(map[usize::from(c)])).contains(&class)
         }
         _ => false,
     }

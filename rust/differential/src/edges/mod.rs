@@ -1,6 +1,7 @@
 //! The listed edges, each a case with a name. Where the document or plain counting tells the answer, it is written down
 //! here, so that the model is held against it too.
 
+mod inverted;
 mod long;
 mod program;
 mod refusals;
@@ -35,6 +36,7 @@ pub fn all() -> Vec<Edge> {
     let mut edges = Edges::default();
     table::add(&mut edges);
     sizes::add(&mut edges);
+    inverted::add(&mut edges);
     refusals::add(&mut edges);
     runs::add(&mut edges);
     long::add(&mut edges);

@@ -224,9 +224,10 @@ fn grammars(edges: &mut Edges) {
         [4, 1, 0, 0],
         [4, 0, 1, 0],
         [4, 0, 0, 1],
-        [5, 98, 97, 0],
-        [5, 255, 0, 0],
         [5, 97, 98, 1],
+        [5, 98, 97, 1],
+        [5, 255, 0, 128],
+        [6, 98, 97, 0],
     ];
     for &rule in wrong {
         edges.add(format!("refusal 12: {rule:?} among three rules"), move |found, rng| {

@@ -1,5 +1,6 @@
--- `builder::byte_classes::cuts_at` meets its contract: the first byte, or the one after the last. Assumes nothing.
-use borrow.Author.Tests.{eq-eqb, ne-eqb}
+-- `builder::byte_classes::cuts_at` meets its contract: only a range cuts, at one of its ends, if it is in order. Assumes nothing.
+use mathlib.Core.Path.{sym, _∙_}
+use borrow.Author.Tests.{not-true, not-false}
 use Rattle.builder.specs.Classes.{cuts-at}
 use borrow.Author.Needs.{needs}
 use Rattle.builder.proofs.byte_classes.cuts_at.Statement.{statement}
@@ -15,24 +16,17 @@ returns : tie.Need-returns
 unfolding cuts-at
 returns c = simp (c .enum-told .given .1)
 
-cast-first : tie.Need-cast-first
-cast-first c = search needs
+is-end-requires : tie.Need-is-end-requires
+is-end-requires c κs = search needs
 
 returns-2 : tie.Need-returns-2
 unfolding cuts-at
-returns-2 c = simp (c .before .before .r .given .1, eq-eqb _ _ (c .if1 .taken))
-
-cast-after : tie.Need-cast-after
-cast-after c = search needs
-
-add-after : tie.Need-add-after
-add-after c = search needs
+returns-2 c = simp (c .before .before .before .r .given .1, sym (c .before .is-end .ensures) ∙ not-true _ (c .if1 .taken))
 
 returns-3 : tie.Need-returns-3
 unfolding cuts-at
-returns-3 c = simp (c .before .before .r .given .1, ne-eqb _ _ (c .if1 .left))
+returns-3 c = simp (c .before .before .before .r .given .1, sym (c .before .is-end .ensures) ∙ not-false _ (c .if1 .left))
 
 pub cuts-at-spec : {M : Type 1} → statement M
 cuts-at-spec =
-    tie.close
-    (tie.spec enum-known-r enum-told returns cast-first returns-2 cast-after add-after returns-3)
+    tie.close (tie.spec enum-known-r enum-told returns is-end-requires returns-2 returns-3)
