@@ -1,4 +1,4 @@
--- The pass over the byte values: the class of the next value, and bounds on classes and on the image's rules. Assumes nothing.
+-- The pass over the marks of the byte values: the class of the next value, and bounds on classes and on the image's rules. Assumes nothing.
 use mathlib.Core.Path.{_≡_, refl, sym, ap, _∙_}
 use mathlib.Core.Bool.{Bool, true, false, cond}
 use mathlib.Core.List.{List}
@@ -7,6 +7,7 @@ use native.Mathlib.Nat.{mul-le-mul}
 use native.Mathlib.Numerals.{add-one}
 use native.Mathlib.Omega.{arith}
 use lib.ListN.{length}
+use Rattle.codec.specs.Bytes.{byte}
 use Rattle.image.specs.Format
 use Rattle.machine.specs.Run.{how-many}
 use Rattle.image.specs.Image.{machine}
@@ -15,6 +16,7 @@ use Rattle.builder.specs.Classes.{cut, class-of, class-count}
 use Rattle.builder.specs.Table.{state-count}
 use Rattle.builder.specs.Image.{symbols-of, built-rules, built-length}
 use Rattle.builder.specs.code.Building.{plan-of, Short, Cells-are}
+use Rattle.builder.specs.code.Marking.{Marks-cuts}
 use Rattle.grammar.proofs.GrammarGood.{good-grammar}
 use Rattle.builder.proofs.ClassesFew.{class-count-most}
 use Rattle.builder.proofs.BuiltImage.{built-states, built-symbols}
@@ -23,13 +25,9 @@ one-or-none : (t : Bool) → cond t 1 0 ≤ 1
 one-or-none true = omega arith
 one-or-none false = omega arith
 
-pub class-step : (gs : List ℕ) (v : ℕ) → class-of gs (v + 1) ≡ class-of gs v + cond (cut gs (v + 1)) 1 0
+class-step : (gs : List ℕ) (v : ℕ) → class-of gs (v + 1) ≡ class-of gs v + cond (cut gs (v + 1)) 1 0
 unfolding class-of
 class-step gs v = rw (add-one v)
-
--- the count after one more value
-pub class-next : (gs : List ℕ) (class v next : ℕ) → class ≡ class-of gs v → next ≡ class + cond (cut gs (v + 1)) 1 0 → next ≡ class-of gs (v + 1)
-class-next gs class v next e f = f ∙ ap (λ (n : ℕ). n + cond (cut gs (v + 1)) 1 0) e ∙ sym (class-step gs v)
 
 pub class-zero : (gs : List ℕ) → class-of gs 0 ≡ 0
 unfolding class-of
@@ -40,9 +38,13 @@ unfolding class-of
 class-within gs zero = omega arith
 class-within gs (suc v) = omega (arith, class-within gs v, one-or-none (cut gs (suc v)))
 
-pub next-fits :
-    (gs : List ℕ) (class v next : ℕ) → class ≡ class-of gs v → next ≡ class + cond (cut gs (v + 1)) 1 0 → v < 255 → next < 256
-next-fits gs class v next e f h = omega (arith, class-next gs class v next e f, class-within gs (v + 1))
+-- the count after one more value, by its mark; it is a byte
+module _ (gs ms : List ℕ) (marks : Marks-cuts gs ms) (class v : ℕ) (is : class ≡ class-of gs v) (more : v < 255) where
+  pub class-next : class + byte ms (v + 1) ≡ class-of gs (v + 1)
+  class-next = omega (arith, marks .mark (v + 1) (omega arith), class-step gs v)
+
+  pub next-fits : class + byte ms (v + 1) < 256
+  next-fits = omega (arith, class-next, class-within gs (v + 1))
 
 pub classes-are : (gs : List ℕ) (class v : ℕ) → class ≡ class-of gs v → 255 ≤ v → v ≤ 255 → class + 1 ≡ class-count gs
 unfolding class-count

@@ -16,4 +16,4 @@ pub mod CodeRows
 pub mod CodeRules
 pub mod CodeBuild
 pub mod LongestImage
-pub mod CodeCuts
+pub mod CodeMarks

@@ -29,6 +29,6 @@ class-of gs (suc v) = class-of gs v + cond (cut gs (suc v)) 1 0
 unfoldable pub class-count : List ℕ → ℕ
 class-count gs = class-of gs 255 + 1
 
--- a class whose bytes are in a range
+-- a class whose bytes are in a range; one with its first byte above its last has none, though its two ends may be of one class
 unfoldable pub class-in : List ℕ → (low high class : ℕ) → Bool
 class-in gs b c k = leb b c && (leb (class-of gs b) k && leb k (class-of gs c))

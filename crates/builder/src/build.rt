@@ -77,7 +77,7 @@ fn write_header(image: &mut [u8], classes: u8, symbols: u8, count: u32)
     write_u32(image, FINALS_OFFSET, FINALS);
 }
 
-// Whether a byte class, and no marker, is between two bytes, by their classes.
+// Whether a byte class, and no marker, is between two bytes, by their classes. None is where the low byte is above the high byte, though both may be of one class.
 fn range_has(image: &[u8], classes: u32, low: u8, high: u8, class: u32) -> bool
     requires { ⌜ rules-offset ≤ length (now image) ⌝ }
     ensures { λ r. ⌜ r ≡ (ltb class classes && class-between (now (image .entry)) low high class) ⌝ }

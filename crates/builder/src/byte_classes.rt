@@ -1,85 +1,62 @@
-// Byte classes: one pass over the byte values, with a count of the cuts so far.
+// Byte classes: the cuts of all ranges are marked, then one pass over the byte values counts the marks so far.
 use grammar::ByteRange;
 use grammar::check::RULE_BYTES;
 use grammar::check::expression_of;
 use grammar::check::range_of;
 use image::format::MAP_OFFSET;
 ghost use mathlib.Core.Path.{_≡_};
-ghost use mathlib.Core.Bool.{cond, _||_};
 ghost use mathlib.Core.List.{_++_};
 ghost use Prim.Native.Nat.{_+_, _<_, _≤_};
-ghost use lib.Dec.{eqb};
 ghost use lib.ListN.{length, take, drop};
 ghost use Rattle.image.specs.Format.{map-offset, map-length, rules-offset};
-ghost use Rattle.grammar.specs.Grammar.{rules, expression, range-of};
-ghost use Rattle.builder.specs.Classes.{cuts-at, cut as cut-of, class-count as class-count-of};
+ghost use Rattle.builder.specs.Classes.{class-count as class-count-of};
 ghost use Rattle.builder.specs.Image.{map-made};
+ghost use Rattle.builder.specs.code.Marking.{Marks-range, Marks-cuts, Unmarked};
 
-// Whether v is b, or the value after c.
-fn is_end(b: u8, c: u8, v: u32) -> bool
-    ensures { λ r. ⌜ r ≡ (eqb b v || eqb (c + 1) v) ⌝ }
-{
-    let first = b as u32;
-    if first == v {
-        return true;
-    }
-    let after = c as u32 + 1;
-    after == v
-}
-
-// Whether a range begins at v, or ends before it. One with its low byte above its high byte does neither; that is asked last, since most values are no end.
-fn cuts_at(r: ByteRange, v: u32) -> bool
-    ensures { λ answer. ⌜ answer ≡ cuts-at r v ⌝ }
+// Marks where a range begins, and the value after its last byte if there is one. A range with its low byte above its high byte has no mark.
+fn mark_range(marks: &mut [u8], r: ByteRange)
+    requires { ⌜ length (now marks) ≡ map-length ⌝ }
+    ensures { λ _. ⌜ Marks-range r (now (marks .entry)) (now (marks .exit)) ⌝ }
 {
     let ByteRange::Between(b, c) = r else {
-        return false;
+        return;
     };
-    if !is_end(b, c, v) {
-        return false;
+    if c < b {
+        return;
     }
-    b <= c
+    let first = b as usize;
+    marks[first] = 1;
+    if c < 255 {
+        let after = c as usize + 1;
+        marks[after] = 1;
+    }
 }
 
-// Whether rule k cuts at v.
-fn rule_cuts(grammar: &[u8], k: usize, v: u32) -> bool
-    requires { ⌜ k < rules (now grammar) ⌝ }
-    ensures { λ r. ⌜ r ≡ cuts-at (range-of (expression (now (grammar .entry)) k)) v ⌝ }
-{
-    cuts_at(range_of(expression_of(grammar, k)), v)
-}
-
-// Whether some rule cuts at v.
-fn cut(grammar: &[u8], v: u32) -> bool
-    ensures { λ r. ⌜ r ≡ cut-of (now (grammar .entry)) v ⌝ }
+// Marks the cuts of all ranges of a grammar. Each rule is looked at once, not once for each byte value.
+fn mark_cuts(grammar: &[u8], marks: &mut [u8])
+    requires { ⌜ Unmarked (now marks) ⌝ }
+    ensures { λ _. ⌜ Marks-cuts (now (grammar .entry)) (now (marks .exit)) ⌝ }
 {
     let count = grammar.len() / RULE_BYTES;
     let mut k: usize = 0;
     while k < count {
-        if rule_cuts(grammar, k, v) {
-            return true;
-        }
+        let r = range_of(expression_of(grammar, k));
+        mark_range(marks, r);
         k += 1;
     }
-    false
-}
-
-// The class of v, from that of the value before it.
-fn class_next(grammar: &[u8], class: u32, v: u32) -> u32
-    requires { ⌜ class < 256 ⌝ }
-    ensures { λ r. ⌜ r ≡ class + cond (cut-of (now (grammar .entry)) v) 1 0 ⌝ }
-{
-    if cut(grammar, v) { class + 1 } else { class }
 }
 
 // K, the count of classes.
 pub fn class_count(grammar: &[u8]) -> u32
     ensures { λ r. ⌜ r ≡ class-count-of (now (grammar .entry)) ⌝ }
 {
+    let mut marks = [0u8; 256];
+    mark_cuts(grammar, &mut marks);
     let mut class: u32 = 0;
-    let mut v: u32 = 0;
+    let mut v: usize = 0;
     while v < 255 {
         v += 1;
-        class = class_next(grammar, class, v);
+        class += marks[v] as u32;
     }
     class + 1
 }
@@ -91,13 +68,15 @@ pub fn write_map(grammar: &[u8], image: &mut [u8])
         ≡ take map-offset (now (image .entry)) ++ map-made map-length 0 (now (grammar .entry))
         ++ drop rules-offset (now (image .entry)) ⌝ }
 {
-    let mut class: u32 = 0;
-    let mut v: u32 = 0;
+    let mut marks = [0u8; 256];
+    mark_cuts(grammar, &mut marks);
+    let mut class: u8 = 0;
+    let mut v: usize = 0;
     image[MAP_OFFSET] = 0;
     while v < 255 {
         v += 1;
-        class = class_next(grammar, class, v);
-        let at = MAP_OFFSET + v as usize;
-        image[at] = class as u8;
+        class += marks[v];
+        let at = MAP_OFFSET + v;
+        image[at] = class;
     }
 }

@@ -33,9 +33,17 @@ impl Expression {
         }
     }
 
-    /// Whether a range begins at a byte value, or ends before it; one that is not in order does neither.
-    fn cuts_at(self, value: u8) -> bool {
-        matches!(self, Expression::Range(b, c) if (b == value || u32::from(c) + 1 == u32::from(value)) && b <= c)
+    /// Marks the byte values at which a range begins or has just ended. One that is not in order has no byte, and no mark.
+    fn mark(self, marks: &mut [u8; 256]) {
+        match self {
+            Expression::Range(b, c) if b <= c => {
+                marks[usize::from(b)] = 1;
+                if c < 255 {
+                    marks[usize::from(c) + 1] = 1;
+                }
+            }
+            _ => {}
+        }
     }
 
     fn first(self, k: u8, state: u8, inside: bool) -> [u8; 4] {
@@ -95,15 +103,15 @@ fn is_right([kind, b, c, last]: [u8; 4], m: u8) -> bool {
     named_right && last == 0
 }
 
-/// The class of each byte value: how many of the values up to it are cuts.
+/// The class of each byte value: how many of the values from 1 up to it are marked.
 fn class_map(rules: &[[u8; 4]]) -> [u8; 256] {
     let mut map = [0; 256];
-    let mut class = 0;
-    for value in 1..=255 {
-        if rules.iter().any(|&rule| Expression::of(rule).cuts_at(value)) {
-            class += 1;
-        }
-        map[usize::from(value)] = class;
+    for &rule in rules {
+        Expression::of(rule).mark(&mut map);
+    }
+    map[0] = 0;
+    for value in 1..256 {
+        map[value] += map[value - 1];
     }
     map
 }
