@@ -3,6 +3,7 @@ use grammar::ByteRange;
 use grammar::check::RULE_BYTES;
 use grammar::check::expression_of;
 use grammar::check::range_of;
+use image::format::MAP_LENGTH;
 use image::format::MAP_OFFSET;
 ghost use mathlib.Core.Path.{_≡_};
 ghost use mathlib.Core.List.{_++_};
@@ -50,7 +51,7 @@ fn mark_cuts(grammar: &[u8], marks: &mut [u8])
 pub fn class_count(grammar: &[u8]) -> u32
     ensures { λ r. ⌜ r ≡ class-count-of (now (grammar .entry)) ⌝ }
 {
-    let mut marks = [0u8; 256];
+    let mut marks = [0u8; MAP_LENGTH];
     mark_cuts(grammar, &mut marks);
     let mut class: u32 = 0;
     let mut v: usize = 0;
@@ -68,7 +69,7 @@ pub fn write_map(grammar: &[u8], image: &mut [u8])
         ≡ take map-offset (now (image .entry)) ++ map-made map-length 0 (now (grammar .entry))
         ++ drop rules-offset (now (image .entry)) ⌝ }
 {
-    let mut marks = [0u8; 256];
+    let mut marks = [0u8; MAP_LENGTH];
     mark_cuts(grammar, &mut marks);
     let mut class: u8 = 0;
     let mut v: usize = 0;

@@ -44,13 +44,13 @@ promises =
     record {
       image-refused = image-answer;
       grammar-refused = grammar-answer;
-      inverted-legal = inverted-legal;
       capture-refused = capture-answer;
       judging-refused = judging-answer;
       running-refused = running-answer;
       building-refused = building-answer;
       input-refused = input-answer;
       answering-refused = answering-answer;
+      inverted-legal = inverted-legal;
       judge-refuses = judge-refuses;
       run-refuses = run-refuses;
       build-refuses = build-refuses;

@@ -38,11 +38,6 @@ Image-refused = (bs : List ℕ) (n p : ℕ) → (image-refusal bs ≡ refusal n 
 abbrev pub Grammar-refused : Type 0
 Grammar-refused = (gs : List ℕ) (n p : ℕ) → (grammar-refusal gs ≡ refusal n p) ↔ Grammar-row gs n p
 
--- A RANGE WITH ITS LOW BYTE ABOVE ITS HIGH BYTE IS LEGAL, whatever rules stand beside it: it is right, and never the rule that refusal 12 blames
-abbrev pub Inverted-legal : Type 0
-Inverted-legal =
-    (gs : List ℕ) (k : ℕ) → Inverted gs k → last-of gs k ≡ 0 → Grammar-rule-right gs k × (grammar-refusal gs ≡ refusal 12 (4 * k) → ⊥)
-
 -- SO IS A BAD CAPTURE, by its length, after what its image is refused for: by the call `cells`, and by every call that is given both before it looks at what is lent
 abbrev pub Capture-refused : Type 0
 Capture-refused = (bs : List ℕ) (long n p : ℕ) → (capture-refusal bs long ≡ refusal n p) ↔ Capture-row bs long n p
@@ -62,6 +57,11 @@ Input-refused = (xs : List ℕ) (n p : ℕ) → (input-refusal xs ≡ refusal n 
 
 abbrev pub Answering-refused : Type 0
 Answering-refused = (xs : List ℕ) (x : Lent) (n p : ℕ) → (answer-refusal xs x ≡ refusal n p) ↔ Answering-row xs x n p
+
+-- A RANGE WITH ITS LOW BYTE ABOVE ITS HIGH BYTE IS LEGAL, whatever rules stand beside it: it is right, and never the rule that refusal 12 blames
+abbrev pub Inverted-legal : Type 0
+Inverted-legal =
+    (gs : List ℕ) (k : ℕ) → Inverted gs k → last-of gs k ≡ 0 → Grammar-rule-right gs k × (grammar-refusal gs ≡ refusal 12 (4 * k) → ⊥)
 
 -- A REFUSED CALL TELLS NUMBER AND PLACE AND NO VERDICT, AND CHANGES NO LENT CELL
 abbrev pub Judge-refuses : Type 0

@@ -8,13 +8,13 @@ pub record Promises : Type 0 where
   -- the first demand: refusals, and what follows from the input alone
   pub image-refused : First.Image-refused
   pub grammar-refused : First.Grammar-refused
-  pub inverted-legal : First.Inverted-legal
   pub capture-refused : First.Capture-refused
   pub judging-refused : First.Judging-refused
   pub running-refused : First.Running-refused
   pub building-refused : First.Building-refused
   pub input-refused : First.Input-refused
   pub answering-refused : First.Answering-refused
+  pub inverted-legal : First.Inverted-legal
   pub judge-refuses : First.Judge-refuses
   pub run-refuses : First.Run-refuses
   pub build-refuses : First.Build-refuses

@@ -43,7 +43,7 @@ fn told(
     program::compare_with(found, &model::program::input(grammar, capture), &line);
 }
 
-/// What a grammar answers on a capture, by the library alone.
+/// What the library answers for a grammar on a capture.
 fn judged(found: &mut Findings, rng: &mut Rng, grammar: &[u8], capture: &[u8]) -> Option<Judged> {
     let image = sides::build(found, rng, grammar, 82_188).ok()?;
     judge(found, rng, &image, capture).ok()
