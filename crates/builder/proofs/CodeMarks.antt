@@ -1,12 +1,12 @@
 -- Marking: the marks that one range sets, and the loop over a grammar's rules that sets them all. Assumes nothing.
 use mathlib.Core.Path.{_≡_, refl, sym, ap, _∙_}
-use mathlib.Core.Bool.{Bool, true, false, _&&_, _||_, cond, and-false}
+use mathlib.Core.Bool.{Bool, true, false, _||_, cond, and-true, and-false, or-false}
 use mathlib.Core.List.{List}
 use Prim.Native.Nat.{ℕ, suc, _+_, _-_, _<_, _≤_}
 use native.Mathlib.Decide.{ℕ-discrete}
 use native.Mathlib.Nat.{sub-zero}
 use native.Mathlib.Omega.{arith}
-use lib.Dec.{leb, eqb}
+use lib.Dec.{eqb}
 use lib.ListN.{length, set, length-set, replicate, length-replicate, getD-replicate}
 use lib.Seq.{getD-set-same, getD-set-other}
 use borrow.Author.Tests.{eq-eqb, ne-eqb, le-leb, lt-leb}
@@ -45,11 +45,7 @@ module _ (ms : List ℕ) (r : ByteRange) (b c : ℕ) (is : r ≡ Between b c) wh
   module _ (long : length ms ≡ Format.map-length) (order : b ≤ c) where
     ends : (v : ℕ) → cuts-at r v ≡ (eqb b v || eqb (c + 1) v)
     unfolding cuts-at
-    ends v = rw (is, le-leb b c order) (kept (eqb b v || eqb (c + 1) v))
-      where
-        kept : (t : Bool) → (t && true) ≡ t
-        kept true = refl
-        kept false = refl
+    ends v = rw (is, le-leb b c order) (and-true (eqb b v || eqb (c + 1) v))
 
     pub marks-both : c < 255 → Marks-range r ms (set (set ms b 1) (c + 1) 1)
     marks-both l =
@@ -63,12 +59,8 @@ module _ (ms : List ℕ) (r : ByteRange) (b c : ℕ) (is : r ≡ Between b c) wh
     pub marks-first : 255 ≤ c → b < Format.map-length → Marks-range r ms (set ms b 1)
     marks-first l below = record { mark = λ v h. mark-set ms b v (omega arith) ∙ ap (λ (t : Bool). cond t 1 (byte ms v)) (sym (only v h)) }
       where
-        alone : (t : Bool) → (t || false) ≡ t
-        alone true = refl
-        alone false = refl
-
         only : (v : ℕ) → v < Format.map-length → cuts-at r v ≡ eqb b v
-        only v h = ends v ∙ rw (ne-eqb (c + 1) v (λ e. omega arith)) (alone (eqb b v))
+        only v h = ends v ∙ rw (ne-eqb (c + 1) v (λ e. omega arith)) (or-false (eqb b v))
 
 -- ALL RANGES, with those of the rules from k on still to be marked
 pub record Marking (gs ms : List ℕ) (k : ℕ) : Type 0 where

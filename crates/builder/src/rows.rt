@@ -16,7 +16,7 @@ ghost use mathlib.Core.Bool.{_&&_, cond};
 ghost use Prim.Native.Nat.{_+_, _*_, _<_};
 ghost use lib.Dec.{eqb};
 ghost use Rattle.grammar.specs.Grammar.{max-rules};
-ghost use Rattle.builder.specs.Table.{push-first, to-second, pass-byte, pop-fail, rows, by-state, unruled as unruled-of, select as select-of, row-zero};
+ghost use Rattle.builder.specs.Table.{push-first, to-second, pass-byte, pop-fail, six as six-of, rows, by-state, unruled as unruled-of, select as select-of, row-zero};
 ghost use Rattle.builder.specs.code.Writing.{rule-of, row-of, rows-of, Few};
 
 // The states.
@@ -71,12 +71,6 @@ const BACK_FAIL: RuleBytes = RuleBytes {
     direction: POP_RETURN,
 };
 
-const NO_ROW: RowBytes = RowBytes {
-    work: NO_RULE,
-    ok: NO_RULE,
-    fail: NO_RULE,
-};
-
 // A push of a rule's first symbol.
 fn push(k: u8) -> RuleBytes
     requires { ⌜ k < max-rules ⌝ }
@@ -122,60 +116,56 @@ fn one_byte(k: u8, inside: bool) -> RuleBytes
     POP_FAIL
 }
 
+// Six rules side by side, as the scope's table has them: a, b and c of the first symbol in work, ok and fail, then x, y and z of the second.
+fn six(
+    a: RuleBytes,
+    b: RuleBytes,
+    c: RuleBytes,
+    x: RuleBytes,
+    y: RuleBytes,
+    z: RuleBytes,
+) -> RowsBytes
+    ensures { λ r. ⌜ rows-of r ≡ six-of (rule-of a) (rule-of b) (rule-of c) (rule-of x) (rule-of y) (rule-of z) ⌝ }
+{
+    RowsBytes {
+        first: RowBytes {
+            work: a,
+            ok: b,
+            fail: c,
+        },
+        second: RowBytes {
+            work: x,
+            ok: y,
+            fail: z,
+        },
+    }
+}
+
 // The six rules of rule k; inside says of a range whether the class is in it.
 pub fn rows_by(e: Expression, k: u8, inside: bool) -> RowsBytes
     requires { ⌜ Few k e ⌝ }
     ensures { λ r. ⌜ rows-of r ≡ rows e k inside ⌝ }
 {
     match e {
-        Expression::Sequence(b, c) => RowsBytes {
-            first: RowBytes {
-                work: push(b),
-                ok: change(k),
-                fail: BACK_FAIL,
-            },
-            second: RowBytes {
-                work: push(c),
-                ok: POP_OK,
-                fail: BACK_FAIL, // back to before b
-            },
-        },
-        Expression::Choice(b, c) => RowsBytes {
-            first: RowBytes {
-                work: push(b),
-                ok: POP_OK,
-                fail: change(k),
-            },
-            second: RowBytes {
-                work: push(c),
-                ok: POP_OK,
-                fail: POP_FAIL,
-            },
-        },
-        Expression::Not(b) => RowsBytes {
-            first: RowBytes {
-                work: push(b),
-                ok: BACK_FAIL,
-                fail: BACK_OK,
-            },
-            second: NO_ROW,
-        },
-        Expression::Empty => RowsBytes {
-            first: RowBytes {
-                work: POP_OK,
-                ok: NO_RULE,
-                fail: NO_RULE,
-            },
-            second: NO_ROW,
-        },
-        Expression::Range(_, _) => RowsBytes {
-            first: RowBytes {
-                work: one_byte(k, inside),
-                ok: POP_OK,
-                fail: NO_RULE,
-            },
-            second: NO_ROW,
-        },
+        Expression::Sequence(b, c) => six(
+            push(b),
+            change(k),
+            BACK_FAIL,
+            push(c),
+            POP_OK,
+            BACK_FAIL, // back to before b
+        ),
+        Expression::Choice(b, c) => six(push(b), POP_OK, change(k), push(c), POP_OK, POP_FAIL),
+        Expression::Not(b) => six(push(b), BACK_FAIL, BACK_OK, NO_RULE, NO_RULE, NO_RULE),
+        Expression::Empty => six(POP_OK, NO_RULE, NO_RULE, NO_RULE, NO_RULE, NO_RULE),
+        Expression::Range(_, _) => six(
+            one_byte(k, inside),
+            POP_OK,
+            NO_RULE,
+            NO_RULE,
+            NO_RULE,
+            NO_RULE,
+        ),
     }
 }
 

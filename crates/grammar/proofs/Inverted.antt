@@ -4,15 +4,14 @@ use mathlib.Core.Bool.{Bool, true, false, _&&_, and-false}
 use mathlib.Core.List.{List}
 use mathlib.Core.Logic.{_↔_}
 use mathlib.Core.Option.{Option, none, some}
-use Prim.Native.Nat.{ℕ, suc, _*_, _<_}
+use Prim.Native.Nat.{ℕ, _*_, _<_}
 use native.Mathlib.Omega.{arith}
 use lib.Dec.{ltb, leb}
 use lib.ListN.{length}
 use borrow.Author.Tests.{leb-true, lt-leb}
 use Rattle.codec.specs.Bytes.{byte}
 use Rattle.refusal.specs.First.{refusal}
-use Rattle.grammar.specs.declared.Expression.{Expression}
-use Rattle.grammar.specs.declared.Expression.the-variants.{Sequence, Choice, Not, Empty, Range}
+use Rattle.grammar.specs.declared.Expression.the-variants.{Not, Empty, Range}
 use Rattle.grammar.specs.Grammar.{Inverted, expression, expression-by, b-of, c-of, grammar-refusal}
 use Rattle.grammar.specs.Conditions.{last-of, Grammar-rule-right, range-right, Grammar-row, unrefused-grammar, wrong-grammar-length, wrong-grammar-rule}
 use Rattle.grammar.specs.Parsing.{Rules, in-range, Parses, sequence, sequence-fails, choice, choice-other, not-there, not-fails, empty, range, range-fails}

@@ -22,6 +22,9 @@ push-requires-2 c κs =
     let arm = c .before .before .before in
     parts-of (arm .before .before .pre .parts-below) (arm .e .given .1) .1
 
+six-requires : tie.Need-six-requires
+six-requires c κs = search needs
+
 enum-known-e-2 : tie.Need-enum-known-e-2
 enum-known-e-2 c = search needs
 
@@ -38,6 +41,9 @@ push-requires-4 c κs =
     let arm = c .before .before .before in
     parts-of (arm .before .before .pre .parts-below) (arm .e2 .given .1) .1
 
+six-requires-2 : tie.Need-six-requires-2
+six-requires-2 c κs = search needs
+
 enum-known-e-3 : tie.Need-enum-known-e-3
 enum-known-e-3 c = search needs
 
@@ -45,8 +51,14 @@ push-requires-5 : tie.Need-push-requires-5
 unfolding Parts-below
 push-requires-5 c κs = parts-of (c .before .before .before .pre .parts-below) (c .before .e3 .given .1)
 
+six-requires-3 : tie.Need-six-requires-3
+six-requires-3 c κs = search needs
+
 enum-told : tie.Need-enum-told
 enum-told c = search needs
+
+six-requires-4 : tie.Need-six-requires-4
+six-requires-4 c κs = search needs
 
 enum-told-2 : tie.Need-enum-told-2
 enum-told-2 c = search needs
@@ -54,26 +66,34 @@ enum-told-2 c = search needs
 one-byte-requires : tie.Need-one-byte-requires
 one-byte-requires c κs = search needs
 
+six-requires-5 : tie.Need-six-requires-5
+six-requires-5 c κs = search needs
+
 returns : tie.Need-returns
 unfolding rows
-returns c = simp (c .before .before .before .before .e .given .1, c .before .before .push .ensures, c .before .change .ensures, c .push2 .ensures)
+returns c =
+    let made = c .before in
+    simp (made .before .before .before .before .e .given .1, ← made .before .before .push .ensures, ← made .before .change .ensures, ← made .push2 .ensures)
+    (c .six .ensures)
 
 returns-2 : tie.Need-returns-2
 unfolding rows
 returns-2 c =
-    simp (c .before .before .before .before .e2 .given .1, c .before .before .push3 .ensures, c .before .change2 .ensures, c .push4 .ensures)
+    let made = c .before in
+    simp (made .before .before .before .before .e2 .given .1, ← made .before .before .push3 .ensures, ← made .before .change2 .ensures, ← made .push4 .ensures)
+    (c .six2 .ensures)
 
 returns-3 : tie.Need-returns-3
 unfolding rows
-returns-3 c = simp (c .before .before .e3 .given .1, c .push5 .ensures)
+returns-3 c = simp (c .before .before .before .e3 .given .1, ← c .before .push5 .ensures) (c .six3 .ensures)
 
 returns-4 : tie.Need-returns-4
 unfolding rows
-returns-4 c = simp (c .enum-told .given .1)
+returns-4 c = simp (c .before .enum-told .given .1) (c .six4 .ensures)
 
 returns-5 : tie.Need-returns-5
 unfolding rows
-returns-5 c = simp (c .before .enum-told2 .given .1, c .one-byte .ensures)
+returns-5 c = simp (c .before .before .enum-told2 .given .1, ← c .before .one-byte .ensures) (c .six5 .ensures)
 
 pub rows-by-spec : {M : Type 1} → statement M
 rows-by-spec =
@@ -83,15 +103,20 @@ rows-by-spec =
     push-requires
     change-requires
     push-requires-2
+    six-requires
     enum-known-e-2
     push-requires-3
     change-requires-2
     push-requires-4
+    six-requires-2
     enum-known-e-3
     push-requires-5
+    six-requires-3
     enum-told
+    six-requires-4
     enum-told-2
     one-byte-requires
+    six-requires-5
     returns
     returns-2
     returns-3
