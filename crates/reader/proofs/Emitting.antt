@@ -1,0 +1,82 @@
+-- Rules put one after another: one rule's stores, and what is put in two parts is put in one. Assumes nothing.
+use mathlib.Core.Path.{_≡_, refl, sym, ap, _∙_}
+use mathlib.Core.List.{List, [], _∷_, _++_}
+use Prim.Native.Nat.{ℕ, suc, _+_, _-_, _*_, _<_, _≤_}
+use native.Mathlib.Nat.{sub-zero}
+use native.Mathlib.Omega.{arith}
+use lib.ListN.{length, set, length-append}
+use Rattle.codec.specs.Bytes.{written}
+use Rattle.codec.proofs.Writes.{four-stored}
+use Rattle.grammar.specs.Grammar.{max-rules}
+use Rattle.grammar.specs.declared.Expression.{Expression}
+use Rattle.grammar.specs.declared.Expression.the-variants.{Sequence, Choice, Empty}
+use Rattle.syntax.specs.Compile.{rule-bytes, repetition-rules}
+use Rattle.reader.specs.declared.Rules.{Rules}
+use Rattle.reader.specs.code.Building.{put-rules, advanced}
+
+-- the same rules by the same parts
+pub rules-by :
+    (bs bs′ : List ℕ) (n n′ l l′ : ℕ) → bs ≡ bs′ → n ≡ n′ → l ≡ l′ →
+    _≡_ {A = Rules} (record { bytes = bs; next = n; left = l }) (record { bytes = bs′; next = n′; left = l′ })
+rules-by bs bs′ n n′ l l′ p q r = cc
+
+-- one rule's four stores
+pub one-added :
+    (r : Rules) (x : Expression) (k b c : ℕ) → k ∷ b ∷ c ∷ 0 ∷ [] ≡ rule-bytes x → length (r .bytes) ≡ 124 → r .next < max-rules →
+    _≡_ {A = Rules}
+    (record {
+      bytes = set (set (set (set (r .bytes) (4 * r .next) k) (4 * r .next + 1) b) (4 * r .next + 2) c) (4 * r .next + 3) 0;
+      next = r .next + 1;
+      left = r .left;
+    })
+    (advanced r (x ∷ []) 0)
+unfolding advanced put-rules
+one-added r x k b c e long below =
+    rules-by _ _ _ _ _ _
+    (four-stored (r .bytes) (4 * r .next) k b c 0 (omega arith) ∙ ap (λ (p : List ℕ). written (r .bytes) (4 * r .next) p) e) refl
+    (sym (sub-zero (r .left)))
+
+put-append :
+    (bs : List ℕ) (n : ℕ) (xs ys : List Expression) → put-rules (put-rules bs n xs) (n + length xs) ys ≡ put-rules bs n (xs ++ ys)
+unfolding put-rules
+put-append bs n [] ys = ap (λ (m : ℕ). put-rules bs m ys) (omega arith)
+put-append bs n (x ∷ xs) ys =
+    let same : n + suc (length xs) ≡ suc n + length xs = omega arith in
+    ap (λ (m : ℕ). put-rules (put-rules (written bs (4 * n) (rule-bytes x)) (suc n) xs) m ys) same
+    ∙ put-append (written bs (4 * n) (rule-bytes x)) (suc n) xs ys
+
+-- in two parts, in one
+pub advanced-on :
+    (r : Rules) (xs ys : List Expression) (k l : ℕ) → advanced (advanced r xs k) ys l ≡ advanced r (xs ++ ys) (k + l)
+unfolding advanced
+advanced-on r xs ys k l =
+    rules-by _ _ _ _ _ _ (put-append (r .bytes) (r .next) xs ys) (omega (arith, length-append xs ys)) (omega arith)
+
+pub advanced-none : (r : Rules) → advanced r [] 0 ≡ r
+unfolding advanced put-rules
+advanced-none r = rules-by _ _ _ _ _ _ refl (omega arith) (sub-zero (r .left))
+
+pub advanced-next : (r s : Rules) (xs : List Expression) (k : ℕ) → s ≡ advanced r xs k → s .next ≡ r .next + length xs
+unfolding advanced
+advanced-next r s xs k e = ap (λ (x : Rules). x .next) e
+
+pub advanced-left : (r s : Rules) (xs : List Expression) (k : ℕ) → s ≡ advanced r xs k → s .left ≡ r .left - k
+unfolding advanced
+advanced-left r s xs k e = ap (λ (x : Rules). x .left) e
+
+-- the three rules of e*
+pub three-added :
+    (r s t u : Rules) (i : ℕ) → s ≡ advanced r (Choice (r .next + 1) (r .next + 2) ∷ []) 0 → t ≡ advanced s (Sequence i (r .next) ∷ []) 0 →
+    u ≡ advanced t (Empty ∷ []) 0 → u ≡ advanced r (repetition-rules i (r .next)) 0
+three-added r s t u i p q w =
+    let one : r .next + 1 ≡ suc (r .next) = omega arith in
+    let two : r .next + 2 ≡ suc (suc (r .next)) = omega arith in
+    w ∙ ap (λ (x : Rules). advanced x (Empty ∷ []) 0) (q ∙ ap (λ (x : Rules). advanced x (Sequence i (r .next) ∷ []) 0) p
+    ∙ advanced-on r _ _ 0 0)
+    ∙ advanced-on r _ _ 0 0
+    ∙ rw (one, two)
+
+-- fewer rules left, and none more
+pub fewer-left : (r : Rules) (k : ℕ) → _≡_ {A = Rules} (record { bytes = r .bytes; next = r .next; left = r .left - k }) (advanced r [] k)
+unfolding advanced put-rules
+fewer-left r k = rules-by _ _ _ _ _ _ refl (omega arith) refl

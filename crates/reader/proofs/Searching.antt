@@ -1,0 +1,109 @@
+-- The search for the line that a name names, token after token: what the lines passed and the lines left say of its number. Assumes nothing.
+use mathlib.Core.Path.{_≡_, refl, sym, ap, subst, _∙_}
+use mathlib.Core.Bool.{Bool, true, false, cond}
+use mathlib.Core.List.{List, [], _∷_}
+use Prim.Native.Nat.{ℕ, zero, suc, _+_, _<_, _≤_}
+use native.Mathlib.Omega.{arith}
+use lib.ListN.{length}
+use Rattle.syntax.specs.Tokens.{Token, name, sign, range, unknown, Lexeme, same, lexemes, tokens}
+use Rattle.syntax.specs.Compile.{index-of}
+use Rattle.syntax.specs.code.Heads.{ends-line, head-of, heads-from, heads}
+use Rattle.syntax.specs.declared.Token as Code
+use Rattle.reader.specs.declared.Lexeme as Scanner
+use Rattle.reader.specs.declared.Scanned.{Scanned}
+use Rattle.reader.specs.declared.Scanned.the-variants.{Found, End}
+use Rattle.reader.specs.declared.Head.{Head}
+use Rattle.reader.specs.declared.Head.the-variants.{Sought, Other, Nothing}
+use Rattle.reader.specs.code.Scanning.{lexemes-at, token-of, Scans, Scans-to}
+use Rattle.reader.specs.code.Naming.{head-by}
+
+-- WHAT A SCAN FOUND, once its kind is known
+pub scan-found : (text : List ℕ) (at : ℕ) (r : Scanned) (l : Scanner.Lexeme) → Scans text at r → r ≡ Found l → Scans-to text at l
+scan-found text at r l s e = subst (Scans text at) e s
+
+pub scan-ended : (text : List ℕ) (at : ℕ) (r : Scanned) → Scans text at r → r ≡ End → lexemes-at text at ≡ []
+scan-ended text at r s e = subst (Scans text at) e s
+
+abbrev pub tokens-at : (text : List ℕ) → (at : ℕ) → List Token
+tokens-at text at = tokens (lexemes-at text at)
+
+pub tokens-start : (text : List ℕ) → tokens (lexemes text) ≡ tokens-at text 0
+unfolding lexemes lexemes-at
+tokens-start text = refl
+
+pub tokens-end : (text : List ℕ) (at : ℕ) → lexemes-at text at ≡ [] → tokens-at text at ≡ []
+unfolding tokens
+tokens-end text at e = rw e
+
+pub tokens-next :
+    (text : List ℕ) (at : ℕ) (l : Scanner.Lexeme) → Scans-to text at l →
+    tokens-at text at ≡ token-of text (l .offset) (l .token) ∷ tokens-at text (l .next)
+unfolding tokens
+tokens-next text at l s = rw (s .first)
+
+-- A TOKEN BEFORE THE HEADS LEFT
+by-head : Head → ℕ → ℕ
+by-head Sought n = 0
+by-head Other n = suc n
+by-head Nothing n = n
+
+by-test : (b : Bool) (n : ℕ) → cond b 0 (suc n) ≡ by-head (cond b Sought Other) n
+unfolding by-head
+by-test true n = refl
+by-test false n = refl
+
+index-of-head :
+    (n : List ℕ) (b : Bool) (t : Token) (hs : List (List ℕ)) → index-of n (head-of b t hs) ≡ by-head (head-by n b t) (index-of n hs)
+unfolding index-of head-of by-head head-by
+index-of-head n true (name m) hs = by-test (same n m) (index-of n hs)
+index-of-head n true (sign s) hs = refl
+index-of-head n true (range l h) hs = refl
+index-of-head n true unknown hs = refl
+index-of-head n false t hs = refl
+
+-- THE SEARCH, with the tokens from a place on still to be looked at, after so many lines
+pub record Searching (text sought : List ℕ) (at : ℕ) (begins : Bool) (line : ℕ) : Type 0 where
+  pub left : index-of sought (heads text) ≡ line + index-of sought (heads-from begins (tokens-at text at))
+  pub few : line ≤ at
+
+module _ (text sought : List ℕ) where
+  pub search-start : Searching text sought 0 true 0
+  search-start = record { left = ap (λ (ts : List Token). index-of sought (heads-from true ts)) (tokens-start text) ∙ omega arith; few = omega arith }
+
+  module _ (at : ℕ) (begins : Bool) (line : ℕ) (come : Searching text sought at begins line) where
+    pub search-end : lexemes-at text at ≡ [] → line ≡ index-of sought (heads text)
+    unfolding heads-from index-of
+    search-end e = sym (come .left ∙ rw (tokens-end text at e) (omega arith))
+
+    module _ (l : Scanner.Lexeme) (s : Scans-to text at l) where
+      told : Token
+      told = token-of text (l .offset) (l .token)
+
+      rest : ℕ
+      rest = index-of sought (heads-from (ends-line told) (tokens-at text (l .next)))
+
+      one-more : index-of sought (heads text) ≡ line + by-head (head-by sought begins told) rest
+      unfolding told rest heads-from
+      one-more = come .left ∙ rw (tokens-next text at l s) (ap (λ (n : ℕ). line + n) (index-of-head sought begins _ _))
+
+      module _ (h : Head) (is : h ≡ head-by sought begins (token-of text (l .offset) (l .token))) where
+        by : (k : Head) → h ≡ k → index-of sought (heads text) ≡ line + by-head k rest
+        unfolding told
+        by k e = one-more ∙ ap (λ (j : Head). line + by-head j rest) (sym is ∙ e)
+
+        pub search-found : h ≡ Sought → line ≡ index-of sought (heads text)
+        unfolding by-head
+        search-found e = omega (arith, by Sought e)
+
+        module _ (b : Bool) (ends : b ≡ ends-line (token-of text (l .offset) (l .token))) where
+          after : rest ≡ index-of sought (heads-from b (tokens-at text (l .next)))
+          unfolding rest told
+          after = rw ends
+
+          pub search-other : h ≡ Other → (n : ℕ) → n ≡ line + 1 → Searching text sought (l .next) b n
+          unfolding by-head
+          search-other e n q = record { left = omega (arith, by Other e, after); few = omega (arith, come .few, s .from, s .some) }
+
+          pub search-nothing : h ≡ Nothing → (n : ℕ) → n ≡ line → Searching text sought (l .next) b n
+          unfolding by-head
+          search-nothing e n q = record { left = omega (arith, by Nothing e, after); few = omega (arith, come .few, s .from, s .some) }

@@ -1,0 +1,80 @@
+-- `reader::scanner::lexeme_at` meets its contract: a word, a range, or one byte. Assumes nothing.
+use mathlib.Core.Path.{sym, _∙_}
+use native.Mathlib.Omega.{arith}
+use borrow.Author.Needs.{needs}
+use Rattle.reader.proofs.Tokenizing.{letters-within, range-within, word-scanned, range-scanned, sign-scanned}
+use Rattle.reader.proofs.scanner.lexeme_at.Statement.{statement}
+use Rattle.reader.proofs.scanner.lexeme_at.Tie as tie
+
+shared-slice-read-is-letter : tie.Need-shared-slice-read-is-letter
+shared-slice-read-is-letter c = search needs
+
+is-letter-requires : tie.Need-is-letter-requires
+is-letter-requires c κs = search needs
+
+letters-from-requires : tie.Need-letters-from-requires
+letters-from-requires c κs = search needs
+
+word-at-requires : tie.Need-word-at-requires
+word-at-requires c κs = letters-within (c .before .before .before .before .before .args .text .now) (c .before .before .before .before .before .args .at) _ (c .before .before .before .before .before .pre) (c .letters-from .ensures)
+
+add-t11 : tie.Need-add-t11
+add-t11 c = omega (arith, letters-within (c .before .before .before .before .before .before .args .text .now) (c .before .before .before .before .before .before .args .at) _ (c .before .before .before .before .before .before .pre) (c .before .letters-from .ensures))
+
+returns : tie.Need-returns
+returns c = word-scanned (c .before .before .before .before .before .before .args .text .now) (c .before .before .before .before .before .before .args .at) (c .before .before .before .before .before .before .pre) _ _ (sym (c .before .before .if1 .taken) ∙ c .before .before .before .is-letter .ensures) (c .before .letters-from .ensures) (c .word-at .ensures)
+
+range-at-requires : tie.Need-range-at-requires
+range-at-requires c κs = search needs
+
+add-low : tie.Need-add-low
+add-low c = search needs
+
+shared-slice-read-low : tie.Need-shared-slice-read-low
+shared-slice-read-low c = omega (arith, range-within (c .before .before .before .before .before .before .before .args .text .now) (c .before .before .before .before .before .before .before .args .at) (sym (c .before .if2 .taken) ∙ c .before .before .range-at .ensures))
+
+add-high : tie.Need-add-high
+add-high c = search needs
+
+shared-slice-read-high : tie.Need-shared-slice-read-high
+shared-slice-read-high c = omega (arith, range-within (c .before .before .before .before .before .before .before .before .args .text .now) (c .before .before .before .before .before .before .before .before .args .at) (sym (c .before .before .if2 .taken) ∙ c .before .before .before .range-at .ensures))
+
+add-t13 : tie.Need-add-t13
+add-t13 c = search needs
+
+returns-2 : tie.Need-returns-2
+returns-2 c = range-scanned (c .before .before .before .before .before .before .before .before .args .text .now) (c .before .before .before .before .before .before .before .before .args .at) (c .before .before .before .before .before .before .before .before .pre) (sym (c .before .before .before .before .if1 .left) ∙ c .before .before .before .before .before .is-letter .ensures) (sym (c .before .before .if2 .taken) ∙ c .before .before .before .range-at .ensures)
+
+shared-slice-read-sign-of : tie.Need-shared-slice-read-sign-of
+shared-slice-read-sign-of c = search needs
+
+sign-of-requires : tie.Need-sign-of-requires
+sign-of-requires c κs = search needs
+
+add-t20 : tie.Need-add-t20
+add-t20 c = search needs
+
+returns-3 : tie.Need-returns-3
+returns-3 c = sign-scanned (c .before .before .before .before .before .before .before .before .args .text .now) (c .before .before .before .before .before .before .before .before .args .at) (c .before .before .before .before .before .before .before .before .pre) (sym (c .before .before .before .before .if1 .left) ∙ c .before .before .before .before .before .is-letter .ensures) _ (sym (c .before .before .if2 .left) ∙ c .before .before .before .range-at .ensures) (c .sign-of .ensures _ _)
+
+pub lexeme-at-spec : {M : Type 1} → statement M
+lexeme-at-spec =
+    tie.close
+    (tie.spec
+    shared-slice-read-is-letter
+    is-letter-requires
+    letters-from-requires
+    word-at-requires
+    add-t11
+    returns
+    range-at-requires
+    add-low
+    shared-slice-read-low
+    add-high
+    shared-slice-read-high
+    add-t13
+    returns-2
+    shared-slice-read-sign-of
+    sign-of-requires
+    add-t20
+    returns-3)

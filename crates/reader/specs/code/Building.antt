@@ -1,0 +1,23 @@
+-- The rules made while an expression is read, on the code's own structs. Assumes nothing: these are definitions.
+use mathlib.Core.Path.{_≡_}
+use mathlib.Core.List.{List, [], _∷_}
+use Prim.Native.Nat.{ℕ, suc, _+_, _-_, _*_}
+use lib.ListN.{length}
+use Rattle.codec.specs.Bytes.{written}
+use Rattle.grammar.specs.declared.Expression.{Expression}
+use Rattle.syntax.specs.Compile.{rule-bytes}
+use Rattle.reader.specs.declared.Rules.{Rules}
+use Rattle.reader.specs.declared.emitter.RuleBytes.{RuleBytes}
+
+-- a rule's bytes, the last being 0
+abbrev pub bytes-are : RuleBytes → Expression → Type 0
+bytes-are r x = r .kind ∷ r .b ∷ r .c ∷ 0 ∷ [] ≡ rule-bytes x
+
+-- rules written at the numbers from n on
+unfoldable pub put-rules : (bytes : List ℕ) → (n : ℕ) → List Expression → List ℕ
+put-rules bs n [] = bs
+put-rules bs n (x ∷ xs) = put-rules (written bs (4 * n) (rule-bytes x)) (suc n) xs
+
+-- the rules with these helpers more, and so many taken from those that are left
+unfoldable pub advanced : Rules → List Expression → (taken : ℕ) → Rules
+advanced r xs k = record { bytes = put-rules (r .bytes) (r .next) xs; next = r .next + length xs; left = r .left - k }

@@ -1,0 +1,57 @@
+// The reader of grammars as text: scanning, faults, names, and the grammar built while an expression is read.
+pub mod emitter;
+pub mod lookahead;
+pub mod names;
+pub mod operators;
+pub mod scanner;
+
+use syntax::Node;
+use syntax::Token;
+
+// A token with its offset, and the offset after it.
+pub struct Lexeme {
+    pub token: Token,
+    pub offset: usize,
+    pub next: usize,
+}
+
+// What is found from a place on: a lexeme, or no more.
+pub enum Scanned {
+    Found(Lexeme),
+    End,
+}
+
+// What a token is to the search for a line's name: the name sought where a line begins, another name there, or anything else.
+pub enum Head {
+    Sought,
+    Other,
+    Nothing,
+}
+
+// The rules made so far, four bytes each: the number of the next helper rule, and how many more rules the line may need.
+pub struct Rules {
+    pub bytes: [u8; 124],
+    pub next: usize,
+    pub left: usize,
+}
+
+// A rule's number, and the rules with it.
+pub struct Numbered {
+    pub number: u8,
+    pub rules: Rules,
+}
+
+// An expression that was read, up to a place: what stands for it, and the rules with those of its parts. It fits if no more rules are needed than were left.
+pub struct Part {
+    pub fits: bool,
+    pub at: usize,
+    pub node: Node,
+    pub rules: Rules,
+}
+
+// The first part of a sequence or choice, with its number, and the rules with those of the part. It fits if a rule was left.
+pub struct Begun {
+    pub fits: bool,
+    pub number: u8,
+    pub rules: Rules,
+}

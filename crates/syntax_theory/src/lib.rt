@@ -1,0 +1,1 @@
+// The theory of typed grammars: see proofs/. No code.
