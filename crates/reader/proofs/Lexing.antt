@@ -1,6 +1,6 @@
--- The lexemes of a text from a place on: none past its end, the same after a byte that is skipped, and at a token the token's lexeme and those after it. Assumes nothing.
+-- The lexemes of a text from a place on: none past its end, the same after a skipped byte, one more at a token. Assumes nothing.
 use mathlib.Core.Path.{_≡_, refl, sym, ap, _∙_}
-use mathlib.Core.Bool.{Bool, true, false, _&&_, cond}
+use mathlib.Core.Bool.{Bool, true, false, cond}
 use mathlib.Core.List.{List, [], _∷_}
 use Prim.Native.Nat.{ℕ, zero, suc, _+_, _-_, _<_, _≤_}
 use native.Mathlib.Nat.{add-zero}
@@ -8,11 +8,11 @@ use native.Mathlib.Numerals.{add-one}
 use native.Mathlib.Decide.{decLt}
 use native.Mathlib.Omega.{arith}
 use lib.Dec.{eqb}
-use lib.ListN.{length, getD, take, drop, length-drop, drop-of-length-le, List·getD-eq-default}
+use lib.ListN.{length, take, drop, length-drop, drop-of-length-le, List·getD-eq-default}
 use lib.Seq.{drop-nil, drop-cons, drop-drop, getD-drop}
 use borrow.Author.Tests.{eqb-true}
 use Rattle.codec.specs.Bytes.{byte}
-use Rattle.syntax.specs.Tokens.{Lexeme, letter, letters, range-there, token-at, width-at, skipped, lexemes-from}
+use Rattle.syntax.specs.Tokens.{letter, letters, range-there, token-at, width-at, skipped, lexemes-from}
 use Rattle.grammar.proofs.Bools.{both-true}
 use Rattle.reader.specs.code.Scanning.{lexemes-at, Skips}
 

@@ -2,13 +2,11 @@
 use mathlib.Core.Path.{_≡_, refl, sym, ap, subst, _∙_}
 use mathlib.Core.Bool.{Bool, true, false, cond}
 use mathlib.Core.List.{List, [], _∷_}
-use Prim.Native.Nat.{ℕ, zero, suc, _+_, _<_, _≤_}
+use Prim.Native.Nat.{ℕ, suc, _+_, _≤_}
 use native.Mathlib.Omega.{arith}
-use lib.ListN.{length}
 use Rattle.syntax.specs.Tokens.{Token, name, sign, range, unknown, Lexeme, same, lexemes, tokens}
 use Rattle.syntax.specs.Compile.{index-of}
 use Rattle.syntax.specs.code.Heads.{ends-line, head-of, heads-from, heads}
-use Rattle.syntax.specs.declared.Token as Code
 use Rattle.reader.specs.declared.Lexeme as Scanner
 use Rattle.reader.specs.declared.Scanned.{Scanned}
 use Rattle.reader.specs.declared.Scanned.the-variants.{Found, End}

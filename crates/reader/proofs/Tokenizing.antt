@@ -1,22 +1,22 @@
--- What the scanner's functions find: a range, a reserved word or a name, a sign; and that the lexeme found is the first from a place on. Assumes nothing.
+-- What the scanner's functions find, a range, a word or a sign; and that the lexeme found is the first from a place on. Assumes nothing.
 use mathlib.Core.Path.{_≡_, refl, sym, ap, subst, _∙_}
-use mathlib.Core.Bool.{Bool, true, false, _&&_, cond}
-use mathlib.Core.List.{List, [], _∷_}
-use Prim.Native.Nat.{ℕ, zero, suc, _+_, _-_, _<_, _≤_}
+use mathlib.Core.Bool.{Bool, true, false, cond}
+use mathlib.Core.List.{List}
+use Prim.Native.Nat.{ℕ, _+_, _-_, _<_, _≤_}
 use native.Mathlib.Omega.{arith}
 use lib.Dec.{eqb}
-use lib.ListN.{length, getD, drop, length-drop}
+use lib.ListN.{length, drop, length-drop}
 use lib.Seq.{getD-drop}
 use borrow.Author.Tests.{eq-eqb, ne-eqb}
 use Rattle.codec.specs.Bytes.{byte, section}
-use Rattle.syntax.specs.Tokens.{Token, name, sign, range, unknown, Lexeme, letter, letters, same, empty-word, fail-word, word, sign-of, range-there, token-at, width-at}
+use Rattle.syntax.specs.Tokens.{Token, name, sign, unknown, Lexeme, letter, letters, same, empty-word, fail-word, word, sign-of, range-there, token-at, width-at}
 use Rattle.syntax.specs.declared.Token as Code
 use Rattle.syntax.specs.declared.Token.the-variants.{Name, Sign, Range}
 use Rattle.syntax.specs.declared.Sign as Code-sign
 use Rattle.syntax.specs.declared.Sign.the-variants.{Operand}
 use Rattle.syntax.specs.declared.Leaf.the-variants.{EmptyString, Failure}
 use Rattle.reader.specs.declared.Lexeme as Scanner
-use Rattle.reader.specs.code.Scanning.{lexemes-at, token-of, Skips, Scans-word, Scans-token, Scans-to}
+use Rattle.reader.specs.code.Scanning.{token-of, Skips, Scans-word, Scans-token, Scans-to}
 use Rattle.reader.proofs.Lexing.{letters-fit, letters-taken, front, range-fits, lexemes-token, width-there, width-within}
 
 -- WHETHER A RANGE IS THERE, byte after byte
@@ -105,7 +105,12 @@ module _ (text : List ℕ) (i : ℕ) (more : i < length text) where
         Scans-token text i (record { token = Range (record { low = byte text (i + 1); high = byte text (i + 3) }); offset = i; next = i + 5 })
     unfolding token-at width-at token-of
     range-scanned e =
-        record { there = refl; stands = rw (no-letter, ← e, getD-drop i text 1 0, getD-drop i text 3 0); wide = rw (no-letter, ← e); named = λ k q. cc }
+        record {
+          there = refl;
+          stands = rw (no-letter, ← e, getD-drop i text 1 0, getD-drop i text 3 0);
+          wide = rw (no-letter, ← e);
+          named = λ k q. cc;
+        }
 
     pub sign-scanned :
         (t : Code.Token) → false ≡ range-there (drop i text) → token-of text i t ≡ sign-of (byte text i) →

@@ -4,3 +4,6 @@ pub mod Building
 pub mod Lookahead
 pub mod Operators
 pub mod Naming
+pub mod Levels
+pub mod Lines
+pub mod Stepping

@@ -1,10 +1,13 @@
 // The reader of grammars as text: scanning, faults, names, and the grammar built while an expression is read.
 pub mod emitter;
+pub mod expressions;
+pub mod faults;
 pub mod lookahead;
 pub mod names;
 pub mod operators;
 pub mod scanner;
 
+use refusal::Refusal;
 use syntax::Node;
 use syntax::Token;
 
@@ -26,6 +29,25 @@ pub enum Head {
     Sought,
     Other,
     Nothing,
+}
+
+// Where in a text: a line begins, its = must come, or an expression goes on, whose last operand is complete or not, with so many brackets open.
+pub enum Spot {
+    AtLine,
+    AtEquals,
+    Inside(bool, usize),
+}
+
+// What a token leads to: another spot, or a refusal of this number.
+pub enum Step {
+    To(Spot),
+    Wrong(u32),
+}
+
+// The first refusal of a text, or number 0, and the count of lines begun before it.
+pub struct TextCheck {
+    pub refusal: Refusal,
+    pub lines: usize,
 }
 
 // The rules made so far, four bytes each: the number of the next helper rule, and how many more rules the line may need.
@@ -54,4 +76,17 @@ pub struct Begun {
     pub fits: bool,
     pub number: u8,
     pub rules: Rules,
+}
+
+// The lines of a text, read into rules. They fit if 31 rules are enough.
+pub struct Lines {
+    pub fits: bool,
+    pub rules: Rules,
+}
+
+// What reading a text answers: a refusal, or number 0 and a grammar of so many bytes. The bytes after those are 0.
+pub struct ReadGrammar {
+    pub refusal: Refusal,
+    pub length: usize,
+    pub bytes: [u8; 124],
 }

@@ -42,14 +42,15 @@ suffix-counted OneOrMore q n = simp length-append (omega arith)
 suffix-counted Optional q n = simp length-append (omega arith)
 
 -- two parts, the second after the first
-two-counted : (c : Compiled) (n : ℕ) (d : ℕ → Compiled) (a b : ℕ) → length (c .helpers) + owed (c .node) ≡ a →
-    length (d (n + length (place c n .helpers)) .helpers) + owed (d (n + length (place c n .helpers)) .node) ≡ b →
-    length (place c n .helpers ++ place (d (n + length (place c n .helpers))) (n + length (place c n .helpers)) .helpers) + 1 ≡ 1 + a + b
-two-counted c n d a b f g =
+two-counted :
+    (c : Compiled) (d : ℕ → Compiled) (n : ℕ) {a b : ℕ} → length (c .helpers) + owed (c .node) ≡ a →
+    ((m : ℕ) → length (d m .helpers) + owed (d m .node) ≡ b) →
+    let p = place c n in
+    let m = n + length (p .helpers) in
+    length (p .helpers ++ place (d m) m .helpers) + 1 ≡ 1 + a + b
+two-counted c d n f g =
     let m = n + length (place c n .helpers) in
-    let one : length (place c n .helpers) ≡ a = placed-counted c n ∙ f in
-    let other : length (place (d m) m .helpers) ≡ b = placed-counted (d m) m ∙ g in
-    omega (arith, length-append (place c n .helpers) (place (d m) m .helpers))
+    omega (arith, f, g m, placed-counted c n, placed-counted (d m) m, length-append (place c n .helpers) (place (d m) m .helpers))
 
 pub compiled-need : (ns : List (List ℕ)) (e : Tree) (n : ℕ) → length (compile ns e n .helpers) + owed (compile ns e n .node) ≡ need e
 unfolding compile need owed
@@ -60,10 +61,8 @@ compiled-need ns (prefixed p e) n =
     prefix-counted p _ n ∙ ap (λ m. prefix-need p + m) (placed-counted (compile ns e n) n ∙ compiled-need ns e n)
 compiled-need ns (suffixed s e) n =
     suffix-counted s _ n ∙ ap (λ m. suffix-need s + m) (placed-counted (compile ns e n) n ∙ compiled-need ns e n)
-compiled-need ns (sequence e f) n =
-    two-counted (compile ns e n) n (compile ns f) (need e) (need f) (compiled-need ns e n) (compiled-need ns f (n + length (place (compile ns e n) n .helpers)))
-compiled-need ns (choice e f) n =
-    two-counted (compile ns e n) n (compile ns f) (need e) (need f) (compiled-need ns e n) (compiled-need ns f (n + length (place (compile ns e n) n .helpers)))
+compiled-need ns (sequence e f) n = two-counted (compile ns e n) (compile ns f) n (compiled-need ns e n) (compiled-need ns f)
+compiled-need ns (choice e f) n = two-counted (compile ns e n) (compile ns f) n (compiled-need ns e n) (compiled-need ns f)
 
 pub placed-need : (ns : List (List ℕ)) (e : Tree) (n : ℕ) → length (place (compile ns e n) n .helpers) ≡ need e
 placed-need ns e n = placed-counted (compile ns e n) n ∙ compiled-need ns e n

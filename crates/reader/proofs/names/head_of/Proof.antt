@@ -1,5 +1,4 @@
 -- `reader::names::head_of` meets its contract: one case for each token where a line begins. Assumes nothing.
-use mathlib.Core.Path.{sym, _∙_}
 use borrow.Author.Needs.{needs}
 use borrow.Author.Tests.{not-true, not-false}
 use Rattle.reader.specs.code.Naming.{head-by}
@@ -15,7 +14,7 @@ enum-known-token : tie.Need-enum-known-token
 enum-known-token c = search needs
 
 same-letters-requires : tie.Need-same-letters-requires
-same-letters-requires c κs = (c .before .before .before .before .before .pre .0, c .before .before .before .before .before .pre .1 _ (c .before .token .given .1))
+same-letters-requires c κs = let start = c .before .before .before .before .before in (start .pre .0, start .pre .1 _ (c .before .token .given .1))
 
 enum-told : tie.Need-enum-told
 enum-told c = search needs
@@ -28,11 +27,25 @@ enum-told-3 c = search needs
 
 returns-2 : tie.Need-returns-2
 unfolding head-by token-of
-returns-2 c = simp (not-false (c .before .before .before .before .before .before .before .args .begins) (c .before .before .before .before .before .if1 .left), c .before .before .before .token .given .1, sym (c .before .same-letters .ensures) ∙ c .if2 .taken)
+returns-2 c =
+    let begun = c .before .before .before .before .before in
+    simp (
+      not-false (begun .before .before .args .begins) (begun .if1 .left),
+      c .before .before .before .token .given .1,
+      ← c .before .same-letters .ensures,
+      c .if2 .taken,
+    )
 
 returns-3 : tie.Need-returns-3
 unfolding head-by token-of
-returns-3 c = simp (not-false (c .before .before .before .before .before .before .before .args .begins) (c .before .before .before .before .before .if1 .left), c .before .before .before .token .given .1, sym (c .before .same-letters .ensures) ∙ c .if2 .left)
+returns-3 c =
+    let begun = c .before .before .before .before .before in
+    simp (
+      not-false (begun .before .before .args .begins) (begun .if1 .left),
+      c .before .before .before .token .given .1,
+      ← c .before .same-letters .ensures,
+      c .if2 .left,
+    )
 
 returns-4 : tie.Need-returns-4
 unfolding head-by token-of

@@ -26,14 +26,19 @@ enum-known-scanned : tie.Need-enum-known-scanned Inv-loop μ-loop
 enum-known-scanned c = search needs
 
 head-of-requires : tie.Need-head-of-requires Inv-loop μ-loop
-head-of-requires c κs = let s = scan-found _ _ _ _ (c .before .before .before .scan .ensures) (c .before .scanned .given .1) in
-    (c .before .before .before .before .before .before .before .pre, λ k e. omega (arith, s .named k e, s .within))
+head-of-requires c κs =
+    let scanned = c .before .before .before in
+    let s = scan-found _ _ _ _ (scanned .scan .ensures) (c .before .scanned .given .1) in
+    (scanned .before .before .before .before .pre, λ k e. omega (arith, s .named k e, s .within))
 
 enum-told : tie.Need-enum-told Inv-loop μ-loop
 enum-told c = search needs
 
 returns : tie.Need-returns Inv-loop μ-loop
-returns c = search-found _ _ _ _ _ (c .before .before .before .before .before .before .before .before .loop .inv) _ (scan-found _ _ _ _ (c .before .before .before .before .before .before .scan .ensures) (c .before .before .before .before .scanned .given .1)) _ (c .before .before .head-of .ensures) (c .enum-told .given .1)
+returns c =
+    let scanned = c .before .before .before .before .before .before in
+    let s = scan-found _ _ _ _ (scanned .scan .ensures) (c .before .before .before .before .scanned .given .1) in
+    search-found _ _ _ _ _ (scanned .before .before .loop .inv) _ s _ (c .before .before .head-of .ensures) (c .enum-told .given .1)
 
 enum-told-2 : tie.Need-enum-told-2 Inv-loop μ-loop
 enum-told-2 c = search needs
@@ -48,20 +53,30 @@ ends-line-requires : tie.Need-ends-line-requires Inv-loop μ-loop
 ends-line-requires c κs = search needs
 
 loop-less : tie.Need-loop-less Inv-loop μ-loop
-loop-less c = let s = scan-found _ _ _ _ (c .before .before .before .before .before .before .scan .ensures) (c .before .before .before .before .scanned .given .1) in omega (arith, s .from, s .some, s .within)
+loop-less c =
+    let found = c .before .before .before .before in
+    let s = scan-found _ _ _ _ (found .before .before .scan .ensures) (found .scanned .given .1) in
+    omega (arith, s .from, s .some, s .within)
 
 loop-again : tie.Need-loop-again Inv-loop μ-loop
-loop-again c = let s = scan-found _ _ _ _ (c .before .before .before .before .before .before .scan .ensures) (c .before .before .before .before .scanned .given .1) in
+loop-again c =
+    let told = c .before .before in
+    let scanned = told .before .before .before .before in
+    let turn = scanned .before .before in
+    let s = scan-found _ _ _ _ (scanned .scan .ensures) (told .before .before .scanned .given .1) in
+    let after = c .ends-line .ensures _ _ in
     ⊎-elim
-    (λ w. search-other _ _ _ _ _ (c .before .before .before .before .before .before .before .before .loop .inv) _ s _ (c .before .before .head-of .ensures) _ (c .ends-line .ensures _ _) (w .1 .given .1) _ (w .2))
-    (λ w. search-nothing _ _ _ _ _ (c .before .before .before .before .before .before .before .before .loop .inv) _ s _ (c .before .before .head-of .ensures) _ (c .ends-line .ensures _ _) (w .1 .given .1) _ (w .2))
+    (λ w. search-other _ _ _ _ _ (turn .loop .inv) _ s _ (told .head-of .ensures) _ after (w .1 .given .1) _ (w .2))
+    (λ w. search-nothing _ _ _ _ _ (turn .loop .inv) _ s _ (told .head-of .ensures) _ after (w .1 .given .1) _ (w .2))
     (c .before .match2 .came)
 
 enum-told-4 : tie.Need-enum-told-4 Inv-loop μ-loop
 enum-told-4 c = search needs
 
 returns-2 : tie.Need-returns-2 Inv-loop μ-loop
-returns-2 c = search-end _ _ _ _ _ (c .before .before .before .before .loop .inv) (scan-ended _ _ _ (c .before .before .scan .ensures) (c .enum-told4 .given .1))
+returns-2 c =
+    let scanned = c .before .before in
+    search-end _ _ _ _ _ (scanned .before .before .loop .inv) (scan-ended _ _ _ (scanned .scan .ensures) (c .enum-told4 .given .1))
 
 returns-3 : tie.Need-returns-3 Inv-loop μ-loop
 returns-3 c = search-end _ _ _ _ _ (c .before .loop .inv) (lexemes-end _ _ (c .loop-test .left))

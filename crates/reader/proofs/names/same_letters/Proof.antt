@@ -25,7 +25,8 @@ same-at-requires : tie.Need-same-at-requires
 same-at-requires c κs = search needs
 
 returns : tie.Need-returns
-returns c = let s = c .before .before .before .args in
+returns c =
+    let s = c .before .before .before .args in
     let wide : (s .other + s .wide) - s .other ≡ s .wide = omega arith in
     c .same-at .ensures ∙ ap (λ (n : ℕ). same (section (s .text .now) (s .name) (s .long)) (take n (drop (s .other) (s .text .now)))) wide
 

@@ -16,13 +16,21 @@ letters-from-requires : tie.Need-letters-from-requires
 letters-from-requires c κs = search needs
 
 word-at-requires : tie.Need-word-at-requires
-word-at-requires c κs = letters-within (c .before .before .before .before .before .args .text .now) (c .before .before .before .before .before .args .at) _ (c .before .before .before .before .before .pre) (c .letters-from .ensures)
+word-at-requires c κs =
+    let start = c .before .before .before .before .before in
+    letters-within (start .args .text .now) (start .args .at) _ (start .pre) (c .letters-from .ensures)
 
 add-t11 : tie.Need-add-t11
-add-t11 c = omega (arith, letters-within (c .before .before .before .before .before .before .args .text .now) (c .before .before .before .before .before .before .args .at) _ (c .before .before .before .before .before .before .pre) (c .before .letters-from .ensures))
+add-t11 c =
+    let start = c .before .before .before .before .before .before in
+    omega (arith, letters-within (start .args .text .now) (start .args .at) _ (start .pre) (c .before .letters-from .ensures))
 
 returns : tie.Need-returns
-returns c = word-scanned (c .before .before .before .before .before .before .args .text .now) (c .before .before .before .before .before .before .args .at) (c .before .before .before .before .before .before .pre) _ _ (sym (c .before .before .if1 .taken) ∙ c .before .before .before .is-letter .ensures) (c .before .letters-from .ensures) (c .word-at .ensures)
+returns c =
+    let letter = c .before .before .before in
+    let start = letter .before .before .before in
+    word-scanned (start .args .text .now) (start .args .at) (start .pre) _ _ (sym (c .before .before .if1 .taken) ∙ letter .is-letter .ensures)
+    (c .before .letters-from .ensures) (c .word-at .ensures)
 
 range-at-requires : tie.Need-range-at-requires
 range-at-requires c κs = search needs
@@ -31,19 +39,30 @@ add-low : tie.Need-add-low
 add-low c = search needs
 
 shared-slice-read-low : tie.Need-shared-slice-read-low
-shared-slice-read-low c = omega (arith, range-within (c .before .before .before .before .before .before .before .args .text .now) (c .before .before .before .before .before .before .before .args .at) (sym (c .before .if2 .taken) ∙ c .before .before .range-at .ensures))
+shared-slice-read-low c =
+    let range = c .before .before in
+    let start = range .before .before .before .before .before in
+    omega (arith, range-within (start .args .text .now) (start .args .at) (sym (c .before .if2 .taken) ∙ range .range-at .ensures))
 
 add-high : tie.Need-add-high
 add-high c = search needs
 
 shared-slice-read-high : tie.Need-shared-slice-read-high
-shared-slice-read-high c = omega (arith, range-within (c .before .before .before .before .before .before .before .before .args .text .now) (c .before .before .before .before .before .before .before .before .args .at) (sym (c .before .before .if2 .taken) ∙ c .before .before .before .range-at .ensures))
+shared-slice-read-high c =
+    let range = c .before .before .before in
+    let start = range .before .before .before .before .before in
+    omega (arith, range-within (start .args .text .now) (start .args .at) (sym (c .before .before .if2 .taken) ∙ range .range-at .ensures))
 
 add-t13 : tie.Need-add-t13
 add-t13 c = search needs
 
 returns-2 : tie.Need-returns-2
-returns-2 c = range-scanned (c .before .before .before .before .before .before .before .before .args .text .now) (c .before .before .before .before .before .before .before .before .args .at) (c .before .before .before .before .before .before .before .before .pre) (sym (c .before .before .before .before .if1 .left) ∙ c .before .before .before .before .before .is-letter .ensures) (sym (c .before .before .if2 .taken) ∙ c .before .before .before .range-at .ensures)
+returns-2 c =
+    let range = c .before .before .before in
+    let letter = range .before .before in
+    let start = letter .before .before .before in
+    range-scanned (start .args .text .now) (start .args .at) (start .pre) (sym (range .before .if1 .left) ∙ letter .is-letter .ensures)
+    (sym (c .before .before .if2 .taken) ∙ range .range-at .ensures)
 
 shared-slice-read-sign-of : tie.Need-shared-slice-read-sign-of
 shared-slice-read-sign-of c = search needs
@@ -55,7 +74,12 @@ add-t20 : tie.Need-add-t20
 add-t20 c = search needs
 
 returns-3 : tie.Need-returns-3
-returns-3 c = sign-scanned (c .before .before .before .before .before .before .before .before .args .text .now) (c .before .before .before .before .before .before .before .before .args .at) (c .before .before .before .before .before .before .before .before .pre) (sym (c .before .before .before .before .if1 .left) ∙ c .before .before .before .before .before .is-letter .ensures) _ (sym (c .before .before .if2 .left) ∙ c .before .before .before .range-at .ensures) (c .sign-of .ensures _ _)
+returns-3 c =
+    let range = c .before .before .before in
+    let letter = range .before .before in
+    let start = letter .before .before .before in
+    sign-scanned (start .args .text .now) (start .args .at) (start .pre) (sym (range .before .if1 .left) ∙ letter .is-letter .ensures) _
+    (sym (c .before .before .if2 .left) ∙ range .range-at .ensures) (c .sign-of .ensures _ _)
 
 pub lexeme-at-spec : {M : Type 1} → statement M
 lexeme-at-spec =

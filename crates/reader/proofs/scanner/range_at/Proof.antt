@@ -23,7 +23,10 @@ shared-slice-read-if3 : tie.Need-shared-slice-read-if3
 shared-slice-read-if3 c = search needs
 
 returns-3 : tie.Need-returns-3
-returns-3 c = range-second (c .before .before .before .before .before .args .text .now) (c .before .before .before .before .before .args .at) (c .before .before .if2 .left) (c .if3 .taken)
+returns-3 c =
+    let quote = c .before .before in
+    let start = quote .before .before .before in
+    range-second (start .args .text .now) (start .args .at) (quote .if2 .left) (c .if3 .taken)
 
 add-last : tie.Need-add-last
 add-last c = search needs
@@ -32,7 +35,10 @@ shared-slice-read-result : tie.Need-shared-slice-read-result
 shared-slice-read-result c = search needs
 
 returns-4 : tie.Need-returns-4
-returns-4 c = range-third (c .before .before .before .before .before .before .args .text .now) (c .before .before .before .before .before .before .args .at) (c .before .before .before .if2 .left) (c .before .if3 .left)
+returns-4 c =
+    let quote = c .before .before .before in
+    let start = quote .before .before .before in
+    range-third (start .args .text .now) (start .args .at) (quote .if2 .left) (c .before .if3 .left)
 
 pub range-at-spec : {M : Type 1} → statement M
 range-at-spec =

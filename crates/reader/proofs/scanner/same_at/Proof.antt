@@ -27,7 +27,9 @@ shared-slice-read-if2-2 : tie.Need-shared-slice-read-if2-2 Inv-loop μ-loop
 shared-slice-read-if2-2 c = search needs
 
 returns-2 : tie.Need-returns-2 Inv-loop μ-loop
-returns-2 c = same-stop _ _ _ _ _ (c .before .before .before .before .loop .inv) (c .before .before .before .before .before .before .pre) (c .before .before .before .loop-test .taken) (c .if2 .taken)
+returns-2 c =
+    let turn = c .before .before .before .before in
+    same-stop _ _ _ _ _ (turn .loop .inv) (turn .before .before .pre) (c .before .before .before .loop-test .taken) (c .if2 .taken)
 
 add-i : tie.Need-add-i Inv-loop μ-loop
 add-i c = search needs
@@ -36,7 +38,9 @@ loop-less : tie.Need-loop-less Inv-loop μ-loop
 loop-less c = search needs
 
 loop-again : tie.Need-loop-again Inv-loop μ-loop
-loop-again c = same-next _ _ _ _ _ (c .before .before .before .before .loop .inv) (c .before .before .before .before .before .before .pre) (c .before .before .before .loop-test .taken) (c .if2 .left)
+loop-again c =
+    let turn = c .before .before .before .before in
+    same-next _ _ _ _ _ (turn .loop .inv) (turn .before .before .pre) (c .before .before .before .loop-test .taken) (c .if2 .left)
 
 returns-3 : tie.Need-returns-3 Inv-loop μ-loop
 returns-3 c = same-end _ _ _ _ _ (c .before .loop .inv) (c .loop-test .left)

@@ -25,7 +25,9 @@ is-skipped-requires : tie.Need-is-skipped-requires Inv-loop μ-loop
 is-skipped-requires c κs = search needs
 
 returns : tie.Need-returns Inv-loop μ-loop
-returns c = skip-stop _ _ _ (c .before .before .before .before .loop .inv) (sym (c .before .is-skipped .ensures) ∙ not-true _ (c .if1 .taken))
+returns c =
+    let test = c .before .before .before in
+    skip-stop _ _ _ (test .before .loop .inv) (sym (c .before .is-skipped .ensures) ∙ not-true _ (c .if1 .taken))
 
 add-i : tie.Need-add-i Inv-loop μ-loop
 add-i c = search needs
@@ -34,7 +36,10 @@ loop-less : tie.Need-loop-less Inv-loop μ-loop
 loop-less c = search needs
 
 loop-again : tie.Need-loop-again Inv-loop μ-loop
-loop-again c = skip-next _ _ _ (c .before .before .before .before .loop .inv) (c .before .before .before .loop-test .taken) (sym (c .before .is-skipped .ensures) ∙ not-false _ (c .if1 .left))
+loop-again c =
+    let test = c .before .before .before in
+    skip-next _ _ _ (test .before .loop .inv) (test .loop-test .taken)
+    (sym (c .before .is-skipped .ensures) ∙ not-false _ (c .if1 .left))
 
 returns-2 : tie.Need-returns-2 Inv-loop μ-loop
 returns-2 c = skip-end _ _ _ (c .before .loop .inv) (c .loop-test .left)

@@ -12,7 +12,9 @@ same-at-requires : tie.Need-same-at-requires
 same-at-requires c κs = search needs
 
 returns : tie.Need-returns
-returns c = word-empty _ _ (c .before .before .before .before .args .long) (sym (c .if1 .taken) ∙ c .before .same-at .ensures)
+returns c =
+    let call = c .before in
+    word-empty _ _ (call .before .before .before .args .long) (sym (c .if1 .taken) ∙ call .same-at .ensures)
 
 slice-aggregate-same-at-2 : tie.Need-slice-aggregate-same-at-2
 slice-aggregate-same-at-2 c = search needs
@@ -21,10 +23,16 @@ same-at-requires-2 : tie.Need-same-at-requires-2
 same-at-requires-2 c κs = search needs
 
 returns-2 : tie.Need-returns-2
-returns-2 c = word-fail _ _ (c .before .before .before .before .before .before .before .args .long) (sym (c .before .before .before .if1 .left) ∙ c .before .before .before .before .same-at .ensures) (sym (c .if2 .taken) ∙ c .before .same-at2 .ensures)
+returns-2 c =
+    let other = c .before .before .before in
+    let call = other .before in
+    word-fail _ _ (call .before .before .before .args .long) (sym (other .if1 .left) ∙ call .same-at .ensures)
+    (sym (c .if2 .taken) ∙ c .before .same-at2 .ensures)
 
 returns-3 : tie.Need-returns-3
-returns-3 c = word-name _ _ _ (sym (c .before .before .before .if1 .left) ∙ c .before .before .before .before .same-at .ensures) (sym (c .if2 .left) ∙ c .before .same-at2 .ensures)
+returns-3 c =
+    let other = c .before .before .before in
+    word-name _ _ _ (sym (other .if1 .left) ∙ other .before .same-at .ensures) (sym (c .if2 .left) ∙ c .before .same-at2 .ensures)
 
 pub word-at-spec : {M : Type 1} → statement M
 word-at-spec =

@@ -1,0 +1,17 @@
+-- `reader::expressions::after` meets its contract. Assumes nothing.
+use Rattle.reader.proofs.Leaves.{peek-passes}
+use borrow.Author.Needs.{needs}
+use Rattle.reader.proofs.expressions.after.Statement.{statement}
+use Rattle.reader.proofs.expressions.after.Tie as tie
+use Rattle.reader.proofs.expressions.after.Reads as reads
+use Rattle.reader.proofs.expressions.after.Lts as lts
+use Rattle.reader.proofs.lookahead.peek.Reads as peek-reads
+
+peek-requires : tie.Need-peek-requires
+peek-requires c κs = search needs
+
+returns : tie.Need-returns
+returns c = peek-passes _ _ _ (c .peek .ensures)
+
+pub after-spec : {M : Type 1} → statement M
+after-spec = tie.close (tie.spec peek-requires returns)

@@ -1,0 +1,25 @@
+-- `reader::expressions::leaf` meets its contract: no rule is left, or one is taken. Assumes nothing.
+use mathlib.Core.Path.{_∙_}
+use Rattle.reader.proofs.Leaves.{leaf-none, leaf-some}
+use borrow.Author.Needs.{needs}
+use Rattle.reader.proofs.expressions.leaf.Statement.{statement}
+use Rattle.reader.proofs.expressions.leaf.Tie as tie
+use Rattle.reader.proofs.expressions.leaf.Reads as reads
+use Rattle.reader.proofs.expressions.leaf.Lts as lts
+use Rattle.reader.proofs.operators.over.Reads as over-reads
+use Rattle.reader.proofs.operators.taken.Reads as taken-reads
+
+over-requires : tie.Need-over-requires
+over-requires c κs = search needs
+
+returns : tie.Need-returns
+returns c = c .over .ensures ∙ leaf-none _ _ _ (c .before .if1 .taken)
+
+taken-requires : tie.Need-taken-requires
+taken-requires c κs = search needs
+
+returns-2 : tie.Need-returns-2
+returns-2 c = leaf-some _ _ _ _ (c .before .if1 .left) (c .taken .ensures)
+
+pub leaf-spec : {M : Type 1} → statement M
+leaf-spec = tie.close (tie.spec over-requires returns taken-requires returns-2)

@@ -1,0 +1,49 @@
+-- `reader::faults::next` meets its contract: one case for each spot. Assumes nothing.
+use borrow.Author.Needs.{needs}
+use Rattle.reader.specs.code.Stepping.{spot-of}
+use Rattle.reader.proofs.faults.next.Statement.{statement}
+use Rattle.reader.proofs.faults.next.Tie as tie
+
+enum-told : tie.Need-enum-told
+enum-told c = search needs
+
+from-line-requires : tie.Need-from-line-requires
+from-line-requires c κs = c .before .before .before .pre
+
+enum-told-2 : tie.Need-enum-told-2
+enum-told-2 c = search needs
+
+from-equals-requires : tie.Need-from-equals-requires
+from-equals-requires c κs = search needs
+
+enum-known-spot : tie.Need-enum-known-spot
+enum-known-spot c = search needs
+
+from-inside-requires : tie.Need-from-inside-requires
+from-inside-requires c κs = search needs
+
+returns : tie.Need-returns
+unfolding spot-of
+returns c = simp (c .before .enum-told .given .1) (c .from-line .ensures)
+
+returns-2 : tie.Need-returns-2
+unfolding spot-of
+returns-2 c = simp (c .before .enum-told2 .given .1) (c .from-equals .ensures _ _ _)
+
+returns-3 : tie.Need-returns-3
+unfolding spot-of
+returns-3 c = simp (c .before .before .spot .given .1) (c .from-inside .ensures _ _ _)
+
+pub next-spec : {M : Type 1} → statement M
+next-spec =
+    tie.close
+    (tie.spec
+    enum-told
+    from-line-requires
+    enum-told-2
+    from-equals-requires
+    enum-known-spot
+    from-inside-requires
+    returns
+    returns-2
+    returns-3)
