@@ -138,7 +138,6 @@ module _ (text : List ℕ) (inner outer : Level) (follows : List Token → List 
     (parted : (e : Tree) (us : List Token) → Derives outer d ts e us → Stops outer us → Parted inner outer follows join d ts e us)
     (before : Rules) (first : Part)
     (read : (e : Tree) (us : List Token) → Derives inner d ts e us → Stops inner us → Part-right text before e us first) where
-
   abbrev Outer : Part → Type 0
   Outer r = (e : Tree) (us : List Token) → Derives outer d ts e us → Stops outer us → Part-right text before e us r
 
@@ -224,5 +223,5 @@ module _ (text : List ℕ) (inner outer : Level) (follows : List Token → List 
             in
             let made = pair-reads text join rule joins before (w .one) (w .other) (w .mid) us first rest reads y in
             let result = subst (λ (n : ℕ). Reads-to text before (join (w .one) (w .other)) us
-                (part (rest .at) (Operator (rule n (placed-number (rest .node) (rest .rules)))) (placed-rules (rest .node) (rest .rules)))) (sym (b .number)) made in
+            (part (rest .at) (Operator (rule n (placed-number (rest .node) (rest .rules)))) (placed-rules (rest .node) (rest .rules)))) (sym (b .number)) made in
             joined-right (w .tree) (does-fit text before _ us _ refl (omega (arith, joins .needed (w .one) (w .other))) result)

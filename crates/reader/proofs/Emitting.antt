@@ -12,7 +12,7 @@ use Rattle.grammar.specs.declared.Expression.{Expression}
 use Rattle.grammar.specs.declared.Expression.the-variants.{Sequence, Choice, Empty}
 use Rattle.syntax.specs.Compile.{rule-bytes, repetition-rules}
 use Rattle.reader.specs.declared.Rules.{Rules}
-use Rattle.reader.specs.code.Building.{put-rules, advanced}
+use Rattle.reader.specs.code.Building.{put-rules, advanced, placed-at}
 
 -- the same rules by the same parts
 pub rules-by :
@@ -21,22 +21,27 @@ pub rules-by :
 rules-by bs bs′ n n′ l l′ p q r = cc
 
 -- one rule's four stores
-pub one-added :
-    (r : Rules) (x : Expression) (k b c : ℕ) → k ∷ b ∷ c ∷ 0 ∷ [] ≡ rule-bytes x → length (r .bytes) ≡ 124 → r .next < max-rules →
+pub one-put :
+    (r : Rules) (n : ℕ) (x : Expression) (k b c : ℕ) → k ∷ b ∷ c ∷ 0 ∷ [] ≡ rule-bytes x → length (r .bytes) ≡ 124 → n < max-rules →
     _≡_ {A = Rules}
     (record {
-      bytes = set (set (set (set (r .bytes) (4 * r .next) k) (4 * r .next + 1) b) (4 * r .next + 2) c) (4 * r .next + 3) 0;
-      next = r .next + 1;
+      bytes = set (set (set (set (r .bytes) (4 * n) k) (4 * n + 1) b) (4 * n + 2) c) (4 * n + 3) 0;
+      next = r .next;
       left = r .left;
     })
-    (advanced r (x ∷ []) 0)
-unfolding advanced put-rules
-one-added r x k b c e long below =
-    rules-by _ _ _ _ _ _
-    (four-stored (r .bytes) (4 * r .next) k b c 0 (omega arith) ∙ ap (λ (p : List ℕ). written (r .bytes) (4 * r .next) p) e) refl
-    (sym (sub-zero (r .left)))
+    (placed-at r n x)
+one-put r n x k b c e long below =
+    rules-by _ _ _ _ _ _ (four-stored (r .bytes) (4 * n) k b c 0 (omega arith) ∙ ap (λ (p : List ℕ). written (r .bytes) (4 * n) p) e) refl refl
 
-put-append :
+-- and the next number after it
+pub one-added :
+    (r p : Rules) (x : Expression) → p ≡ placed-at r (r .next) x →
+    _≡_ {A = Rules} (record { bytes = p .bytes; next = r .next + 1; left = p .left }) (advanced r (x ∷ []) 0)
+unfolding advanced put-rules
+one-added r p x e =
+    rules-by _ _ _ _ _ _ (ap (λ (q : Rules). q .bytes) e) refl (ap (λ (q : Rules). q .left) e ∙ sym (sub-zero (r .left)))
+
+pub put-append :
     (bs : List ℕ) (n : ℕ) (xs ys : List Expression) → put-rules (put-rules bs n xs) (n + length xs) ys ≡ put-rules bs n (xs ++ ys)
 unfolding put-rules
 put-append bs n [] ys = ap (λ (m : ℕ). put-rules bs m ys) (omega arith)

@@ -123,8 +123,8 @@ module _ (text : List ℕ) (J : Joining text) (at d : ℕ) (before : Rules) (fir
           let gone : r .fits ≡ false = ap (λ (x : Part). x .fits) is in
           record {
             right =
-              none-left text (J .inner) (J .outer) (J .follows) (J .join) (J .rule) (J .joins) d (tokens-at text at) (J .parted d (tokens-at text at)) before first (read .right) fits
-              (tokens-at text (J .from first l)) (J .more first l p e) (J .one-rest) r (begun-false first h begins f) gone;
+                none-left text (J .inner) (J .outer) (J .follows) (J .join) (J .rule) (J .joins) d (tokens-at text at) (J .parted d (tokens-at text at)) before first (read .right) fits
+                (tokens-at text (J .from first l)) (J .more first l p e) (J .one-rest) r (begun-false first h begins f) gone;
             spent = nothing-spent before 0 r gone;
           }
 
@@ -140,8 +140,8 @@ module _ (text : List ℕ) (J : Joining text) (at d : ℕ) (before : Rules) (fir
           joined-rest-over f =
               record {
                 right =
-                  rest-over text (J .inner) (J .outer) (J .follows) (J .join) (J .rule) (J .joins) d (tokens-at text at) (J .parted d (tokens-at text at)) before first (read .right) fits
-                  (tokens-at text (J .from first l)) (J .more first l p e) (J .one-rest) room h (begun-true first h begins some) rest (later .right) f;
+                    rest-over text (J .inner) (J .outer) (J .follows) (J .join) (J .rule) (J .joins) d (tokens-at text at) (J .parted d (tokens-at text at)) before first (read .right) fits
+                    (tokens-at text (J .from first l)) (J .more first l p e) (J .one-rest) room h (begun-true first h begins some) rest (later .right) f;
                 spent = nothing-spent before 0 rest f;
               }
 
@@ -157,7 +157,7 @@ module _ (text : List ℕ) (J : Joining text) (at d : ℕ) (before : Rules) (fir
                 (subst (λ (n : ℕ). Level-read (J .outer) text at d before (part (rest .at) (Operator (J .rule (h .number) n)) (placed-rules (rest .node) (rest .rules)))) (sym is-number)
                 (record {
                   right =
-                    both-fit text (J .inner) (J .outer) (J .follows) (J .join) (J .rule) (J .joins) d (tokens-at text at) (J .parted d (tokens-at text at)) before first (read .right) fits
-                    (tokens-at text (J .from first l)) (J .more first l p e) (J .one-rest) room h (begun-true first h begins some) rest (later .right) both;
+                      both-fit text (J .inner) (J .outer) (J .follows) (J .join) (J .rule) (J .joins) d (tokens-at text at) (J .parted d (tokens-at text at)) before first (read .right) fits
+                      (tokens-at text (J .from first l)) (J .more first l p e) (J .one-rest) room h (begun-true first h begins some) rest (later .right) both;
                   spent = λ f. pair-spent before first rest h (rest .at) (J .rule (h .number) (placed-number (rest .node) (rest .rules))) (read .spent fits) (begun-true first h begins some) (later .spent both);
                 }))

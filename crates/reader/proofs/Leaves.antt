@@ -156,13 +156,13 @@ module _ (text : List ℕ) (d : ℕ) (before : Rules) (next : ℕ) where
           let less : c ≡ d - 1 = omega arith in
           let rest : vs ≡ tokens-at text next = cc in
           let p = read g (sign Closing ∷ ws)
-              (subst (λ (n : ℕ). Derives choices n (tokens-at text next) g (sign Closing ∷ ws)) less
-              (subst (λ (zs : List Token). Derives choices c zs g (sign Closing ∷ ws)) rest y)) (closing-stops ws) in
+          (subst (λ (n : ℕ). Derives choices n (tokens-at text next) g (sign Closing ∷ ws)) less
+          (subst (λ (zs : List Token). Derives choices c zs g (sign Closing ∷ ws)) rest y)) (closing-stops ws) in
           record {
             fits = p .fits;
             reads = λ le.
-              let q = p .reads le in
-              record { node = q .node; rules = q .rules; rest = passes (sign Closing) ws (q .rest) };
+                let q = p .reads le in
+                record { node = q .node; rules = q .rules; rest = passes (sign Closing) ws (q .rest) };
           }
 
 -- WHAT IS PEEKED AT, as the first token

@@ -16,3 +16,7 @@ pub mod Operands
 pub mod Leaves
 pub mod Joining
 pub mod Ways
+pub mod Tables
+pub mod Lining
+pub mod AllLines
+pub mod ReadRight

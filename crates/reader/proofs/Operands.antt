@@ -99,7 +99,6 @@ made-done x y next f = go (ltb (x .rules .left) (suffix-need y)) refl
 
 module _ (text : List ℕ) (x : Part) (y : Suffix) (next : ℕ) (f : tokens-at text (x .at) ≡ sign (After y) ∷ tokens-at text next) (more : Part)
     (made : more ≡ suffix-made y x next) where
-
   -- too few rules are left for it
   pub suffixes-over : more .fits ≡ false → Suffixes-right text x more
   unfolding suffixed-all need
@@ -168,7 +167,6 @@ spent-itself x = record { room = omega arith; left = omega arith }
 -- A PART: the operand, then its suffixes
 module _ (text : List ℕ) (at d : ℕ) (before : Rules) (none : (q : Prefix) (us : List Token) → tokens-at text at ≡ sign (Before q) ∷ us → ⊥) (x : Part)
     (read : Level-right operand text at d before x) where
-
   unprefixed : {ts : List Token} {e : Tree} {us : List Token} → tokens-at text at ≡ ts → Derives prefixes d ts e us → Derives suffixes d ts e us
   unprefixed is (no-prefix y) = y
   unprefixed is (a-prefix y) = absurd (none _ _ is)
@@ -260,6 +258,7 @@ prefix-room before less q x took enough p room =
 
 pub less-room :
     (text : List ℕ) (before less : Rules) (k : ℕ) → less ≡ advanced before [] k → 0 < k → k ≤ before .left → Room text before → Room text less × (less .left < before .left)
-less-room text before less k took some enough room =
-    (record { few = room .few; fit = omega (arith, room .fit, advanced-next before less [] k took, advanced-left before less [] k took) },
-      omega (arith, advanced-left before less [] k took))
+less-room text before less k took some enough room = (
+  record { few = room .few; fit = omega (arith, room .fit, advanced-next before less [] k took, advanced-left before less [] k took) },
+  omega (arith, advanced-left before less [] k took),
+)

@@ -53,10 +53,11 @@ placed-now :
     (before x : Rules) (c : Compiled) (node : Node) (k : ℕ) → x ≡ advanced before (c .helpers) k → node ≡ c .node →
     (placed-number node x ≡ place c (before .next) .number) × (placed-rules node x ≡ advanced before (place c (before .next) .helpers) k)
 placed-now before x c node k e f =
-    let same : advanced x [] 0 ≡ x = advanced-none x in
-    ( ap (λ (r : Rules). placed-number node r) (sym same) ∙ placed-number-is before x c node k 0 e f,
+    let same : advanced x [] 0 ≡ x = advanced-none x in (
+      ap (λ (r : Rules). placed-number node r) (sym same) ∙ placed-number-is before x c node k 0 e f,
       ap (λ (r : Rules). placed-rules node r) (sym same) ∙ placed-rules-is before x c node k 0 e f
-      ∙ ap (λ (n : ℕ). advanced before (place c (before .next) .helpers) n) (add-zero k) )
+          ∙ ap (λ (n : ℕ). advanced before (place c (before .next) .helpers) n) (add-zero k),
+    )
 
 -- more helpers after those of an operand
 pub helpers-more :
@@ -179,9 +180,9 @@ pair-reads text join rule joins before e f vs us x y first second =
     in
     record {
       node =
-        ap (λ (i : ℕ). Operator (rule i (placed-number (y .node) (y .rules)))) number-one
-        ∙ ap (λ (j : ℕ). Operator (rule (p .number) j)) number-two
-        ∙ sym (joins .node e f (before .next));
+          ap (λ (i : ℕ). Operator (rule i (placed-number (y .node) (y .rules)))) number-one
+          ∙ ap (λ (j : ℕ). Operator (rule (p .number) j)) number-two
+          ∙ sym (joins .node e f (before .next));
       rules = rules-two ∙ ap (λ (hs : List Expression). advanced before hs (need (join e f))) (sym (joins .helpers e f (before .next)));
       rest = second .rest;
     }

@@ -9,7 +9,7 @@ ghost use mathlib.Core.List.{_∷_, []};
 ghost use Prim.Native.Nat.{_+_, _<_, _≤_};
 ghost use Rattle.grammar.specs.Grammar.{max-rules};
 ghost use Rattle.syntax.specs.Compile.{repetition-rules, own-rules, own-number, owed};
-ghost use Rattle.reader.specs.code.Building.{advanced, bytes-are};
+ghost use Rattle.reader.specs.code.Building.{advanced, placed-at, bytes-are};
 
 // A rule's bytes but the last, which is 0.
 pub struct RuleBytes {
@@ -49,19 +49,28 @@ fn bytes_of(x: Expression) -> RuleBytes
     }
 }
 
-// One helper rule more.
-pub fn added(rules: Rules, x: Expression) -> Rules
-    requires { ⌜ rules .next < max-rules ⌝ }
-    ensures { λ r. ⌜ r ≡ advanced rules (x ∷ []) 0 ⌝ }
+// A rule written at a number.
+pub fn put(rules: Rules, k: usize, x: Expression) -> Rules
+    requires { ⌜ k < max-rules ⌝ }
+    ensures { λ r. ⌜ r ≡ placed-at rules k x ⌝ }
 {
     let four = bytes_of(x);
-    let next = rules.next;
-    let at = RULE_BYTES * next;
+    let at = RULE_BYTES * k;
     let mut more = rules;
     more.bytes[at] = four.kind;
     more.bytes[at + 1] = four.b;
     more.bytes[at + 2] = four.c;
     more.bytes[at + 3] = 0;
+    more
+}
+
+// One helper rule more.
+pub fn added(rules: Rules, x: Expression) -> Rules
+    requires { ⌜ rules .next < max-rules ⌝ }
+    ensures { λ r. ⌜ r ≡ advanced rules (x ∷ []) 0 ⌝ }
+{
+    let next = rules.next;
+    let mut more = put(rules, next, x);
     more.next = next + 1;
     more
 }

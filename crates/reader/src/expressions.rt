@@ -96,7 +96,7 @@ fn suffixes(text: &[u8], x: Part) -> Part
 }
 
 // The place after the lexeme at a place.
-fn after(text: &[u8], at: usize) -> usize
+pub fn after(text: &[u8], at: usize) -> usize
     ensures { λ r. ⌜ Passes (now (text .entry)) at r ⌝ }
 {
     let l = peek(text, at);
@@ -158,11 +158,7 @@ fn part(text: &[u8], at: usize, depth: usize, rules: Rules) -> Part
     match prefix_of(token) {
         FoundPrefix::Nothing => {
             let x = operand(text, at, depth, rules);
-            if x.fits {
-                suffixes(text, x)
-            } else {
-                x
-            }
+            if x.fits { suffixes(text, x) } else { x }
         }
         FoundPrefix::Operator(p) => {
             let cost = prefix_need(p);
@@ -170,11 +166,7 @@ fn part(text: &[u8], at: usize, depth: usize, rules: Rules) -> Part
                 return over(rules, at);
             }
             let x = part(text, l.next, depth, taken(rules, cost));
-            if x.fits {
-                with_prefix(p, x)
-            } else {
-                x
-            }
+            if x.fits { with_prefix(p, x) } else { x }
         }
     }
 }

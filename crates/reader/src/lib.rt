@@ -1,10 +1,13 @@
 // The reader of grammars as text: scanning, faults, names, and the grammar built while an expression is read.
+pub mod cursor;
+pub mod definitions;
 pub mod emitter;
 pub mod expressions;
 pub mod faults;
 pub mod lookahead;
 pub mod names;
 pub mod operators;
+pub mod reading;
 pub mod scanner;
 
 use refusal::Refusal;
@@ -75,6 +78,13 @@ pub struct Part {
 pub struct Begun {
     pub fits: bool,
     pub number: u8,
+    pub rules: Rules,
+}
+
+// A line that was read, up to a place, and the rules with its own. It fits if no more are needed than were left.
+pub struct LineRead {
+    pub fits: bool,
+    pub at: usize,
     pub rules: Rules,
 }
 

@@ -8,3 +8,4 @@ pub mod OneTree
 pub mod FaultsRight
 pub mod ReadingExact
 pub mod Counting
+pub mod Encoding

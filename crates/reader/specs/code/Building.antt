@@ -21,3 +21,7 @@ put-rules bs n (x ∷ xs) = put-rules (written bs (4 * n) (rule-bytes x)) (suc n
 -- the rules with these helpers more, and so many taken from those that are left
 unfoldable pub advanced : Rules → List Expression → (taken : ℕ) → Rules
 advanced r xs k = record { bytes = put-rules (r .bytes) (r .next) xs; next = r .next + length xs; left = r .left - k }
+
+-- the rules with one written at a number
+abbrev pub placed-at : Rules → (k : ℕ) → Expression → Rules
+placed-at r k x = record { bytes = written (r .bytes) (4 * k) (rule-bytes x); next = r .next; left = r .left }

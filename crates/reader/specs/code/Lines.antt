@@ -1,17 +1,71 @@
 -- What reading the lines of a legal text answers: the bytes of their grammar, if 31 rules are enough. Assumes nothing: these are definitions.
 use mathlib.Core.Path.{_≡_}
-use mathlib.Core.List.{List, _++_}
-use Prim.Native.Nat.{ℕ, _≤_}
+use mathlib.Core.Bool.{true, false, cond}
+use mathlib.Core.List.{List, [], _∷_, _++_}
+use Prim.Native.Nat.{ℕ, suc, _+_, _-_, _*_, _<_, _≤_}
 use lib.Dec.{leb}
 use lib.ListN.{length}
 use Rattle.grammar.specs.Grammar.{max-rules}
-use Rattle.syntax.specs.Trees.{Definition, Reads, max-depth}
-use Rattle.syntax.specs.Needs.{needs}
-use Rattle.syntax.specs.Compile.{named-from, helpers-from, encode}
+use Rattle.grammar.specs.declared.Expression.the-variants.{Sequence, Choice, Empty}
+use Rattle.codec.specs.Bytes.{written}
+use Rattle.syntax.specs.declared.Node.{Node}
+use Rattle.syntax.specs.declared.Node.the-variants.{Numbered, Operator, Repetition}
+use Rattle.syntax.specs.declared.Sign.the-variants.{Equals, Semicolon}
+use Rattle.syntax.specs.Tokens.{Token, name, sign}
+use Rattle.syntax.specs.Trees.{Tree, Definition, choices, Derives, Reads, max-depth}
+use Rattle.syntax.specs.Needs.{line-need, needs}
+use Rattle.syntax.specs.Compile.{compile, line-rule, line-helpers, named-from, helpers-from, rule-bytes, encode}
 use Rattle.syntax.specs.code.Heads.{heads}
+use Rattle.reader.specs.declared.Rules.{Rules}
+use Rattle.reader.specs.declared.Part.{Part}
+use Rattle.reader.specs.declared.LineRead.{LineRead}
 use Rattle.reader.specs.declared.Lines.{Lines}
+use Rattle.reader.specs.code.Building.{put-rules, advanced, placed-at}
 use Rattle.reader.specs.Calls.{padded}
 use Rattle.reader.specs.code.Levels.{tokens-at, Name-room}
+
+-- the rules that a line may need: those that are left, and its own
+abbrev pub with-left : Rules → Rules
+with-left r = record { bytes = r .bytes; next = r .next; left = suc max-rules - r .next }
+
+abbrev pub line-with : (at : ℕ) → Rules → LineRead
+line-with i r = record { fits = true; at = i; rules = r }
+
+-- a line's own rule at its number k, and the helper rules that it needs besides
+unfoldable pub topped-by : Node → Rules → (k at : ℕ) → LineRead
+topped-by (Numbered i) r k at =
+    cond (leb max-rules (r .next)) (record { fits = false; at = at; rules = r })
+    (line-with at (placed-at (advanced r (Empty ∷ []) 0) k (Sequence i (r .next))))
+topped-by (Operator x) r k at = line-with at (placed-at r k x)
+topped-by (Repetition i) r k at =
+    line-with at (placed-at (advanced r (Sequence i k ∷ Empty ∷ []) 0) k (Choice (r .next) (suc (r .next))))
+
+abbrev pub topped : Part → (k at : ℕ) → LineRead
+topped x k at = topped-by (x .node) (x .rules) k at
+
+-- what reading line k needs
+pub record Line-room (text : List ℕ) (k : ℕ) (r : Rules) : Type 0 where
+  pub few : Name-room text
+  pub below : k < max-rules
+  pub fit : r .next ≤ max-rules
+
+-- A LINE READ: its own rule at its number, its helper rules after those before, and what follows
+pub record Line-done (text : List ℕ) (before : Rules) (k : ℕ) (e : Tree) (us : List Token) (r : LineRead) : Type 0 where
+  pub bytes :
+      let c = compile (heads text) e (before .next) in
+      r .rules .bytes ≡ written (put-rules (before .bytes) (before .next) (line-helpers c k)) (4 * k) (rule-bytes (line-rule c (before .next)))
+  pub next : r .rules .next ≡ before .next + length (line-helpers (compile (heads text) e (before .next)) k)
+  pub rest : tokens-at text (r .at) ≡ us
+
+-- whatever line the tokens from the place on are; and whatever they are, the rules have room
+pub record Line-read (text : List ℕ) (at k : ℕ) (before : Rules) (r : LineRead) : Type 0 where
+  pub fits :
+      (n : List ℕ) (ts us : List Token) (e : Tree) → tokens-at text at ≡ name n ∷ sign Equals ∷ ts → Derives choices max-depth ts e (sign Semicolon ∷ us) →
+      r .fits ≡ leb (line-need e) (suc max-rules - before .next)
+  pub done :
+      (n : List ℕ) (ts us : List Token) (e : Tree) → tokens-at text at ≡ name n ∷ sign Equals ∷ ts → Derives choices max-depth ts e (sign Semicolon ∷ us) →
+      r .fits ≡ true → Line-done text before k e us r
+  pub room : r .fits ≡ true → r .rules .next ≤ max-rules
 
 -- what reading so many lines needs: as few as there are rules, and that the text has no more names
 pub record Lines-room (text : List ℕ) (lines : ℕ) : Type 0 where

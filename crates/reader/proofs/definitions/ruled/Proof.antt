@@ -1,0 +1,17 @@
+-- `reader::definitions::ruled` meets its contract. Assumes nothing.
+use Rattle.reader.proofs.Lining.{line-same}
+use borrow.Author.Needs.{needs}
+use Rattle.reader.proofs.definitions.ruled.Statement.{statement}
+use Rattle.reader.proofs.definitions.ruled.Tie as tie
+use Rattle.reader.proofs.definitions.ruled.Reads as reads
+use Rattle.reader.proofs.definitions.ruled.Lts as lts
+use Rattle.reader.proofs.emitter.put.Reads as put-reads
+
+put-requires : tie.Need-put-requires
+put-requires c κs = search needs
+
+returns : tie.Need-returns
+returns c = line-same _ _ _ (c .put .ensures)
+
+pub ruled-spec : {M : Type 1} → statement M
+ruled-spec = tie.close (tie.spec put-requires returns)

@@ -1,0 +1,14 @@
+-- `reader::reading::refused` meets its contract. Assumes nothing.
+use mathlib.Core.Path.{refl}
+use Rattle.reader.specs.Calls.{grammar-answer}
+use Rattle.reader.proofs.reading.refused.Statement.{statement}
+use Rattle.reader.proofs.reading.refused.Tie as tie
+use Rattle.reader.proofs.reading.refused.Reads as reads
+use Rattle.reader.proofs.reading.refused.Lts as lts
+
+returns : tie.Need-returns
+unfolding grammar-answer
+returns c = refl
+
+pub refused-spec : {M : Type 1} → statement M
+refused-spec = tie.close (tie.spec returns)

@@ -1,0 +1,57 @@
+// The call `read`: the checks of a text, in the order of their refusals, and then the grammar of its lines.
+use crate::ReadGrammar;
+use crate::cursor::lines_of;
+use crate::faults::check_text;
+use crate::faults::undefined_of;
+use grammar::check::RULE_BYTES;
+use refusal::Refusal;
+ghost use mathlib.Core.Path.{_≡_};
+ghost use Rattle.refusal.specs.First.{refusal};
+ghost use Rattle.syntax.specs.Reading.{Refused};
+ghost use Rattle.reader.specs.Calls.{grammar-answer, Read-tells};
+
+// The most lines that a grammar can have: each needs a rule.
+const MAX_LINES: usize = 31;
+
+fn refused(number: u32, place: usize) -> ReadGrammar
+    ensures { λ r. ⌜ r ≡ grammar-answer (Refused (refusal number place)) ⌝ }
+{
+    ReadGrammar {
+        refusal: Refusal { number, place },
+        length: 0,
+        bytes: [0; 124],
+    }
+}
+
+// Reads a typed grammar: its bytes, or the first refusal: 15 and 17 by the earliest fault, 15 by the first undefined name, 16.
+pub fn read(text: &[u8]) -> ReadGrammar
+    ensures { λ r. ⌜ Read-tells (now (text .entry)) r ⌝ }
+{
+    let check = check_text(text);
+    let fault = check.refusal;
+    if fault.number != 0 {
+        return refused(fault.number, fault.place);
+    }
+    let undefined = undefined_of(text, check.lines);
+    if undefined.number != 0 {
+        return refused(undefined.number, undefined.place);
+    }
+    if MAX_LINES < check.lines {
+        return refused(16, text.len());
+    }
+    let lines = lines_of(text, check.lines);
+    if !lines.fits {
+        return refused(16, text.len());
+    }
+    let rules = lines.rules;
+    let bytes = rules.bytes;
+    let next = rules.next;
+    ReadGrammar {
+        refusal: Refusal {
+            number: 0,
+            place: 0,
+        },
+        length: RULE_BYTES * next,
+        bytes,
+    }
+}
