@@ -4,13 +4,18 @@
  *     accept GRAMMAR-FILE CAPTURE-FILE
  *
  * prints the answer's line, and leaves with status 0 if the capture is accepted, 1 if it is not, 2 if a call was refused
- * or a file could not be read. Compile it with -I include, and link libsejimakpu.a.
+ * or a file could not be read. A grammar file whose name ends in .peg is a typed grammar; any other is a grammar's bytes.
+ * Compile it with -I include, and link libsejimakpu.a.
  */
 #include "sejimakpu.h"
 
 #include <inttypes.h>
 #include <stdio.h>
 #include <stdlib.h>
+#include <string.h>
+
+/* This program's own limit: the library takes a text of any length. */
+#define MAX_TEXT 65536
 
 enum { PASSED = 0, NOT_PASSED = 1, NOT_JUDGED = 2 };
 
@@ -43,6 +48,32 @@ static void or_stop(uint32_t refusal, const sejimakpu_answer *answer)
     }
 }
 
+static int is_typed(const char *name)
+{
+    size_t length = strlen(name);
+    return length >= 4 && strcmp(name + length - 4, ".peg") == 0;
+}
+
+/* Builds the image of the grammar in a file, and answers its length. */
+static size_t image_of(const char *name, uint8_t *image, size_t room)
+{
+    static uint8_t text[MAX_TEXT + 1];
+    static uint8_t grammar[SEJIMAKPU_MAX_GRAMMAR + 1];
+    sejimakpu_answer answer;
+    if (is_typed(name)) {
+        size_t length = bytes_of(name, text, MAX_TEXT);
+        if (length > MAX_TEXT) {
+            fprintf(stderr, "accept: %s is longer than %d bytes\n", name, MAX_TEXT);
+            exit(NOT_JUDGED);
+        }
+        or_stop(sejimakpu_build_text(text, length, image, room, &answer), &answer);
+    } else {
+        size_t length = bytes_of(name, grammar, SEJIMAKPU_MAX_GRAMMAR);
+        or_stop(sejimakpu_build(grammar, length, image, room, &answer), &answer);
+    }
+    return answer.count;
+}
+
 static uint32_t *cells_of(uint64_t count)
 {
     uint32_t *cells = calloc(count, sizeof *cells);
@@ -55,7 +86,6 @@ static uint32_t *cells_of(uint64_t count)
 
 int main(int count, char **words)
 {
-    static uint8_t grammar[SEJIMAKPU_MAX_GRAMMAR + 1];
     static uint8_t capture[SEJIMAKPU_MAX_CAPTURE + 1];
     static uint8_t image[SEJIMAKPU_MAX_BUILT_IMAGE];
     sejimakpu_answer answer;
@@ -64,11 +94,8 @@ int main(int count, char **words)
         fprintf(stderr, "usage: accept GRAMMAR-FILE CAPTURE-FILE\n");
         return NOT_JUDGED;
     }
-    size_t grammar_length = bytes_of(words[1], grammar, SEJIMAKPU_MAX_GRAMMAR);
     size_t capture_length = bytes_of(words[2], capture, SEJIMAKPU_MAX_CAPTURE);
-
-    or_stop(sejimakpu_build(grammar, grammar_length, image, sizeof image, &answer), &answer);
-    size_t image_length = answer.count;
+    size_t image_length = image_of(words[1], image, sizeof image);
 
     or_stop(sejimakpu_cells(image, image_length, capture_length, &answer), &answer);
     size_t cells = answer.count;

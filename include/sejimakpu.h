@@ -1,13 +1,15 @@
 /*
  * Sejimakpu: judges console captures by two-way pointer pushdown machines. For C99 and C++11.
  *
- * Link libsejimakpu.a (made by `rt staticlib sejimakpu`). Its five functions are proved against their contracts in
+ * Link libsejimakpu.a (made by `rt staticlib sejimakpu`). Its eight functions are proved against their contracts in
  * crates/sejimakpu: each returns on every input, and what it answers is what the definitions in crates/NAME/specs say.
  * Call them by the inline functions below, which only replace null pointers.
  *
  * What C must keep to, because no function can test it:
  *   - a pointer with a length above 0 points to that many elements, aligned as its type asks;
- *   - memory that a call may write (image of build, notes, work, stack, answer) overlaps nothing else that the call is given.
+ *   - memory that a call may write (grammar of read_grammar, image of build, build_text and judge_text, notes, work, stack,
+ *     answer) overlaps nothing else that the call is given;
+ *   - the grammar that read_grammar writes has room for SEJIMAKPU_MAX_GRAMMAR bytes.
  * A pointer with length 0 is not used, and may be null. So may the answer, where the returned number is all that is
  * wanted. Everything else that can be passed is answered or refused.
  */
@@ -47,7 +49,11 @@ enum {
     SEJIMAKPU_STACK_EMPTY = 10,      /* no stack cell: 0 */
     SEJIMAKPU_GRAMMAR_LENGTH = 11,   /* a grammar of 0 or over 124 bytes, or with a part of a rule: its length */
     SEJIMAKPU_GRAMMAR_RULE = 12,     /* a wrong grammar rule (a range with b above c is right): the offset of the first */
-    SEJIMAKPU_IMAGE_BUFFER_SHORT = 13 /* an image buffer too short for the image: the bytes needed */
+    SEJIMAKPU_IMAGE_BUFFER_SHORT = 13, /* an image buffer too short for the image: the bytes needed */
+    SEJIMAKPU_TEXT_SYNTAX = 15,      /* a token that cannot stand where it is, bytes that form no token, a name that is
+                                        repeated or never defined: its offset; or the text ends early: its length */
+    SEJIMAKPU_TEXT_RULES = 16,       /* a typed grammar that needs over 31 rules: the text's length */
+    SEJIMAKPU_TEXT_DEPTH = 17        /* a seventeenth open parenthesis: its offset */
 };
 
 /* The longest capture, in bytes, and the longest grammar. */
@@ -61,7 +67,7 @@ enum {
 typedef struct sejimakpu_answer {
     uint64_t place;   /* of a refusal */
     uint64_t verdict; /* SEJIMAKPU_ACCEPTED to SEJIMAKPU_DEEP; SEJIMAKPU_NO_VERDICT where refused */
-    uint64_t count;   /* readings of a judging, steps of a plain run, bytes of a built image, cells needed */
+    uint64_t count;   /* readings of a judging, steps of a plain run, bytes of an image or a grammar, cells needed */
     uint64_t state;   /* of the end configuration, or of the one reached; and so its head and symbol */
     uint64_t head;
     uint64_t symbol;
@@ -87,6 +93,17 @@ uint32_t sejimakpu_plain_run_nonnull(const uint8_t *image, size_t image_length,
 uint32_t sejimakpu_build_nonnull(const uint8_t *grammar, size_t grammar_length,
                                  uint8_t *image, size_t image_length,
                                  sejimakpu_answer *answer);
+uint32_t sejimakpu_read_grammar_nonnull(const uint8_t *text, size_t text_length, uint8_t *grammar,
+                                        sejimakpu_answer *answer);
+uint32_t sejimakpu_build_text_nonnull(const uint8_t *text, size_t text_length,
+                                      uint8_t *image, size_t image_length,
+                                      sejimakpu_answer *answer);
+uint32_t sejimakpu_judge_text_nonnull(const uint8_t *text, size_t text_length,
+                                      const uint8_t *capture, size_t capture_length,
+                                      uint8_t *image, size_t image_length,
+                                      uint32_t *notes, size_t notes_length,
+                                      uint32_t *work, size_t work_length,
+                                      sejimakpu_answer *answer);
 
 /*
  * For the inline functions: the pointer, or one to an element that nobody reads or writes where the length is 0. A null
@@ -192,6 +209,62 @@ static inline uint32_t sejimakpu_build(const uint8_t *grammar, size_t grammar_le
 }
 
 /*
+ * Reads a typed grammar: answer->count is the length of its bytes, which are put at the start of the SEJIMAKPU_MAX_GRAMMAR
+ * bytes lent; later ones stay. They are as sejimakpu_build takes them. A text may have any length. Refusals 15 and 17,
+ * whichever comes first in the text, then 16; a refused call changes no byte.
+ *
+ * A text is lines: a name, =, an expression and ; each, and the first line is where parsing starts. A name is the longest
+ * run of letters a to z; spaces and line feeds around tokens are skipped. An expression has names, . for any byte, ranges
+ * such as 'a-z' (quote, any byte, minus, any byte, quote), the words empty and fail, and parentheses, 16 open at once at
+ * most. Suffixes * + and ? bind first, then prefixes ! and &, then sequence, then /; the last two group to the right.
+ */
+static inline uint32_t sejimakpu_read_grammar(const uint8_t *text, size_t text_length, uint8_t *grammar,
+                                              sejimakpu_answer *answer)
+{
+    sejimakpu_answer unread;
+    return sejimakpu_read_grammar_nonnull(sejimakpu_input_bytes(text, text_length), text_length, grammar,
+                                          answer ? answer : &unread);
+}
+
+/*
+ * Builds the image of a typed grammar at the start of a buffer, as sejimakpu_build does of the bytes that
+ * sejimakpu_read_grammar gives: answer->count is its length, and later bytes stay. Refusals 15 to 17 as there, then 13; a
+ * refused call changes no byte.
+ */
+static inline uint32_t sejimakpu_build_text(const uint8_t *text, size_t text_length,
+                                            uint8_t *image, size_t image_length,
+                                            sejimakpu_answer *answer)
+{
+    sejimakpu_answer unread;
+    return sejimakpu_build_text_nonnull(sejimakpu_input_bytes(text, text_length), text_length,
+                                        sejimakpu_lent_bytes(image, image_length), image_length,
+                                        answer ? answer : &unread);
+}
+
+/*
+ * Judges a capture by a typed grammar: builds its image at the start of a buffer, and judges by that as sejimakpu_judge
+ * does, with the same answer, notes and work cells. The image stays in the buffer, and later bytes are as they were.
+ * Refusals 15 to 17 as of sejimakpu_read_grammar, then 13, then 7 to 9; a refused call changes no byte and no cell.
+ *
+ * Of n bytes and m rules, N = 5 * (n + 2) * (2 * m + 1) notes and as many work cells are needed.
+ */
+static inline uint32_t sejimakpu_judge_text(const uint8_t *text, size_t text_length,
+                                            const uint8_t *capture, size_t capture_length,
+                                            uint8_t *image, size_t image_length,
+                                            uint32_t *notes, size_t notes_length,
+                                            uint32_t *work, size_t work_length,
+                                            sejimakpu_answer *answer)
+{
+    sejimakpu_answer unread;
+    return sejimakpu_judge_text_nonnull(sejimakpu_input_bytes(text, text_length), text_length,
+                                        sejimakpu_input_bytes(capture, capture_length), capture_length,
+                                        sejimakpu_lent_bytes(image, image_length), image_length,
+                                        sejimakpu_lent_cells(notes, notes_length), notes_length,
+                                        sejimakpu_lent_cells(work, work_length), work_length,
+                                        answer ? answer : &unread);
+}
+
+/*
  * A verdict's word, as the program `judge` prints it; never null.
  */
 static inline const char *sejimakpu_verdict_word(uint64_t verdict)
@@ -228,6 +301,9 @@ static inline const char *sejimakpu_refusal_meaning(uint32_t refusal)
     case SEJIMAKPU_GRAMMAR_LENGTH: return "the grammar has no rule, over 31 rules, or a part of a rule";
     case SEJIMAKPU_GRAMMAR_RULE: return "a rule of the grammar is wrong";
     case SEJIMAKPU_IMAGE_BUFFER_SHORT: return "the image buffer is too short for the image";
+    case SEJIMAKPU_TEXT_SYNTAX: return "the text is wrong at that place, or ends early";
+    case SEJIMAKPU_TEXT_RULES: return "the typed grammar needs over 31 rules";
+    case SEJIMAKPU_TEXT_DEPTH: return "over 16 parentheses are open at once";
     default: return "unknown refusal";
     }
 }

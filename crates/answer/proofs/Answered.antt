@@ -6,8 +6,8 @@ use Prim.Native.Nat.{ℕ, zero, suc, _+_, _<_, _≤_, min}
 use native.Mathlib.Nat.{min-le-left, min-le-right, le-of-suc-le-suc}
 use native.Mathlib.Omega.{arith}
 use lib.Dec.{eqb}
-use lib.ListN.{length, take, drop}
-use lib.Seq.{getD-drop, take-at}
+use lib.ListN.{length, take}
+use lib.Seq.{getD-drop}
 use borrow.Author.Tests.{eqb-true, eqb-false}
 use Rattle.refusal.specs.declared.Refusal.{Refusal}
 use Rattle.codec.specs.Bytes.{byte}
@@ -16,17 +16,17 @@ use Rattle.refusal.proofs.Refused.{neither}
 use Rattle.simulator.specs.declared.Judged.{Judged}
 use Rattle.simulator.specs.Calls.{judge-refusal}
 use Rattle.simulator.proofs.Answered.{judged-right}
-use Rattle.simulator.proofs.Determined.{judge-independent}
 use Rattle.grammar.specs.Grammar.{grammar-refusal}
-use Rattle.builder.specs.Image.{built, built-length}
-use Rattle.builder.specs.Calls.{build-refusal}
-use Rattle.builder.proofs.Answered.{build-fine}
-use Rattle.builder.proofs.BuiltImage.{built-length-is}
+use Rattle.builder.specs.Image.{built}
+use Rattle.grammar_judge.specs.Calls.{Lent, lent-refusal, Same-room, Same-cells}
+use Rattle.grammar_judge.specs.TwoCalls.{Gets}
+use Rattle.grammar_judge.proofs.Refusing.{parts-fine}
+use Rattle.grammar_judge.proofs.TwoCallsHold.{gets}
+use Rattle.grammar_judge.proofs.Determined.{judged-independent}
 use Rattle.text.specs.Line.{refusal-line, answer-line, written, Lined}
 use Rattle.answer.specs.Input.{input-refusal, input-grammar, input-capture, capture-offset}
-use Rattle.answer.specs.Calls.{judged-line, Lent, Refuses, Built-and-judged, parts-refusal, lent-refusal, Parts-as, Parts-say, answer-refusal, Input-as, Input-says, Answer-says, Same-room, Same-cells}
-use Rattle.answer.specs.TwoCalls.{Gets, Line-parsed}
-use Rattle.answer.proofs.TwoCallsHold.{gets}
+use Rattle.answer.specs.Calls.{judged-line, Refuses, Built-and-judged, Parts-as, Parts-say, answer-refusal, Input-as, Input-says, Answer-says}
+use Rattle.answer.specs.LineParsed.{Line-parsed}
 
 -- BY CASES of the first refusal: refused, or judged
 input-refuses :
@@ -78,15 +78,6 @@ input-judged xs x y l h s =
     parts-judge _ _ (input-grammar xs) (input-capture xs) x y l (parts .none-such)
     (input-parts (input-refusal xs .number) (input-refusal xs) xs x y l (input .none-such) s)
 
--- no refusal of the parts: a grammar that is right, and judging that is not refused
-parts-fine :
-    (gs cs : List ℕ) (m a b : ℕ) → parts-refusal gs cs m a b .number ≡ 0 →
-    (grammar-refusal gs .number ≡ 0) × (judge-refusal (built gs) cs a b .number ≡ 0)
-unfolding parts-refusal
-parts-fine gs cs m a b e =
-    let (build, judge) = neither (build-refusal gs m) _ (record { none-such = e }) in
-    (build-fine gs m (build .none-such) .0, judge .none-such)
-
 pub input-fine :
     (xs : List ℕ) (x : Lent) → answer-refusal xs x .number ≡ 0 →
     (grammar-refusal (input-grammar xs) .number ≡ 0)
@@ -128,22 +119,14 @@ module _ (xs : List ℕ) (x y z w : Lent) (room : Same-room x z) (l k : List ℕ
   unfolding answer-refusal
   refusals-same = rw (room .image, room .notes, room .work)
 
-  pub judged-independent : answer-refusal xs x .number ≡ 0 → (l ≡ k) × Same-cells (input-grammar xs) (input-capture xs) y w
-  judged-independent no-refusal =
-      let bs = built (input-grammar xs) in
+  pub answered-independent : answer-refusal xs x .number ≡ 0 → (l ≡ k) × Same-cells (input-grammar xs) (input-capture xs) y w
+  answered-independent no-refusal =
       let j = input-judged xs x y l no-refusal a in
       let i = input-judged xs z w k (ap (λ (f : Refusal). f .number) refusals-same ∙ no-refusal) b in
       let (same, cells) =
-      judge-independent bs (input-capture xs) (x .notes) (x .work) (z .notes) (z .work) (j .judged) (i .judged) (y .notes) (y .work) (w .notes) (w .work)
-      (room .notes) (room .work) (j .judges) (i .judges)
+      judged-independent (input-grammar xs) (input-capture xs) x y z w room (j .judged) (i .judged) (j .image-now) (i .image-now) (j .judges) (i .judges)
       in
-      let (notes, work) = cells (input-fine xs x no-refusal .1) in
-      let long = built-length (input-grammar xs) in
-      let first = ap (take long) (j .image-now) ∙ take-at bs (drop long (x .image)) long (built-length-is (input-grammar xs)) in
-      let second = ap (take long) (i .image-now) ∙ take-at bs (drop long (z .image)) long (built-length-is (input-grammar xs)) in (
-        j .says ∙ ap judged-line same ∙ sym (i .says),
-        record { image = first ∙ sym second; notes = notes; work = work },
-      )
+      (j .says ∙ ap judged-line same ∙ sym (i .says), cells (input-fine xs x no-refusal .1))
 
   refused-independent : (answer-refusal xs x .number ≡ 0 → ⊥) → l ≡ k
   refused-independent some =
@@ -155,7 +138,7 @@ module _ (xs : List ℕ) (x y z w : Lent) (room : Same-room x z) (l k : List ℕ
   line-independent = go (eqb (answer-refusal xs x .number) 0) refl
     where
       go : (t : Bool) → eqb (answer-refusal xs x .number) 0 ≡ t → l ≡ k
-      go true e = judged-independent (eqb-true _ _ e) .0
+      go true e = answered-independent (eqb-true _ _ e) .0
       go false e = refused-independent (eqb-false _ _ e)
 
 -- what a buffer holds of a text is the text's first bytes
@@ -189,4 +172,4 @@ answer-independent xs x y z w out p out′ q n m room long a b =
     let lines : take n p ≡ take n q =
     lined-first (a .lined) ∙ ap (take n) same ∙ ap (λ (k : ℕ). take k (b .line)) counts ∙ sym (lined-first (b .lined))
     ∙ ap (λ (k : ℕ). take k q) (sym counts) in
-    (counts, lines, λ no-refusal. judged-independent xs x y z w room (a .line) (b .line) (a .right) (b .right) no-refusal .1)
+    (counts, lines, λ no-refusal. answered-independent xs x y z w room (a .line) (b .line) (a .right) (b .right) no-refusal .1)

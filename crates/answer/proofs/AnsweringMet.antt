@@ -13,8 +13,9 @@ use Rattle.builder.specs.Image.{built}
 use Rattle.builder.specs.Calls.{build-refusal}
 use Rattle.builder.specs.Conditions.{Building-right, Building-row}
 use Rattle.builder.proofs.BuildingMet.{building-check}
+use Rattle.grammar_judge.specs.Calls.{Lent, parts-refusal}
 use Rattle.answer.specs.Input.{input-refusal, input-grammar, input-capture}
-use Rattle.answer.specs.Calls.{Lent, parts-refusal, answer-refusal}
+use Rattle.answer.specs.Calls.{answer-refusal}
 use Rattle.answer.specs.Conditions.{Input-right, Input-row, Answering-row, unrefused-answering, refused-input, refused-building, refused-judging}
 use Rattle.answer.proofs.ConditionsMet.{input-table, input-right, input-accepted}
 

@@ -2,25 +2,15 @@
 use mathlib.Core.Path.{_≡_, sym, ap, _∙_}
 use mathlib.Core.List.{List, [], _∷_, _++_}
 use Prim.Native.Nat.{ℕ, zero, suc, _≤_}
-use lib.Dec.{ltb}
 use lib.ListN.{length, drop}
 use native.Mathlib.Nat.{le-trans}
-use borrow.Author.Tests.{eq-eqb}
 use Rattle.refusal.specs.declared.Refusal.{Refusal}
-use Rattle.image.specs.Format.{max-capture}
-use Rattle.machine.specs.Run.{how-many}
-use Rattle.image.specs.Image.{machine}
-use Rattle.refusal.specs.First.{refusal, or-else, refuse-if}
-use Rattle.image.specs.Refusals.{capture-refusal}
-use Rattle.simulator.specs.Calls.{judge-refusal}
-use Rattle.simulator.proofs.Determined.{judge-determined}
-use Rattle.grammar.specs.Grammar.{grammar-refusal}
-use Rattle.builder.specs.Image.{built}
-use Rattle.builder.proofs.BuiltGood.{built-good}
+use Rattle.grammar_judge.specs.Calls.{Lent}
+use Rattle.grammar_judge.proofs.Determined.{judged-determined}
 use Rattle.text.specs.Line.{line-feed, field, refused-word, refusal-line, written, max-line, Lined}
-use Rattle.answer.specs.Input.{input-refusal}
-use Rattle.answer.specs.Calls.{judged-line, Lent, Built-and-judged, Parts-as, Parts-say, Input-as, Input-says, Answer-says}
 use Rattle.text.proofs.Writing.{written-whole}
+use Rattle.answer.specs.Input.{input-refusal}
+use Rattle.answer.specs.Calls.{judged-line, Built-and-judged, Parts-as, Parts-say, Input-as, Input-says, Answer-says}
 
 pub line-whole :
     (line buffer buffer-now : List ℕ) (count : ℕ) → Lined line buffer buffer-now count → max-line ≤ length buffer →
@@ -36,9 +26,8 @@ record Same (y z : Lent) (l k : List ℕ) : Type 0 where
 
 judges-same : (gs cs : List ℕ) (x y z : Lent) (l k : List ℕ) → Built-and-judged gs cs x y l → Built-and-judged gs cs x z k → Same y z l k
 judges-same gs cs x y z l k a b =
-    let (j, n, w) = judge-determined (built gs) cs (x .notes) (x .work) (a .judged) (b .judged) (y .notes) (y .work) (z .notes) (z .work) (a .judges) (b .judges) in
-    let m : y .image ≡ z .image = a .image-now ∙ sym (b .image-now) in
-    record { lent-same = λ i. record { image = m i; notes = n i; work = w i }; line-same = a .says ∙ ap judged-line j ∙ sym (b .says) }
+    let (same, left) = judged-determined gs cs x y z (a .judged) (b .judged) (a .image-now) (b .image-now) (a .judges) (b .judges) in
+    record { lent-same = left; line-same = a .says ∙ ap judged-line same ∙ sym (b .says) }
 
 parts-same :
     (n : ℕ) (f : Refusal) (gs cs : List ℕ) (x y z : Lent) (l k : List ℕ) → Parts-as n f gs cs x y l → Parts-as n f gs cs x z k → Same y z l k
@@ -64,15 +53,6 @@ answer-determined xs x y z out p q n m a b =
     let s = input-same _ _ xs x y z (a .line) (b .line) (a .right) (b .right) in
     let (bytes, count) = lined-same (a .line) (b .line) out p q n m (a .lined) (b .lined) (s .line-same) in
     (s .lent-same, bytes, count)
-
-pub refusals-left :
-    (gs cs : List ℕ) (notes work : ℕ) → grammar-refusal gs .number ≡ 0 →
-    judge-refusal (built gs) cs notes work
-    ≡ or-else (refuse-if (ltb max-capture (length cs)) (refusal 7 (length cs)))
-    (or-else (refuse-if (ltb notes (how-many (machine (built gs) cs))) (refusal 8 (how-many (machine (built gs) cs))))
-    (refuse-if (ltb work (how-many (machine (built gs) cs))) (refusal 9 (how-many (machine (built gs) cs)))))
-unfolding judge-refusal capture-refusal or-else
-refusals-left gs cs a b h = simp (eq-eqb _ _ (built-good gs h))
 
 -- with no input at all the line is refused 14 0
 pub unread-refused : (x y : Lent) (line : List ℕ) → Input-says [] x y line → line ≡ refused-word ++ field 14 ++ field 0 ++ (line-feed ∷ [])

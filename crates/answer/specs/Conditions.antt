@@ -9,7 +9,7 @@ use Rattle.simulator.specs.Conditions.{Judging-right, Judging-row}
 use Rattle.builder.specs.Image.{built}
 use Rattle.builder.specs.Conditions.{Building-right, Building-row}
 use Rattle.answer.specs.Input.{pairs-length, grammar-pair, capture-pair, max-input, input-grammar, input-capture}
-use Rattle.answer.specs.Calls.{Lent}
+use Rattle.grammar_judge.specs.Calls.{Lent}
 
 -- THE LENGTH: not under 16 and not over 65,536 bytes
 pub record Input-length-right (xs : List ℕ) : Type 0 where

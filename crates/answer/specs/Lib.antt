@@ -1,6 +1,5 @@
--- What a reader must believe of the program's answer: the parts of the input, what the call answers and leaves, and what users get by the two calls.
+-- What a reader must believe of the program's answer: the parts of the input, what the call answers and leaves, and the line in a user's words.
 pub mod Input
 pub mod Calls
 pub mod Conditions
-pub mod TwoCalls
-pub mod code
+pub mod LineParsed

@@ -202,7 +202,7 @@ pub fn build_refusal(grammar: &[u8], room: usize) -> Refusal
 }
 
 // Building of a planned image: its length, or refusal 13.
-fn build_planned(grammar: &[u8], plan: Plan, image: &mut [u8]) -> Built
+pub fn build_planned(grammar: &[u8], plan: Plan, image: &mut [u8]) -> Built
     requires { ⌜ Planned (now grammar) plan ⌝ }
     ensures { λ r. ⌜ Build-says (now (grammar .entry)) r (now (image .entry)) (now (image .exit)) ⌝ }
 {

@@ -7,7 +7,8 @@ use native.Mathlib.Omega.{arith}
 use lib.ListN.{length, take}
 use lib.Seq.{take-at}
 use Rattle.text.specs.Line.{max-line}
-use Rattle.answer.specs.Calls.{Lent, Input-says, Answer-says}
+use Rattle.grammar_judge.specs.Calls.{Lent}
+use Rattle.answer.specs.Calls.{Input-says, Answer-says}
 use Rattle.answer.proofs.LineWhole.{line-whole}
 use Rattle.judge.specs.Program.{Prints}
 

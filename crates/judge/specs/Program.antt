@@ -5,7 +5,8 @@ use Prim.Native.Nat.{ℕ, _+_, _≤_}
 use lib.ListN.{length, take}
 use Rattle.text.specs.Line.{max-line}
 use Rattle.answer.specs.Input.{max-input}
-use Rattle.answer.specs.Calls.{Lent, Input-says}
+use Rattle.grammar_judge.specs.Calls.{Lent}
+use Rattle.answer.specs.Calls.{Input-says}
 
 -- a 65,536-byte image buffer, 16,384 notes, as many work cells, room for every line; and room for one byte more than the longest input, with what was read in it
 pub record Buffers (input : List ℕ) (count : ℕ) (image notes work line : List ℕ) : Type 0 where

@@ -6,7 +6,7 @@ use transfer::cut_short;
 use transfer::read_whole;
 use transfer::write_on;
 ghost use lib.ListN.{take};
-ghost use Rattle.answer.specs.Calls.{lent};
+ghost use Rattle.grammar_judge.specs.Calls.{lent};
 ghost use Rattle.judge.specs.Program.{Buffers, Prints};
 
 // The line for the input that stands at the start of its buffer, in buffers of the sizes that the program has.

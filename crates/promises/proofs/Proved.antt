@@ -31,13 +31,20 @@ use Rattle.parsing_theory.proofs.BuiltParses.{built-parses, few-readings, inver
 use Rattle.builder.proofs.Answered.{build-determined, build-independent}
 use Rattle.answer.proofs.ConditionsMet.{input-answer, input-parts}
 use Rattle.answer.proofs.AnsweringMet.{answering-answer}
-use Rattle.answer.proofs.LineWhole.{line-whole, answer-determined, unread-refused, refusals-left}
+use Rattle.answer.proofs.LineWhole.{line-whole, answer-determined, unread-refused}
+use Rattle.grammar_judge.proofs.Refusing.{refusals-left}
 use Rattle.answer.proofs.Answered.{line-parsed, answer-independent}
-use Rattle.answer.proofs.TwoCallsHold.{loops-exact, build-then-judge}
+use Rattle.grammar_judge.proofs.TwoCallsHold.{loops-exact, build-then-judge}
+use Rattle.syntax.proofs.FaultsRight.{faults-right}
+use Rattle.syntax.proofs.ReadingExact.{unambiguous, reading-exact}
+use Rattle.syntax_theory.proofs.TypedRight.{typed-right}
+use Rattle.typed.proofs.ReadRight.{nothing-read, good-read, read-determined}
+use Rattle.typed.proofs.Determined.{build-text-determined, build-text-independent, judge-text-determined, judge-text-independent}
+use Rattle.typed.proofs.TypedJudged.{typed-accepts, typed-stuck, typed-loops, typed-judged}
 use Rattle.worked_examples.proofs.ExamplesHold.{examples-hold, c1-image, c1-cells, c1-plain-runs}
 use Rattle.worked_examples.proofs.ProgramPrints.{endless-printed}
 use Rattle.promises.specs.Promises.{Promises}
-use Rattle.promises.proofs.Told.{judge-refuses, run-refuses, build-refuses, answer-refuses, judge-answers, run-answers, accepted-told}
+use Rattle.promises.proofs.Told.{judge-refuses, run-refuses, build-refuses, answer-refuses, build-text-refuses, judge-text-refuses, judge-answers, run-answers, accepted-told}
 
 pub promises : Promises
 promises =
@@ -117,4 +124,20 @@ promises =
       c1-cells = c1-cells;
       c1-plain-runs = c1-plain-runs;
       accepted-told = accepted-told;
+      faults-right = faults-right;
+      unambiguous = unambiguous;
+      reading-exact = reading-exact;
+      typed-right = typed-right;
+      read-determined = λ text r s t u. (read-determined text r s t u, nothing-read text r t);
+      read-good = good-read;
+      build-text-refuses = build-text-refuses;
+      judge-text-refuses = judge-text-refuses;
+      build-text-determined = build-text-determined;
+      judge-text-determined = judge-text-determined;
+      build-text-independent = build-text-independent;
+      judge-text-independent = judge-text-independent;
+      typed-accepts = typed-accepts;
+      typed-stuck = typed-stuck;
+      typed-loops = typed-loops;
+      typed-judged = typed-judged;
     }

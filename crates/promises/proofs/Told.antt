@@ -25,10 +25,12 @@ use Rattle.builder.proofs.Answered.{build-refused}
 use Rattle.text.specs.Line.{Lined}
 use Rattle.answer.specs.Calls.{Answer-says}
 use Rattle.answer.proofs.Answered.{input-refused}
+use Rattle.typed.proofs.Determined.{build-text-refused, judge-text-refused}
 use Rattle.sejimakpu.specs.Cells.{cells}
 use Rattle.promises.specs.FirstDemand.{Judge-refuses, Run-refuses, Build-refuses, Answer-refuses}
 use Rattle.promises.specs.SecondDemand.{Judge-answers, Run-answers}
 use Rattle.promises.specs.Users.{Accepted-told}
+use Rattle.promises.specs.Typed.{Build-text-refuses, Judge-text-refuses}
 
 pub judge-refuses : Judge-refuses
 unfolding of-judged
@@ -49,6 +51,18 @@ unfolding Answer-says
 answer-refuses xs x y out out-now n says some =
     let r = input-refused xs x y (says .line) some (says .right) in
     (r .kept, subst (λ (l : List ℕ). Lined l out out-now n) (r .says) (says .lined))
+
+pub build-text-refuses : Build-text-refuses
+unfolding of-built
+build-text-refuses text r a a-now f says some =
+    let (told, bytes) = build-text-refused text r a a-now f says some in
+    (ap of-built told, bytes)
+
+pub judge-text-refuses : Judge-text-refuses
+unfolding of-judged
+judge-text-refuses text cs r x y f says some =
+    let (told, left) = judge-text-refused text cs r x y f says some in
+    (ap of-judged told, left)
 
 pub judge-answers : Judge-answers
 unfolding of-judged

@@ -29,7 +29,8 @@ use Rattle.builder.specs.Replies.{of-built}
 use Rattle.text.specs.Line.{refusal-line, Lined}
 use Rattle.answer.specs.Input.{input-refusal, input-grammar, input-capture}
 use Rattle.answer.specs.Conditions.{Input-row, Answering-row}
-use Rattle.answer.specs.Calls.{Lent, answer-refusal, Answer-says, Same-room, Same-cells}
+use Rattle.grammar_judge.specs.Calls.{Lent, Same-room, Same-cells}
+use Rattle.answer.specs.Calls.{answer-refusal, Answer-says}
 
 -- A BAD IMAGE OR GRAMMAR IS REFUSED BY A NUMBER AND A PLACE, those of the table's row whose conditions it meets; 0 at 0, no refusal, exactly if all that the scope asks holds
 abbrev pub Image-refused : Type 0

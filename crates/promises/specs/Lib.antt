@@ -3,4 +3,5 @@ pub mod FirstDemand
 pub mod SecondDemand
 pub mod ThirdDemand
 pub mod Users
+pub mod Typed
 pub mod Promises

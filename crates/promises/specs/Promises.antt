@@ -3,6 +3,7 @@ use Rattle.promises.specs.FirstDemand as First
 use Rattle.promises.specs.SecondDemand as Second
 use Rattle.promises.specs.ThirdDemand as Third
 use Rattle.promises.specs.Users as Users
+use Rattle.promises.specs.Typed as Typed
 
 pub record Promises : Type 0 where
   -- the first demand: refusals, and what follows from the input alone
@@ -84,3 +85,20 @@ pub record Promises : Type 0 where
   pub c1-cells : Users.C1-cells
   pub c1-plain-runs : Users.C1-plain-runs
   pub accepted-told : Users.Accepted-told
+  -- grammars as text
+  pub faults-right : Typed.Faults-right
+  pub unambiguous : Typed.Unambiguous
+  pub reading-exact : Typed.Reading-exact
+  pub typed-right : Typed.Typed-parses
+  pub read-determined : Typed.Read-determined
+  pub read-good : Typed.Read-good
+  pub build-text-refuses : Typed.Build-text-refuses
+  pub judge-text-refuses : Typed.Judge-text-refuses
+  pub build-text-determined : Typed.Build-text-determined
+  pub judge-text-determined : Typed.Judge-text-determined
+  pub build-text-independent : Typed.Build-text-independent
+  pub judge-text-independent : Typed.Judge-text-independent
+  pub typed-accepts : Typed.Typed-accepts
+  pub typed-stuck : Typed.Typed-stuck
+  pub typed-loops : Typed.Typed-loops
+  pub typed-judged : Typed.Typed-judged

@@ -35,7 +35,7 @@ use Rattle.builder.specs.ClassMeaning.{Class-counts, Byte-of-class}
 use Rattle.builder.specs.Table.{state-work, state-fail, first}
 use Rattle.builder.specs.Image.{built, built-length}
 use Rattle.builder.specs.Calls.{Build-says}
-use Rattle.answer.specs.TwoCalls.{Enough, Gets}
+use Rattle.grammar_judge.specs.TwoCalls.{Enough, Gets}
 
 -- THE RUN'S VERDICT: there is one, with its end configuration, and one only
 abbrev pub Verdict-there : Type 0

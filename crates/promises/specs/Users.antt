@@ -17,8 +17,9 @@ use Rattle.builder.specs.Image.{built}
 use Rattle.text.specs.Line.{line-feed, field, refused-word, max-line, Lined}
 use Rattle.answer.specs.Input.{input-grammar, input-capture}
 use Rattle.answer.specs.Conditions.{Input-right, Input-parts}
-use Rattle.answer.specs.Calls.{Lent, answer-refusal, Input-says, Answer-says}
-use Rattle.answer.specs.TwoCalls.{Line-parsed}
+use Rattle.grammar_judge.specs.Calls.{Lent}
+use Rattle.answer.specs.Calls.{answer-refusal, Input-says, Answer-says}
+use Rattle.answer.specs.LineParsed.{Line-parsed}
 use Rattle.worked_examples.specs.Examples.{Row-holds, Each, table, empty-grammar, Plain-holds, plain-table}
 use Rattle.worked_examples.specs.ProgramLine.{endless-input, endless-line, Program-room}
 use Rattle.sejimakpu.specs.Calls.{Judge-tells}

@@ -25,7 +25,7 @@ use Rattle.reader.specs.code.Building.{put-rules}
 use Rattle.reader.specs.code.Levels.{tokens-at}
 use Rattle.reader.specs.code.Lines.{Line-room, Line-done, Line-read, Lines-room, Lines-right, Lines-read}
 use Rattle.reader.proofs.Tables.{table, named-written, helpers-written, table-first, table-last}
-use Rattle.reader.proofs.Leaves.{clash}
+use Rattle.reader.proofs.Lookings.{clash}
 
 -- tokens that are so many lines, or none are left to read
 pub data Rest-reads : List Token → List Definition → Type 0 where

@@ -24,7 +24,8 @@ use Rattle.reader.specs.declared.Step.{Step}
 use Rattle.reader.specs.declared.Step.the-variants.{To, Wrong}
 use Rattle.reader.specs.code.Scanning.{lexemes-at, token-of, Scans-to}
 use Rattle.reader.specs.code.Stepping.{spot-of, next-of, begins, lines-begun, Text-checked}
-use Rattle.reader.proofs.Searching.{tokens-at, tokens-start, tokens-end, tokens-next}
+use Rattle.reader.specs.code.Levels.{tokens-at}
+use Rattle.reader.proofs.Searching.{tokens-start, tokens-end, tokens-next}
 
 -- A NAME IS NEW where none of the first k lines has it
 pub new-name : (n : List ℕ) (k : ℕ) (hs : List (List ℕ)) → k ≤ length hs → not-in n (take k hs) ≡ not (ltb (index-of n hs) k)

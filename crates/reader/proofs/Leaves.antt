@@ -34,12 +34,9 @@ use Rattle.reader.specs.code.Operators.{over, part}
 use Rattle.reader.specs.code.Scanning.{token-of, Scans-to, Peeks}
 use Rattle.reader.specs.code.Levels.{Spent, tokens-at, leaf-made, name-made, Reads-to, Part-right, Level-right, Passes, Sign-right}
 use Rattle.reader.proofs.Emitting.{advanced-none, advanced-next, advanced-left}
-use Rattle.reader.proofs.Lookings.{peeked}
+use Rattle.reader.proofs.Lookings.{clash, peeked}
 use Rattle.reader.proofs.Deriving.{closing-stops}
 use Rattle.reader.proofs.Descending.{not-fit, does-fit}
-
-pub clash : {A : Type 0} → _≡_ {A = ℕ} 0 1 → A
-clash e = absurd (omega arith)
 
 -- ONE RULE: whatever tree needs one rule and is compiled to it
 pub leaf-none : (x : Expression) (r : Rules) (at : ℕ) → r .left ≡ 0 → over r at ≡ leaf-made x r at

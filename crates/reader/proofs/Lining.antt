@@ -30,7 +30,7 @@ use Rattle.reader.specs.code.Lines.{with-left, line-with, topped-by, top
 use Rattle.reader.proofs.Emitting.{advanced-on, advanced-none, advanced-next, put-append}
 use Rattle.reader.proofs.Deriving.{semicolon-stops}
 use Rattle.reader.proofs.Descending.{unfit, fit}
-use Rattle.reader.proofs.Leaves.{clash}
+use Rattle.reader.proofs.Lookings.{clash}
 
 pub line-same : (at : ℕ) (r s : Rules) → r ≡ s → line-with at r ≡ line-with at s
 line-same at r s e = ap (λ (x : Rules). line-with at x) e

@@ -12,30 +12,24 @@ use Rattle.syntax.specs.declared.Sign.the-variants.{Operand, Before, After, Sla
 use Rattle.syntax.specs.declared.Token.{Token}
 use Rattle.syntax.specs.declared.Token.the-variants.{Name, Sign, Range, Unknown}
 use Rattle.syntax.specs.Tokens as Tokens
-use Rattle.syntax.specs.Tokens.{name, sign, range, unknown, tokens}
+use Rattle.syntax.specs.Tokens.{name, sign, range, unknown}
 use Rattle.reader.specs.declared.Lexeme.{Lexeme}
 use Rattle.reader.specs.declared.lookahead.FoundPrefix.the-variants as Prefixes
 use Rattle.reader.specs.declared.lookahead.FoundSuffix.the-variants as Suffixes
-use Rattle.reader.specs.code.Scanning.{lexemes-at, token-of, Scans-to, Peeks}
+use Rattle.reader.specs.code.Scanning.{token-of, Peeks}
 use Rattle.reader.specs.code.Lookahead.{prefix-found, suffix-found, starts-part, slash-found}
+use Rattle.reader.proofs.Searching.{tokens-next, tokens-end}
 use Rattle.reader.specs.code.Levels.{tokens-at, suffix-sign, start-sign, slash-sign, by-sign, is-suffix, is-start, is-slash}
 
-clash : {A : Type 0} → _≡_ {A = ℕ} 0 1 → A
+-- two constructors that are equal
+pub clash : {A : Type 0} → _≡_ {A = ℕ} 0 1 → A
 clash e = absurd (omega arith)
 
 -- THE TOKENS FROM A PLACE ON, by the lexeme that is there
-scanned : (text : List ℕ) (at : ℕ) (l : Lexeme) → Scans-to text at l → tokens-at text at ≡ token-of text (l .offset) (l .token) ∷ tokens-at text (l .next)
-unfolding tokens
-scanned text at l s = ap tokens (s .first)
-
-nothing-left : (text : List ℕ) (at : ℕ) → lexemes-at text at ≡ [] → tokens-at text at ≡ []
-unfolding tokens
-nothing-left text at e = ap tokens e
-
 pub peeked :
     (text : List ℕ) (at : ℕ) (l : Lexeme) → Peeks text at l →
     (tokens-at text at ≡ token-of text (l .offset) (l .token) ∷ tokens-at text (l .next)) ⊎ ((tokens-at text at ≡ []) × (l .token ≡ Unknown))
-peeked text at l p = ⊎-elim (λ s. inl (scanned text at l s)) (λ n. inr (nothing-left text at (n .0), n .1)) p
+peeked text at l p = ⊎-elim (λ s. inl (tokens-next text at l s)) (λ n. inr (tokens-end text at (n .0), n .1)) p
 
 -- a token with which something begins is there
 there :

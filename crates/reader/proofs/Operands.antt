@@ -28,14 +28,12 @@ use Rattle.reader.specs.declared.Part.{Part}
 use Rattle.reader.specs.code.Building.{advanced}
 use Rattle.reader.specs.code.Operators.{over, part, Part-room, Prefix-room, placed-rules, placed-number, prefix-by, prefix-made, suffix-made, suffix-done}
 use Rattle.reader.specs.code.Levels.{tokens-at, by-sign, suffix-sign, is-suffix, leaf-made, name-made, Stops, Reads-to, Part-right, Level-right, suffixed-all, suffix-tokens, Suffixes-right, Passes, Sign-right, Room, Spent}
+use Rattle.reader.proofs.Lookings.{clash}
 use Rattle.reader.proofs.Emitting.{advanced-none, advanced-next, advanced-left}
 use Rattle.reader.proofs.Operating.{next-placed, suffix-some}
 use Rattle.reader.proofs.Placing.{suffix-reads, prefix-reads}
 use Rattle.reader.proofs.Deriving.{stops-operand, stops-suffixes, closing-stops, operand-of, suffixes-prefix}
 use Rattle.reader.proofs.Descending.{not-fit, does-fit, unfit, fit, read-left}
-
-clash : {A : Type 0} → _≡_ {A = ℕ} 0 1 → A
-clash e = absurd (omega arith)
 
 prefix-fits : (q : Prefix) (x : Part) → prefix-made q x .fits ≡ true
 unfolding prefix-made prefix-by

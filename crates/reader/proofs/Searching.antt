@@ -13,6 +13,7 @@ use Rattle.reader.specs.declared.Scanned.the-variants.{Found, End}
 use Rattle.reader.specs.declared.Head.{Head}
 use Rattle.reader.specs.declared.Head.the-variants.{Sought, Other, Nothing}
 use Rattle.reader.specs.code.Scanning.{lexemes-at, token-of, Scans, Scans-to}
+use Rattle.reader.specs.code.Levels.{tokens-at}
 use Rattle.reader.specs.code.Naming.{head-by}
 
 -- WHAT A SCAN FOUND, once its kind is known
@@ -21,9 +22,6 @@ scan-found text at r l s e = subst (Scans text at) e s
 
 pub scan-ended : (text : List ℕ) (at : ℕ) (r : Scanned) → Scans text at r → r ≡ End → lexemes-at text at ≡ []
 scan-ended text at r s e = subst (Scans text at) e s
-
-abbrev pub tokens-at : (text : List ℕ) → (at : ℕ) → List Token
-tokens-at text at = tokens (lexemes-at text at)
 
 pub tokens-start : (text : List ℕ) → tokens (lexemes text) ≡ tokens-at text 0
 unfolding lexemes lexemes-at

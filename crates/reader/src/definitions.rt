@@ -1,11 +1,12 @@
 // Reading the lines of a legal text: each line's expression, its top rule at the line's own number, and the helper rules after those of the lines before.
 use crate::LineRead;
 use crate::Lines;
+use crate::MAX_DEPTH;
+use crate::MAX_RULES;
 use crate::Part;
 use crate::Rules;
 use crate::emitter::added;
 use crate::emitter::put;
-use crate::expressions::MAX_DEPTH;
 use crate::expressions::after;
 use crate::expressions::expression;
 use grammar::Expression;
@@ -19,9 +20,6 @@ ghost use Rattle.syntax.specs.code.Heads.{heads};
 ghost use Rattle.reader.specs.code.Building.{placed-at};
 ghost use Rattle.reader.specs.code.Operators.{Part-room};
 ghost use Rattle.reader.specs.code.Lines.{with-left, topped as topped-of, Line-room, Line-read, Lines-room, Lines-read};
-
-// The most rules.
-const MAX_RULES: usize = 31;
 
 // The rules that a line may need: those that are left, and its own, which has its number already.
 fn refilled(rules: Rules) -> Rules

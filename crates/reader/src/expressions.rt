@@ -31,9 +31,6 @@ ghost use Rattle.syntax.specs.Compile.{compile-leaf};
 ghost use Rattle.reader.specs.code.Operators.{Part-room};
 ghost use Rattle.reader.specs.code.Levels.{Room, Name-room, leaf-made, name-made, Passes, Sign-read, Level-read, Suffixes-read};
 
-// The brackets that may be open at once.
-pub const MAX_DEPTH: usize = 16;
-
 // A leaf's rule.
 fn leaf_rule(a: Leaf) -> Expression
     ensures { λ r. ⌜ r ≡ compile-leaf a ⌝ }

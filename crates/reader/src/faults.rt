@@ -1,4 +1,5 @@
 // The check of a text: its earliest fault, token by token, and the first name that no line defines.
+use crate::MAX_DEPTH;
 use crate::Scanned;
 use crate::Spot;
 use crate::Step;
@@ -27,9 +28,6 @@ ghost use Rattle.reader.specs.code.Stepping.{spot-of, next-of, lines-beg
 const UNGRAMMATICAL: u32 = 15;
 
 const TOO_DEEP: u32 = 17;
-
-// The most brackets that may be open at once.
-const MAX_DEPTH: usize = 16;
 
 // A spot where something holds, and else refusal 15.
 fn to_if(holds: bool, spot: Spot) -> Step

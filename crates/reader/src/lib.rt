@@ -14,6 +14,12 @@ use refusal::Refusal;
 use syntax::Node;
 use syntax::Token;
 
+// The most rules that a grammar has.
+pub const MAX_RULES: usize = 31;
+
+// The brackets that may be open at once.
+pub const MAX_DEPTH: usize = 16;
+
 // A token with its offset, and the offset after it.
 pub struct Lexeme {
     pub token: Token,

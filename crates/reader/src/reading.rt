@@ -1,4 +1,5 @@
 // The call `read`: the checks of a text, in the order of their refusals, and then the grammar of its lines.
+use crate::MAX_RULES;
 use crate::ReadGrammar;
 use crate::cursor::lines_of;
 use crate::faults::check_text;
@@ -9,9 +10,6 @@ ghost use mathlib.Core.Path.{_≡_};
 ghost use Rattle.refusal.specs.First.{refusal};
 ghost use Rattle.syntax.specs.Reading.{Refused};
 ghost use Rattle.reader.specs.Calls.{grammar-answer, Read-tells};
-
-// The most lines that a grammar can have: each needs a rule.
-const MAX_LINES: usize = 31;
 
 fn refused(number: u32, place: usize) -> ReadGrammar
     ensures { λ r. ⌜ r ≡ grammar-answer (Refused (refusal number place)) ⌝ }
@@ -36,7 +34,8 @@ pub fn read(text: &[u8]) -> ReadGrammar
     if undefined.number != 0 {
         return refused(undefined.number, undefined.place);
     }
-    if MAX_LINES < check.lines {
+    // each line needs a rule
+    if MAX_RULES < check.lines {
         return refused(16, text.len());
     }
     let lines = lines_of(text, check.lines);

@@ -1,6 +1,7 @@
 -- What each call of the library returns and leaves: its contract in Rattle, told by numbers. Assumes nothing: these are definitions.
-use Prim.Native.Nat.{ℕ}
+use mathlib.Core.Path.{_≡_}
 use mathlib.Core.List.{List}
+use Prim.Native.Nat.{ℕ}
 use Rattle.simulator.specs.declared.Judged.{Judged}
 use Rattle.interpreter.specs.declared.Ran.{Ran}
 use Rattle.builder.specs.declared.Built.{Built}
@@ -13,6 +14,11 @@ use Rattle.builder.specs.Calls.{Build-says}
 use Rattle.simulator.specs.Replies.{of-needs, of-judged}
 use Rattle.interpreter.specs.Replies.{of-ran}
 use Rattle.builder.specs.Replies.{of-built}
+use Rattle.reader.specs.declared.ReadGrammar.{ReadGrammar}
+use Rattle.reader.specs.Calls.{Read-tells}
+use Rattle.grammar_judge.specs.Calls.{Lent}
+use Rattle.typed.specs.Calls.{Build-text-says, Judge-text-says}
+use Rattle.typed.specs.Replies.{of-read, grammar-left}
 use Rattle.sejimakpu.specs.Cells.{Reply-written}
 
 -- the check of an image
@@ -40,3 +46,23 @@ pub record Build-tells (grammar image image-now : List ℕ) (returned : ℕ) (an
   pub built : Built
   pub says : Build-says grammar built image image-now
   pub tells : Reply-written (of-built built) returned answer
+
+-- reading a text: the grammar's bytes at the start of the buffer, later ones as they were; refused, none changes
+pub record Read-grammar-tells (text grammar grammar-now : List ℕ) (returned : ℕ) (answer : List ℕ) : Type 0 where
+  pub read : ReadGrammar
+  pub says : Read-tells text read
+  pub left : grammar-now ≡ grammar-left read grammar
+  pub kept : (returned ≡ 0 → ⊥) → grammar-now ≡ grammar
+  pub tells : Reply-written (of-read read) returned answer
+
+-- building, from a text
+pub record Build-text-tells (text image image-now : List ℕ) (returned : ℕ) (answer : List ℕ) : Type 0 where
+  pub built : Built
+  pub says : Build-text-says text built image image-now
+  pub tells : Reply-written (of-built built) returned answer
+
+-- judging, by a text
+pub record Judge-text-tells (text capture : List ℕ) (before after : Lent) (returned : ℕ) (answer : List ℕ) : Type 0 where
+  pub judged : Judged
+  pub says : Judge-text-says text capture judged before after
+  pub tells : Reply-written (of-judged judged) returned answer

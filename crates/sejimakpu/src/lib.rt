@@ -4,16 +4,25 @@ pub mod reply;
 
 use builder::build::build_image;
 use interpreter::plain_run;
+use reader::reading::read;
 use reply::build_reply;
 use reply::cells_reply;
 use reply::check_reply;
 use reply::judge_reply;
+use reply::read_reply;
 use reply::run_reply;
 use reply::write_reply;
 use simulator::judge::cells;
 use simulator::judge::judge;
+use typed::build_text;
+use typed::judge_text;
 use validator::check::check_image;
-ghost use Rattle.sejimakpu.specs.Calls.{Check-tells, Cells-tells, Judge-tells, Run-tells, Build-tells};
+ghost use mathlib.Core.List.{_++_};
+ghost use mathlib.Core.Path.{_≡_};
+ghost use Prim.Native.Nat.{_≤_};
+ghost use lib.ListN.{length, drop};
+ghost use Rattle.grammar_judge.specs.Calls.{lent};
+ghost use Rattle.sejimakpu.specs.Calls.{Check-tells, Cells-tells, Judge-tells, Run-tells, Build-tells, Read-grammar-tells, Build-text-tells, Judge-text-tells};
 
 // Whether an image is good.
 #[no_mangle]
@@ -75,4 +84,62 @@ pub extern "C" fn sejimakpu_build_nonnull(
 {
     let built = build_image(grammar, image);
     write_reply(answer, build_reply(built))
+}
+
+// Bytes at the start of a buffer, and the later ones as they were.
+fn put_front(buffer: &mut [u8], bytes: &[u8])
+    requires { ⌜ length (now bytes) ≤ length (now buffer) ⌝ }
+    ensures { λ r. ⌜ now (buffer .exit) ≡ now (bytes .entry) ++ drop (length (now (bytes .entry))) (now (buffer .entry)) ⌝ }
+{
+    let mut i: usize = 0;
+    while i < bytes.len() {
+        buffer[i] = bytes[i];
+        i += 1;
+    }
+}
+
+// Reading a text: the bytes of its grammar, of which there are 124 at most.
+#[no_mangle]
+pub extern "C" fn sejimakpu_read_grammar_nonnull(
+    text: &[u8],
+    grammar: &mut [u8; 124],
+    answer: &mut [u64; 6],
+) -> u32
+    ensures { λ r. ⌜ Read-grammar-tells (now (text .entry)) (now (grammar .entry)) (now (grammar .exit)) r (now (answer .exit)) ⌝ }
+{
+    let got = read(text);
+    let bytes = got.bytes;
+    let long = got.length;
+    put_front(grammar, &bytes[..long]);
+    write_reply(answer, read_reply(got))
+}
+
+// Building, from a text.
+#[no_mangle]
+pub extern "C" fn sejimakpu_build_text_nonnull(
+    text: &[u8],
+    image: &mut [u8],
+    answer: &mut [u64; 6],
+) -> u32
+    ensures { λ r. ⌜ Build-text-tells (now (text .entry)) (now (image .entry)) (now (image .exit)) r (now (answer .exit)) ⌝ }
+{
+    let built = build_text(text, image);
+    write_reply(answer, build_reply(built))
+}
+
+// Judging, by a text.
+#[no_mangle]
+pub extern "C" fn sejimakpu_judge_text_nonnull(
+    text: &[u8],
+    capture: &[u8],
+    image: &mut [u8],
+    notes: &mut [u32],
+    work: &mut [u32],
+    answer: &mut [u64; 6],
+) -> u32
+    ensures { λ r. ⌜ Judge-text-tells (now (text .entry)) (now (capture .entry)) (lent (now (image .entry)) (now (notes .entry)) (now (work .entry)))
+        (lent (now (image .exit)) (now (notes .exit)) (now (work .exit))) r (now (answer .exit)) ⌝ }
+{
+    let judged = judge_text(text, capture, image, notes, work);
+    write_reply(answer, judge_reply(judged))
 }

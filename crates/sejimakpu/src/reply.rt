@@ -6,6 +6,7 @@ use machine::Config;
 use machine::Reply;
 use machine::Verdict;
 use machine::halting::halt_verdict;
+use reader::ReadGrammar;
 use refusal::Checked;
 use refusal::Refusal;
 use simulator::Judged;
@@ -15,6 +16,7 @@ ghost use Rattle.machine.specs.Replies.{verdict-number as number-of, refusal-re
 ghost use Rattle.simulator.specs.Replies.{of-needs, of-judged};
 ghost use Rattle.interpreter.specs.Replies.{exit-number as number-of-exit, of-ran};
 ghost use Rattle.builder.specs.Replies.{of-built};
+ghost use Rattle.typed.specs.Replies.{of-read};
 ghost use Rattle.sejimakpu.specs.Cells.{Reply-written};
 
 // A verdict's number.
@@ -135,6 +137,16 @@ pub fn build_reply(built: Built) -> Reply
         Built::Refused(refusal) => refused(refusal),
         Built::Image(long) => counted(long),
     }
+}
+
+pub fn read_reply(read: ReadGrammar) -> Reply
+    ensures { λ r. ⌜ r ≡ of-read read ⌝ }
+{
+    let refusal = read.refusal;
+    if refusal.number != 0 {
+        return refused(refusal);
+    }
+    counted(read.length)
 }
 
 // Every cell of the answer is written; the number of the refusal, or 0, is returned.

@@ -10,6 +10,7 @@ use Rattle.grammar.specs.declared.Expression.the-variants.{Sequence, Choice, No
 use Rattle.grammar.specs.Grammar.{rules, kind-of, b-of, c-of, expression, expression-by, Parts-below}
 use Rattle.grammar.specs.Conditions.{last-of, Grammar-rule-right, sequence-right, choice-right, not-right, empty-right, range-right}
 use Rattle.syntax.specs.Compile.{rule-bytes, encode}
+use Rattle.syntax.proofs.Encoding.{length-encode}
 use Rattle.syntax_theory.proofs.Numbering.{Holds, holds-all}
 
 -- the four bytes of rule k are those of x
@@ -18,19 +19,6 @@ pub record Written (gs : List ℕ) (k : ℕ) (x : Expression) : Type 0 where
   pub first : b-of gs k ≡ byte (rule-bytes x) 1
   pub second : c-of gs k ≡ byte (rule-bytes x) 2
   pub last : last-of gs k ≡ 0
-
-four-bytes : (x : Expression) → length (rule-bytes x) ≡ 4
-unfolding rule-bytes
-four-bytes (Sequence b c) = refl
-four-bytes (Choice b c) = refl
-four-bytes (Not b) = refl
-four-bytes Empty = refl
-four-bytes (Range b c) = refl
-
-pub length-encode : (xs : List Expression) → length (encode xs) ≡ 4 * length xs
-unfolding encode
-length-encode [] = refl
-length-encode (x ∷ xs) = omega (arith, length-append (rule-bytes x) (encode xs), four-bytes x, length-encode xs)
 
 -- the bytes after a rule's
 after-rule : (x : Expression) (bs : List ℕ) (i : ℕ) → byte (rule-bytes x ++ bs) (suc (suc (suc (suc i)))) ≡ byte bs i

@@ -14,30 +14,11 @@ use Rattle.syntax.specs.Tokens.{Token, Lexeme, same, tokens}
 use Rattle.syntax.specs.Trees.{Tree, nonterminal, leaf, bytes, prefixed, suffixed, sequence, choice, Definition, names, Defines, Level, Derives, Reads}
 use Rattle.syntax.specs.Faults.{not-in, undefined-in, first-undefined}
 use Rattle.syntax.specs.Compile.{index-of}
+use Rattle.syntax.proofs.NamesApart.{same-is, same-itself}
 use Rattle.syntax_theory.proofs.Numbering.{Each, no-element, an-element, each-first, each-rest}
 
--- EQUAL LETTERS
 clash : {A : Type 0} → false ≡ true → A
 clash e = let z : _≡_ {A = ℕ} 0 1 = cc in absurd (omega arith)
-
-pub same-equal : (xs ys : List ℕ) → same xs ys ≡ true → xs ≡ ys
-unfolding same
-same-equal [] [] e = refl
-same-equal [] (y ∷ ys) e = clash e
-same-equal (x ∷ xs) [] e = clash e
-same-equal (x ∷ xs) (y ∷ ys) e = go (eqb x y) refl (same-equal xs ys) e
-  where
-    go : (t : Bool) → eqb x y ≡ t → (same xs ys ≡ true → xs ≡ ys) → (t && same xs ys) ≡ true → x ∷ xs ≡ y ∷ ys
-    go true f rest g =
-        let heads : x ≡ y = eqb-true x y f in
-        let tails : xs ≡ ys = rest g in
-        cc
-    go false f rest g = clash g
-
-pub same-self : (xs : List ℕ) → same xs xs ≡ true
-unfolding same
-same-self [] = refl
-same-self (x ∷ xs) = simp (eq-eqb x x refl, same-self xs)
 
 -- a name that is among those of the lines is that of the line it is found at
 pub found : (n : List ℕ) (ds : List Definition) → not-in n (names ds) ≡ false → (e : Tree) × Defines ds (index-of n (names ds)) n e
@@ -48,7 +29,7 @@ found n (d ∷ ds) h = go (same n (d .letters)) refl (found n ds) h
     go :
         (t : Bool) → same n (d .letters) ≡ t → (not-in n (names ds) ≡ false → (e : Tree) × Defines ds (index-of n (names ds)) n e) →
         cond t false (not-in n (names ds)) ≡ false → (e : Tree) × Defines (d ∷ ds) (cond t 0 (suc (index-of n (names ds)))) n e
-    go true f rest g = (d .body, subst (λ (m : List ℕ). Defines (d ∷ ds) 0 m (d .body)) (sym (same-equal n (d .letters) f)) Defines.here)
+    go true f rest g = (d .body, subst (λ (m : List ℕ). Defines (d ∷ ds) 0 m (d .body)) (sym (same-is n (d .letters) f)) Defines.here)
     go false f rest g = let r = rest g in (r .0, Defines.there (r .1))
 
 pub defines-below : {ds : List Definition} {k : ℕ} {n : List ℕ} {e : Tree} → Defines ds k n e → k < length ds
@@ -63,11 +44,11 @@ module _ {n : List ℕ} {e : Tree} where
 
   pub defines-index : {ds : List Definition} {k : ℕ} → Defines ds k n e → Distinct (names ds) → index-of n (names ds) ≡ k
   unfolding index-of
-  defines-index Defines.here h = simp (same-self n)
+  defines-index Defines.here h = simp (same-itself n)
   defines-index (Defines.there {d} {ds} {k} l) (Distinct.cons other h) = go (same n (d .letters)) refl (defines-index l h)
     where
       go : (t : Bool) → same n (d .letters) ≡ t → index-of n (names ds) ≡ k → cond t 0 (suc (index-of n (names ds))) ≡ suc k
-      go true f rest = absurd (other (Memᴰ·cast (sym (same-equal n (d .letters) f)) (defines-named l)))
+      go true f rest = absurd (other (Memᴰ·cast (sym (same-is n (d .letters) f)) (defines-named l)))
       go false f rest = ap suc rest
 
   defines-body : {ds : List Definition} {k : ℕ} → Defines ds k n e → getD ds k (record { letters = []; body = leaf EmptyString }) .body ≡ e

@@ -26,7 +26,8 @@ use Rattle.syntax.specs.Compile.{named-from, helpers-from, all-rules, grammar-o
 use Rattle.syntax.specs.RuleOf.{Rule-of, Typed-right}
 use Rattle.syntax.proofs.Counting.{named-counted, helpers-counted, lines-needed, all-counted}
 use Rattle.syntax_theory.proofs.Numbering.{Each, each-append, each-at, Holds, holds-front, holds-after}
-use Rattle.syntax_theory.proofs.Encoded.{length-encode, written, written-right, encoded-holds}
+use Rattle.syntax.proofs.Encoding.{length-encode}
+use Rattle.syntax_theory.proofs.Encoded.{written, written-right, encoded-holds}
 use Rattle.syntax_theory.proofs.Named.{Closed-line, one-body, read-closed, all-known}
 use Rattle.syntax_theory.proofs.Lines.{Lines-at, lines-stand, line-of}
 use Rattle.syntax_theory.proofs.PartsBelow.{lines-below}

@@ -24,7 +24,8 @@ use Rattle.builder.specs.Image.{symbols-of, built-rules, rules-made, map-made, 
 use Rattle.builder.specs.Calls.{build-refusal}
 use Rattle.text.specs.Line.{digits, decimal, field, verdict-word, answer-line}
 use Rattle.answer.specs.Input.{capture-offset, first-pair-right, second-pair-right, input-refusal, input-grammar, input-capture}
-use Rattle.answer.specs.Calls.{judged-line, Lent, parts-refusal, answer-refusal, Input-says, Answer-says}
+use Rattle.grammar_judge.specs.Calls.{Lent, parts-refusal}
+use Rattle.answer.specs.Calls.{judged-line, answer-refusal, Input-says, Answer-says}
 use Rattle.answer.proofs.LineWhole.{line-whole}
 use Rattle.answer.proofs.Answered.{input-judged, input-fine}
 use Rattle.worked_examples.specs.Examples.{Row, row, from-grammar, Row-holds, Each, cons, endless-grammar, table, image-of, row-machine}

@@ -6,7 +6,7 @@ use lib.ListN.{length}
 use Rattle.codec.specs.Numbers.{pair, pair-bytes}
 use Rattle.answer.specs.Input.{pairs-length}
 use Rattle.text.specs.Line.{max-line}
-use Rattle.answer.specs.Calls.{Lent}
+use Rattle.grammar_judge.specs.Calls.{Lent}
 use Rattle.worked_examples.specs.Examples.{endless-grammar}
 
 -- 10000000 04000000 14000000 00000000, and C5's grammar of four bytes, 01000000

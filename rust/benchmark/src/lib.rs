@@ -4,6 +4,7 @@ pub mod clock;
 pub mod judging;
 pub mod measure;
 pub mod others;
+pub mod reading;
 pub mod report;
 pub mod table;
 pub mod twin;

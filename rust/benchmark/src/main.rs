@@ -2,7 +2,7 @@
 //! the two do not agree; what it measures is for a reader to judge.
 use benchmark::judging::{Cells, Line};
 use benchmark::workloads::{self, SIZES};
-use benchmark::{others, report};
+use benchmark::{others, reading, report};
 
 /// Rounds over all lines, so that what else the machine does for a while falls on no line alone.
 const ROUNDS: usize = 4;
@@ -14,6 +14,8 @@ Judge and twin take turns on the same cells, which are allocated and touched bef
 judge clears, twin clears: the time of a call with the same image and length on a capture whose first byte ends the run
   at once (checks, clearing, under 100 readings), over the time of the call. fill(0): both slices cleared by fill(0) and
   nothing else, over the time of the twin's call.
+Reading: blanks is the ring's text and then spaces, which is read; operators is one line of every operator, with no name but
+  its own, which needs too many rules; names is texts of one length with more and more lines, each with a use of another.
 ";
 
 fn main() {
@@ -43,5 +45,7 @@ fn main() {
     let [on_lines, _, _, on_two_way] = &workloads;
     others::plain_runs(&[on_lines, on_two_way]);
     others::images();
+    reading::texts();
+    reading::ring();
     report::print_targets(&workloads, &lines);
 }

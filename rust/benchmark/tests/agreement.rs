@@ -1,6 +1,6 @@
 //! The twin gives the library's answers, notes and cells, on small cases drawn from a fixed sequence of numbers.
 use benchmark::twin;
-use sejimakpu::MAX_BUILT_IMAGE;
+use sejimakpu::{MAX_BUILT_IMAGE, MAX_GRAMMAR};
 
 /// A sequence of numbers, the same in every run.
 struct Numbers(u64);
@@ -69,6 +69,40 @@ impl Numbers {
         }
     }
 
+    /// A text that is right, but for the rules that it may need.
+    fn text(&mut self) -> Vec<u8> {
+        let lines = 1 + self.below(3);
+        let mut text = Vec::new();
+        for line in 0..lines {
+            text.extend([b'a' + line as u8, b'=']);
+            self.expression(lines, 3, &mut text);
+            text.extend([b";", &b";\n"[..]][self.below(2)]);
+        }
+        text
+    }
+
+    fn expression(&mut self, lines: usize, depth: usize, text: &mut Vec<u8>) {
+        for part in 0..1 + self.below(3) {
+            if part > 0 {
+                text.push([b' ', b'/'][self.below(2)]);
+            }
+            text.extend([&b""[..], b"", b"!", b"&"][self.below(4)]);
+            match self.below(7) {
+                0 => text.push(b'.'),
+                1 => text.extend(b"empty"),
+                2 => text.extend(b"fail"),
+                3..=4 => text.push(b'a' + self.byte(lines)),
+                5 if depth > 0 => {
+                    text.push(b'(');
+                    self.expression(lines, depth - 1, text);
+                    text.push(b')');
+                }
+                _ => text.extend([b'\'', b'a' + self.byte(3), b'-', b'a' + self.byte(3), b'\'']),
+            }
+            text.extend([&b""[..], b"", b"", b"*", b"+", b"?"][self.below(6)]);
+        }
+    }
+
     /// Spoils a byte, or the length, of every third of the given bytes.
     fn spoil(&mut self, bytes: &mut Vec<u8>) {
         match self.below(9) {
@@ -131,6 +165,34 @@ fn on_grammars() {
         if let Ok(length) = built {
             agree_on(&a[..length], &mut numbers);
         }
+    }
+}
+
+#[test]
+fn on_texts() {
+    let mut numbers = Numbers(0xA076_1D64_78BD_642F);
+    for _ in 0..2000 {
+        let mut text = numbers.text();
+        numbers.spoil(&mut text);
+        let (mut a, mut b) = ([7; MAX_GRAMMAR], [7; MAX_GRAMMAR]);
+        let read = sejimakpu::read_grammar(&text, &mut a);
+        assert_eq!(twin::read_grammar(&text, &mut b), read);
+        assert_eq!(a, b);
+
+        let room = if numbers.below(9) == 0 { 400 + numbers.below(300) } else { MAX_BUILT_IMAGE };
+        let (mut a, mut b) = (vec![7; room], vec![7; room]);
+        let built = sejimakpu::build_text(&text, &mut a);
+        assert_eq!(twin::build_text(&text, &mut b), built);
+        assert!(a == b);
+
+        let capture = numbers.capture();
+        let cells = 5 * (capture.len() + 2) * (read.unwrap_or(0) / 2 + 1);
+        let few = |numbers: &mut Numbers| cells + 2 - numbers.below(8).saturating_sub(4);
+        let lent = (vec![7; room], vec![7; few(&mut numbers)], vec![8; few(&mut numbers)]);
+        let (mut a, mut b) = (lent.clone(), lent);
+        let judged = sejimakpu::judge_text(&text, &capture, &mut a.0, &mut a.1, &mut a.2);
+        assert_eq!(twin::judge_text(&text, &capture, &mut b.0, &mut b.1, &mut b.2), judged);
+        assert!(a == b);
     }
 }
 

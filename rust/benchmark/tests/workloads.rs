@@ -1,8 +1,8 @@
 //! The workloads are what they say, at lengths far below those measured.
 use benchmark::backtracking_parser::{parse, TooManySteps};
-use benchmark::workloads::{self, backtracking, lines};
+use benchmark::workloads::{self, backtracking, lines, texts};
 use benchmark::{twin, workloads::building};
-use sejimakpu::{Judged, Verdict, MAX_BUILT_IMAGE};
+use sejimakpu::{Judged, Reason, Refusal, Verdict, MAX_BUILT_IMAGE, MAX_GRAMMAR};
 
 fn judged(image: &[u8], capture: &[u8]) -> Judged {
     let cells = usize::from(image[24]) * (capture.len() + 2) * usize::from(image[26]);
@@ -46,4 +46,34 @@ fn most_rules_and_classes() {
     let mut image = vec![0; MAX_BUILT_IMAGE];
     assert_eq!(twin::build(&building::widest(), &mut image), Ok(MAX_BUILT_IMAGE));
     assert_eq!((image[25], image[26]), (63, 63));
+}
+
+#[test]
+fn texts_are_read_to_their_end() {
+    let mut grammar = [0; MAX_GRAMMAR];
+    for n in 100..1200 {
+        let blanks = texts::blanks(n);
+        assert_eq!((blanks.len(), twin::read_grammar(&blanks, &mut grammar)), (n.max(texts::RING.len()), Ok(56)));
+        let too_many = Err(Refusal::new(Reason::TextRules, n).into());
+        let operators = texts::operators(n);
+        assert_eq!(operators.len(), n);
+        if n >= 200 {
+            assert_eq!(twin::read_grammar(&operators, &mut grammar), too_many, "{n}");
+        }
+        let names = texts::names(n, n / 32);
+        assert_eq!(names.len(), n);
+        if n >= 300 {
+            assert_eq!(twin::read_grammar(&names, &mut grammar), too_many, "{n}");
+        }
+    }
+}
+
+#[test]
+fn the_ring_is_accepted() {
+    for lines in [1, 4, 50] {
+        let mut image = vec![0; MAX_BUILT_IMAGE];
+        let (mut notes, mut work) = (vec![0; 100_000], vec![0; 100_000]);
+        let judged = twin::judge_text(texts::RING, &texts::table(lines), &mut image, &mut notes, &mut work);
+        assert_eq!(judged.unwrap().verdict, Verdict::Accepted);
+    }
 }

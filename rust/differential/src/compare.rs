@@ -18,10 +18,17 @@ pub struct Running {
     pub stack: Vec<u32>,
 }
 
-/// Building's answer, and the whole buffer after it.
+/// The answer of building or of reading a text, and the whole buffer after it.
 #[derive(Clone, Debug)]
 pub struct Building {
     pub answer: Result<usize, Refusal>,
+    pub buffer: Vec<u8>,
+}
+
+/// The answer of judging by a text, all lent cells and the whole buffer after it.
+#[derive(Clone, Debug)]
+pub struct TextJudging {
+    pub judging: Judging,
     pub buffer: Vec<u8>,
 }
 
@@ -48,6 +55,10 @@ pub fn running(expected: &Running, got: &Running) -> Option<String> {
     answers("plain run", &expected.answer, &got.answer).or_else(|| cells("stack", &expected.stack, &got.stack))
 }
 
-pub fn building(expected: &Building, got: &Building) -> Option<String> {
-    answers("build", &expected.answer, &got.answer).or_else(|| cells("buffer", &expected.buffer, &got.buffer))
+pub fn building(name: &str, expected: &Building, got: &Building) -> Option<String> {
+    answers(name, &expected.answer, &got.answer).or_else(|| cells("buffer", &expected.buffer, &got.buffer))
+}
+
+pub fn text_judging(expected: &TextJudging, got: &TextJudging) -> Option<String> {
+    judging(&expected.judging, &got.judging).or_else(|| cells("buffer", &expected.buffer, &got.buffer))
 }

@@ -1,11 +1,11 @@
-//! Every machine and every grammar of the smallest sizes. Nothing is left to chance here: a case is a number, and its
-//! digits are the rules.
+//! Every machine, every grammar and every text of the smallest sizes. Nothing is left to chance here: a case is a number,
+//! and its digits are the rules or the bytes.
 
 use crate::edges::tools::{blank, set};
 use crate::findings::Findings;
-use crate::kinds::grammar_on;
+use crate::kinds::{grammar_on, text_on};
 use crate::rng::Rng;
-use crate::sides;
+use crate::sides::{self, OldGrammar};
 use model::image::write;
 
 /// Machines of one size, on captures of one length.
@@ -102,5 +102,65 @@ pub fn grammar_case(rules: u8, mut number: usize, found: &mut Findings, rng: &mu
     }
     for capture in CAPTURES {
         grammar_on(found, rng, &bytes, capture, 100);
+    }
+}
+
+/// Texts of up to so many bytes of some, behind a beginning and before an end.
+pub struct Texts {
+    begin: &'static [u8],
+    bytes: &'static [u8],
+    most: u32,
+    end: &'static [u8],
+    /// Whether they are built and judged too, and not only read.
+    judged: bool,
+}
+
+/// All texts of the bytes that matter; then what can stand in a line, with every name defined or not; then fewer and
+/// shorter ones, judged.
+pub const TEXTS: &[Texts] = &[
+    Texts { begin: b"", bytes: b"ab=;/().!*'- ", most: 6, end: b"", judged: false },
+    Texts { begin: b"a=", bytes: b"ab/()&+?.' ", most: 6, end: b";b=.;", judged: false },
+    Texts { begin: b"a=", bytes: b"ab/()!*. ", most: 4, end: b";b='a-b';", judged: true },
+    Texts { begin: b"a=", bytes: b"bc&+?/.", most: 4, end: b";b='a-a';c=empty/b;", judged: true },
+];
+
+/// How many differing texts end a case. More of them seldom say more.
+const MANY: usize = 5;
+
+impl Texts {
+    /// A case is every so manyth text: one is too little work to be counted by itself.
+    pub fn count(&self) -> usize {
+        self.bytes.len().pow(2)
+    }
+
+    pub fn case(&self, number: usize, found: &mut Findings, rng: &mut Rng) {
+        let old = sides::old_grammar(rng);
+        for length in 0..=self.most {
+            for text in (number..self.bytes.len().pow(length)).step_by(self.count()) {
+                self.compare(&self.text(length, text), &old, found, rng);
+                if found.differences.len() >= MANY {
+                    return;
+                }
+            }
+        }
+    }
+
+    fn text(&self, length: u32, mut number: usize) -> Vec<u8> {
+        let mut text = self.begin.to_vec();
+        for _ in 0..length {
+            text.push(self.bytes[number % self.bytes.len()]);
+            number /= self.bytes.len();
+        }
+        text.extend(self.end);
+        text
+    }
+
+    fn compare(&self, text: &[u8], old: &OldGrammar, found: &mut Findings, rng: &mut Rng) {
+        let read = sides::read_grammar(found, old, text);
+        if self.judged && read.is_ok() {
+            for capture in CAPTURES {
+                text_on(found, rng, text, capture);
+            }
+        }
     }
 }

@@ -3,15 +3,16 @@
 use crate::damage::{damage, damage_rule};
 use crate::findings::Findings;
 use crate::rng::Rng;
-use crate::{grammars, machines, program, sides};
+use crate::{compare, grammars, machines, program, sides, texts};
 use model::answer::{Judged, Verdict};
 use model::grammar::Part;
-use model::parse::{parse, Parsed};
+use model::parse::{parse, parse_from, Parsed};
+use model::text::{self, meaning};
 use model::{building, grammar, image};
 
 pub type Case = fn(&mut Findings, &mut Rng);
 
-/// A kind of random case: its name, its seed, its share in ten thousand cases, and what makes and compares one.
+/// A kind of random case: its name, its seed, its share of all cases, and what makes and compares one.
 pub struct Kind {
     pub name: &'static str,
     pub seed: u64,
@@ -27,10 +28,16 @@ pub const KINDS: &[Kind] = &[
     Kind { name: "plain-runs", seed: 0x5e71_0005, share: 750, case: plain_run },
     Kind { name: "short-slices", seed: 0x5e71_0006, share: 600, case: short_slices },
     Kind { name: "program", seed: 0x5e71_0007, share: 250, case: program_case },
+    Kind { name: "texts", seed: 0x5e71_0008, share: 1500, case: text_case },
+    Kind { name: "damaged-texts", seed: 0x5e71_0009, share: 900, case: damaged_text },
+    Kind { name: "read-text", seed: 0x5e71_000a, share: 100, case: read_text_case },
 ];
 
 /// Parsing that takes more calls is not compared: the judge has no such limit, plain recursion has.
 const PARSE_CALLS: usize = 20_000;
+
+/// On captures of up to so many bytes every line of a text is parsed from every place.
+const SHORT: usize = 40;
 
 /// Plain runs that might not end get about so many steps.
 const LONG: usize = 10_000;
@@ -103,6 +110,11 @@ pub fn few_readings(found: &mut Findings, bytes: &[u8], capture: &[u8], judged: 
 pub fn parses_so(found: &mut Findings, parts: &[Part], bytes: &[u8], capture: &[u8], judged: Judged) {
     few_readings(found, bytes, capture, judged);
     let Some(parsed) = parse(parts, capture, PARSE_CALLS) else { return };
+    judged_as(found, parsed, capture, judged, ("grammar", bytes));
+}
+
+/// The verdict is the one of what parsing came to.
+fn judged_as(found: &mut Findings, parsed: Parsed, capture: &[u8], judged: Judged, input: (&str, &[u8])) {
     found.parsed += 1;
     let verdict = match parsed {
         Parsed::Rest(place) if place == capture.len() => Verdict::Accepted,
@@ -110,7 +122,7 @@ pub fn parses_so(found: &mut Findings, parts: &[Part], bytes: &[u8], capture: &[
         Parsed::Rest(_) | Parsed::Failure => Verdict::Stuck,
     };
     let differs = (verdict != judged.verdict).then(|| format!("parsed {parsed:?}, judged {}", judged.verdict));
-    found.note(differs, &[("grammar", bytes), ("capture", capture)]);
+    found.note(differs, &[input, ("capture", capture)]);
 }
 
 /// A damaged image, in every call. Where it is good after all it is judged.
@@ -223,4 +235,65 @@ fn program_case(found: &mut Findings, rng: &mut Rng) {
         damage(rng, &mut input, &[0, 4, 8, 12, 16, capture_at]);
     }
     program::compare(found, &input);
+}
+
+/// A good text: reading, building and judging by it, and its own equations beside them.
+fn text_case(found: &mut Findings, rng: &mut Rng) {
+    let (text, capture) = texts::with_capture(rng);
+    text_on(found, rng, &text, &capture);
+}
+
+/// One text on one capture, in every call that takes a text, with a little more lent than needed. Where it is refused,
+/// every call refuses it so.
+pub fn text_on(found: &mut Findings, rng: &mut Rng, text: &[u8], capture: &[u8]) {
+    let old = sides::old_grammar(rng);
+    let read = sides::read_grammar(found, &old, text);
+    // A refused text needs nothing.
+    let parts = read.as_deref().ok().and_then(|bytes| grammar::read(bytes).ok()).unwrap_or_default();
+    let image = if parts.is_empty() { 100 } else { building::build(&parts).len() } + rng.below(17);
+    let cells = 5 * (capture.len() + 2) * (2 * parts.len() + 1);
+    let lent = sides::Lent { image, notes: cells + rng.below(9), work: cells + rng.below(9) };
+    let built = sides::build_text(found, rng, text, image);
+    let judged = sides::judge_text(found, rng, text, capture, lent);
+    if let (Ok(bytes), Ok(image), Ok(judged)) = (read, built, judged) {
+        same_as_bytes(found, rng, text, &bytes, &image);
+        few_readings(found, &bytes, capture, judged);
+        means_so(found, text, capture, judged, &parts);
+    }
+}
+
+/// The grammar read passes the call that takes bytes, which gives the same image.
+fn same_as_bytes(found: &mut Findings, rng: &mut Rng, text: &[u8], bytes: &[u8], image: &[u8]) {
+    let built = sides::build(found, rng, bytes, image.len());
+    let same = built.is_ok_and(|other| other == image);
+    found.note(compare::answers("one image from text and from bytes", &true, &same), &[("text", text)]);
+}
+
+/// The verdict is what the text's own equations say; and so is what each line's rule comes to, at every place.
+fn means_so(found: &mut Findings, text: &[u8], capture: &[u8], judged: Judged, parts: &[Part]) {
+    let typed = text::read(text).expect("it was read");
+    let meaning = meaning::of(&typed, capture);
+    judged_as(found, meaning.line(0, 0), capture, judged, ("text", text));
+    if capture.len() > SHORT {
+        return;
+    }
+    for (line, place) in (0..typed.bodies.len()).flat_map(|line| (0..=capture.len()).map(move |place| (line, place))) {
+        let Some(by_rule) = parse_from(parts, capture, (line, place), PARSE_CALLS) else { continue };
+        let means = meaning.line(line, place);
+        let differs =
+            (means != by_rule).then(|| format!("line {line} at {place}: {means:?}, and {by_rule:?} by its rule"));
+        found.note(differs, &[("text", text), ("capture", capture)]);
+    }
+}
+
+/// A text with a byte or a piece of it wrong. Where it is good after all it is judged.
+fn damaged_text(found: &mut Findings, rng: &mut Rng) {
+    let text = texts::damaged(rng);
+    text_on(found, rng, &text, b"abca");
+}
+
+/// The whole output of the program that reads a text.
+fn read_text_case(found: &mut Findings, rng: &mut Rng) {
+    let text = if rng.percent(40) { texts::damaged(rng) } else { texts::good(rng) };
+    program::compare_read_text(found, &text, text.len().max(1));
 }

@@ -1,8 +1,9 @@
 //! Compares the proved library and the program with the model, case by case; the last line printed is
 //! `N passed, M failed`.
 //!
-//! SEJIMAKPU_CASES gives another number of random cases, SEJIMAKPU_PROGRAM another place of the program. With a random
-//! kind and a number as arguments, or `edges` and a name, one case runs alone.
+//! SEJIMAKPU_CASES gives another number of random cases, SEJIMAKPU_PROGRAM another place of the program and
+//! SEJIMAKPU_READ_TEXT of the one that reads texts. With a random kind and a number as arguments, or `edges` and a name,
+//! one case runs alone.
 
 mod compare;
 mod damage;
@@ -18,6 +19,7 @@ mod rng;
 #[cfg(test)]
 mod selftest;
 mod sides;
+mod texts;
 
 use findings::{Findings, Tally};
 use kinds::KINDS;
@@ -28,7 +30,7 @@ use std::time::Instant;
 use std::{env, process};
 
 /// How many random cases run where SEJIMAKPU_CASES says nothing.
-const CASES: usize = 60_000;
+const CASES: usize = 75_000;
 
 fn main() -> ExitCode {
     let arguments: Vec<String> = env::args().skip(1).collect();
@@ -64,6 +66,7 @@ fn all(tally: &mut Tally, cases: usize) {
     }
     small_machines(tally);
     small_grammars(tally);
+    small_texts(tally);
     let shares: usize = KINDS.iter().map(|kind| kind.share).sum();
     for kind in KINDS {
         for case in 0..cases * kind.share / shares {
@@ -107,6 +110,17 @@ fn small_grammars(tally: &mut Tally) {
             let label = format!("{rules} rules, number {number}");
             let mut rng = Rng::of_case(0x5e71_0020 + rules as u64, number as u64);
             run(tally, "small-grammars", &label, |found| exhaustive::grammar_case(rules, number, found, &mut rng));
+        }
+    }
+}
+
+/// Every text of a few bytes, and every expression.
+fn small_texts(tally: &mut Tally) {
+    for (size, texts) in exhaustive::TEXTS.iter().enumerate() {
+        for number in 0..texts.count() {
+            let label = format!("size {size}, number {number}");
+            let mut rng = Rng::of_case(0x5e71_0040 + size as u64, number as u64);
+            run(tally, "small-texts", &label, |found| texts.case(number, found, &mut rng));
         }
     }
 }

@@ -1,6 +1,6 @@
 //! The tests can fail: wrong answers made on purpose are told apart from right ones by the comparing functions.
 
-use crate::compare::{building, judging, running, Building, Judging, Running};
+use crate::compare::{building, judging, running, text_judging, Building, Judging, Running, TextJudging};
 use crate::findings::{Findings, Tally};
 use model::answer::{Config, Judged, Ran, Refusal, Verdict};
 use model::{building as model_building, calls, grammar, image, plain, walk};
@@ -75,13 +75,27 @@ fn a_wrong_plain_run_is_seen() {
 #[test]
 fn a_wrong_image_is_seen() {
     let right = Building { answer: Ok(3), buffer: vec![1, 2, 3, 4] };
-    assert_eq!(building(&right, &right.clone()), None);
+    assert_eq!(building("build", &right, &right.clone()), None);
     for at in 0..4 {
         let mut wrong = right.clone();
         wrong.buffer[at] ^= 1;
-        assert!(building(&right, &wrong).is_some());
+        assert!(building("build", &right, &wrong).is_some());
     }
-    assert!(building(&right, &Building { answer: Ok(4), ..right.clone() }).is_some());
+    assert!(building("build", &right, &Building { answer: Ok(4), ..right.clone() }).is_some());
+}
+
+#[test]
+fn a_wrong_judging_by_a_text_is_seen() {
+    let right = TextJudging { judging: right_judging(), buffer: vec![1, 2, 3, 4] };
+    assert_eq!(text_judging(&right, &right.clone()), None);
+    for at in 0..4 {
+        let mut wrong = right.clone();
+        wrong.buffer[at] ^= 1;
+        assert!(text_judging(&right, &wrong).is_some());
+    }
+    let mut wrong = right.clone();
+    wrong.judging.work[0] ^= 1;
+    assert!(text_judging(&right, &wrong).is_some());
 }
 
 #[test]

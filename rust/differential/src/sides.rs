@@ -1,7 +1,7 @@
 //! The two sides of a comparison: each function here calls the library and the model with the same inputs and the same
 //! lent cells, and notes a difference.
 
-use crate::compare::{self, Building, Judging, Running};
+use crate::compare::{self, Building, Judging, Running, TextJudging};
 use crate::findings::Findings;
 use crate::rng::Rng;
 use model::answer::{Config, Judged, Ran, Refusal, Verdict};
@@ -33,6 +33,10 @@ fn config(of: sejimakpu::Config) -> Config {
     Config { state: of.state as usize, head: of.head as usize, symbol: of.symbol as usize }
 }
 
+fn judged(of: sejimakpu::Judged) -> Judged {
+    Judged { verdict: verdict(of.verdict), readings: of.readings as usize, end: config(of.end) }
+}
+
 /// Checking alone.
 pub fn check(found: &mut Findings, image: &[u8]) -> Result<(), Refusal> {
     let expected = image::read(image).map(|_| ());
@@ -62,10 +66,7 @@ pub fn judge(
     let (notes, work) = (rng.cells(notes), rng.cells(work));
     let mut got_notes = notes.clone();
     let mut got_work = work.clone();
-    let answer = sejimakpu::judge(image, capture, &mut got_notes, &mut got_work).map_err(refusal).map(|judged| {
-        let (verdict, readings) = (verdict(judged.verdict), judged.readings as usize);
-        Judged { verdict, readings, end: config(judged.end) }
-    });
+    let answer = sejimakpu::judge(image, capture, &mut got_notes, &mut got_work).map_err(refusal).map(judged);
     let got = Judging { answer, notes: got_notes, work: got_work };
     let expected = judged_by_model(found, image, capture, notes, work);
     found.note(compare::judging(&expected, &got), &[("image", image), ("capture", capture)]);
@@ -80,21 +81,30 @@ fn judged_by_model(
     mut notes: Vec<u32>,
     mut work: Vec<u32>,
 ) -> Judging {
-    let answer = calls::judge_checks(image::read(image), capture.len(), notes.len(), work.len()).map(|(machine, _)| {
-        let outcome = summary::judge(machine, capture);
-        if let Some(walked) = walk::judge(machine, capture, WALK_LIMIT) {
-            let agree = compare::answers("the model's two ways agree", &true, &(walked.outcome == outcome));
-            found.note(agree, &[("image", image), ("capture", capture)]);
-            found.walked += 1;
-            let entered = outcome.notes.iter().filter(|&&note| note != 0).count();
-            found.repeating += (walked.steps > entered) as usize;
-        }
-        let judged = calls::judge_answer(&outcome, &mut notes, &mut work);
-        found.verdicts.push(judged.verdict);
-        found.readings.push(judged.readings);
-        judged
-    });
+    let answer = calls::judge_checks(image::read(image), capture.len(), notes.len(), work.len());
+    let answer = answer.map(|(machine, _)| judge_machine(found, machine, capture, &mut notes, &mut work));
     Judging { answer, notes, work }
+}
+
+fn judge_machine(
+    found: &mut Findings,
+    machine: Machine,
+    capture: &[u8],
+    notes: &mut [u32],
+    work: &mut [u32],
+) -> Judged {
+    let outcome = summary::judge(machine, capture);
+    if let Some(walked) = walk::judge(machine, capture, WALK_LIMIT) {
+        let agree = compare::answers("the model's two ways agree", &true, &(walked.outcome == outcome));
+        found.note(agree, &[("image", machine.bytes()), ("capture", capture)]);
+        found.walked += 1;
+        let entered = outcome.notes.iter().filter(|&&note| note != 0).count();
+        found.repeating += (walked.steps > entered) as usize;
+    }
+    let judged = calls::judge_answer(&outcome, notes, work);
+    found.verdicts.push(judged.verdict);
+    found.readings.push(judged.readings);
+    judged
 }
 
 /// The plain run, with so many stack cells lent.
@@ -130,8 +140,81 @@ pub fn build(found: &mut Findings, rng: &mut Rng, grammar: &[u8], buffer: usize)
     let answer = sejimakpu::build(grammar, &mut got_buffer).map_err(refusal);
     let got = Building { answer, buffer: got_buffer };
     let answer = calls::build(grammar, &mut buffer);
-    found.note(compare::building(&Building { answer, buffer }, &got), &[("grammar", grammar)]);
+    found.note(compare::building("build", &Building { answer, buffer }, &got), &[("grammar", grammar)]);
     got.answer.map(|length| got.buffer[..length].to_vec())
+}
+
+/// Bytes on both sides of a lent buffer, which no call may change.
+const FENCE: usize = 8;
+
+/// The part of a fenced buffer that is lent.
+fn inside(fenced: &mut [u8]) -> &mut [u8] {
+    let end = fenced.len() - FENCE;
+    &mut fenced[FENCE..end]
+}
+
+/// Old contents for the array that a text is read into, with its fences.
+pub type OldGrammar = [u8; sejimakpu::MAX_GRAMMAR + 2 * FENCE];
+
+pub fn old_grammar(rng: &mut Rng) -> OldGrammar {
+    std::array::from_fn(|_| rng.byte())
+}
+
+/// Reading a text over old contents; answers the bytes that the library read, if it did.
+pub fn read_grammar(found: &mut Findings, old: &OldGrammar, text: &[u8]) -> Result<Vec<u8>, Refusal> {
+    let (mut expected, mut got) = (*old, *old);
+    let lent = inside(&mut got).try_into().expect("124 bytes are lent");
+    let got_answer = sejimakpu::read_grammar(text, lent).map_err(refusal);
+    let answer = calls::read_grammar(text, inside(&mut expected));
+    if answer != got_answer || expected != got {
+        let expected = Building { answer, buffer: expected.to_vec() };
+        let got = Building { answer: got_answer, buffer: got.to_vec() };
+        found.note(compare::building("read grammar", &expected, &got), &[("text", text)]);
+    }
+    got_answer.map(|length| got[FENCE..FENCE + length].to_vec())
+}
+
+/// Building from a text into a buffer of so many bytes; answers what the library built, if it did.
+pub fn build_text(found: &mut Findings, rng: &mut Rng, text: &[u8], buffer: usize) -> Result<Vec<u8>, Refusal> {
+    let mut buffer = rng.bytes(buffer + 2 * FENCE);
+    let mut got_buffer = buffer.clone();
+    let answer = sejimakpu::build_text(text, inside(&mut got_buffer)).map_err(refusal);
+    let got = Building { answer, buffer: got_buffer };
+    let answer = calls::build_text(text, inside(&mut buffer));
+    found.note(compare::building("build text", &Building { answer, buffer }, &got), &[("text", text)]);
+    got.answer.map(|length| got.buffer[FENCE..FENCE + length].to_vec())
+}
+
+/// What judging by a text is lent: bytes for the image, notes and work cells.
+#[derive(Clone, Copy)]
+pub struct Lent {
+    pub image: usize,
+    pub notes: usize,
+    pub work: usize,
+}
+
+/// Judging by a text; answers what the library did.
+pub fn judge_text(
+    found: &mut Findings,
+    rng: &mut Rng,
+    text: &[u8],
+    capture: &[u8],
+    lent: Lent,
+) -> Result<Judged, Refusal> {
+    let (mut notes, mut work) = (rng.cells(lent.notes), rng.cells(lent.work));
+    let mut buffer = rng.bytes(lent.image + 2 * FENCE);
+    let (mut got_notes, mut got_work, mut got_buffer) = (notes.clone(), work.clone(), buffer.clone());
+    let answer = sejimakpu::judge_text(text, capture, inside(&mut got_buffer), &mut got_notes, &mut got_work);
+    let judging = Judging { answer: answer.map_err(refusal).map(judged), notes: got_notes, work: got_work };
+    let got = TextJudging { judging, buffer: got_buffer };
+    let checked = calls::judge_text_checks(text, capture.len(), inside(&mut buffer), lent.notes, lent.work);
+    let answer = checked.map(|image| {
+        let machine = image::read(&image).expect("a built image is good");
+        judge_machine(found, machine, capture, &mut notes, &mut work)
+    });
+    let expected = TextJudging { judging: Judging { answer, notes, work }, buffer };
+    found.note(compare::text_judging(&expected, &got), &[("text", text), ("capture", capture)]);
+    got.judging.answer
 }
 
 /// How long a run is and how high its stack gets, if it ends within the limit; by the model's run.

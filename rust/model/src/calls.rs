@@ -3,7 +3,7 @@
 use crate::answer::{refuse, Judged, Ran, Refusal};
 use crate::machine::Machine;
 use crate::walk::Outcome;
-use crate::{building, grammar, plain};
+use crate::{building, grammar, image, plain, text};
 
 /// The longest capture.
 pub const MAX_CAPTURE: usize = 65_535;
@@ -69,10 +69,47 @@ pub fn plain_run(
 
 /// Building, refusals 11 to 13.
 pub fn build(bytes: &[u8], buffer: &mut [u8]) -> Result<usize, Refusal> {
+    let image = image_for(bytes, buffer.len())?;
+    Ok(put(&image, buffer))
+}
+
+/// The image of a grammar, where a buffer of so many bytes holds it.
+fn image_for(bytes: &[u8], room: usize) -> Result<Vec<u8>, Refusal> {
     let image = building::build(&grammar::read(bytes)?);
-    if buffer.len() < image.len() {
+    if room < image.len() {
         return refuse(13, image.len());
     }
-    buffer[..image.len()].copy_from_slice(&image);
-    Ok(image.len())
+    Ok(image)
+}
+
+/// Puts bytes at the start of a buffer that holds them.
+fn put(bytes: &[u8], buffer: &mut [u8]) -> usize {
+    buffer[..bytes.len()].copy_from_slice(bytes);
+    bytes.len()
+}
+
+/// Reading a text, refusals 15 to 17.
+pub fn read_grammar(text: &[u8], buffer: &mut [u8]) -> Result<usize, Refusal> {
+    Ok(put(&text::read(text)?.grammar(), buffer))
+}
+
+/// Building from a text, refusals 15 to 17 and 13.
+pub fn build_text(text: &[u8], buffer: &mut [u8]) -> Result<usize, Refusal> {
+    let image = image_for(&text::read(text)?.grammar(), buffer.len())?;
+    Ok(put(&image, buffer))
+}
+
+/// Judging by a text, up to the point where the run has to be judged, refusals 15 to 17, 13 and 7 to 9: the image is in
+/// the buffer then.
+pub fn judge_text_checks(
+    text: &[u8],
+    capture_length: usize,
+    buffer: &mut [u8],
+    notes: usize,
+    work: usize,
+) -> Result<Vec<u8>, Refusal> {
+    let image = image_for(&text::read(text)?.grammar(), buffer.len())?;
+    judge_checks(image::read(&image), capture_length, notes, work)?;
+    put(&image, buffer);
+    Ok(image)
 }

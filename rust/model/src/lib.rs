@@ -15,4 +15,5 @@ pub mod plain;
 pub mod program;
 pub mod run;
 pub mod summary;
+pub mod text;
 pub mod walk;

@@ -42,7 +42,12 @@ pub struct Machine<'a> {
     pub finals: u32,
 }
 
-impl Machine<'_> {
+impl<'a> Machine<'a> {
+    /// The image.
+    pub fn bytes(&self) -> &'a [u8] {
+        self.image
+    }
+
     pub fn is_final(&self, state: usize) -> bool {
         self.finals >> state & 1 == 1
     }

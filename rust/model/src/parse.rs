@@ -21,7 +21,12 @@ struct Parser<'a> {
 
 /// What rule 0 makes of the capture, or none where that takes more calls than allowed.
 pub fn parse(grammar: &[Part], capture: &[u8], calls: usize) -> Option<Parsed> {
-    Parser { grammar, capture, open: Vec::new(), calls_left: calls }.rule(0, 0)
+    parse_from(grammar, capture, (0, 0), calls)
+}
+
+/// What a rule makes of the capture from a place on, or none where that takes more calls than allowed.
+pub fn parse_from(grammar: &[Part], capture: &[u8], (rule, place): (usize, usize), calls: usize) -> Option<Parsed> {
+    Parser { grammar, capture, open: Vec::new(), calls_left: calls }.rule(rule, place)
 }
 
 impl Parser<'_> {

@@ -1,14 +1,16 @@
-//! The program `judge`: what it prints for what it reads.
+//! The programs `judge` and `read_text`: what they print for what they read.
 
 use crate::answer::{refuse, Judged, Refusal};
 use crate::calls::{build, judge_answer, judge_checks};
 use crate::image::{number_at, read};
-use crate::summary;
+use crate::{summary, text};
 
+/// The longest input of either.
+const MAX_INPUT: usize = 65_536;
 const IMAGE_BUFFER: usize = 65_536;
 const CELLS: usize = 16_384;
 
-/// The whole standard output.
+/// The whole standard output of `judge`.
 pub fn output(input: &[u8]) -> String {
     match answer(input) {
         Ok(Judged { verdict, readings, end }) => {
@@ -29,7 +31,7 @@ fn answer(input: &[u8]) -> Result<Judged, Refusal> {
 
 /// Grammar and capture, or refusal 14.
 fn parts(input: &[u8]) -> Result<(&[u8], &[u8]), Refusal> {
-    if !(16..=65_536).contains(&input.len()) {
+    if !(16..=MAX_INPUT).contains(&input.len()) {
         return refuse(14, 0);
     }
     let field = |at| number_at(input, at) as u64;
@@ -52,4 +54,13 @@ pub fn input(grammar: &[u8], capture: &[u8]) -> Vec<u8> {
     input.extend(grammar);
     input.extend(capture);
     input
+}
+
+/// The whole standard output of `read_text`: the grammar's bytes, or a line.
+pub fn read_text_output(input: &[u8]) -> Vec<u8> {
+    let read = if input.len() > MAX_INPUT { refuse(14, 0) } else { text::read(input) };
+    match read {
+        Ok(typed) => typed.grammar(),
+        Err(refusal) => format!("{refusal}\n").into_bytes(),
+    }
 }

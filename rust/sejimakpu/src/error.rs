@@ -31,11 +31,19 @@ pub enum Reason {
     GrammarRule,
     /// 13: the buffer is shorter than the image. The place is how many bytes are needed.
     ImageBufferShort,
+    // 14 is of the programs alone: no call gives it.
+    /// 15: a token that cannot stand where it is, bytes that form no token, a name that is repeated or never defined. The
+    /// place is its offset, or the text's length where the text ends early.
+    TextSyntax = 15,
+    /// 16: the typed grammar needs over 31 rules. The place is the text's length.
+    TextRules,
+    /// 17: a seventeenth open parenthesis. The place is its offset.
+    TextDepth,
 }
 
 impl Reason {
-    /// In the order of their numbers, from 1.
-    pub(crate) const ALL: [Reason; 13] = [
+    /// In the order of their numbers.
+    pub(crate) const ALL: [Reason; 16] = [
         Reason::ImageShort,
         Reason::ImageDirectory,
         Reason::ImageCounts,
@@ -49,6 +57,9 @@ impl Reason {
         Reason::GrammarLength,
         Reason::GrammarRule,
         Reason::ImageBufferShort,
+        Reason::TextSyntax,
+        Reason::TextRules,
+        Reason::TextDepth,
     ];
 
     /// The reason of a number, if there is one.
@@ -80,11 +91,14 @@ impl fmt::Display for Reason {
             Reason::GrammarLength => "the grammar has no rule, over 31 rules, or a part of a rule",
             Reason::GrammarRule => "a rule of the grammar is wrong",
             Reason::ImageBufferShort => "the image buffer is too short for the image",
+            Reason::TextSyntax => "the text is wrong at that place, or ends early",
+            Reason::TextRules => "the typed grammar needs over 31 rules",
+            Reason::TextDepth => "over 16 parentheses are open at once",
         })
     }
 }
 
-/// A refusal: nothing was judged, run or built, and nothing that was lent has changed.
+/// A refusal: nothing was judged, run, built or read, and nothing that was lent has changed.
 #[derive(Clone, Copy, Debug, PartialEq, Eq, Hash)]
 pub struct Refusal {
     reason: Reason,
@@ -104,7 +118,7 @@ impl Refusal {
         self.reason
     }
 
-    /// The number in the table of refusals, 1 to 13.
+    /// The number in the table of refusals, 1 to 13 or 15 to 17.
     #[must_use]
     pub fn number(&self) -> u32 {
         self.reason.number()

@@ -3,7 +3,7 @@
 //! What makes each call sound: a slice's pointer is never null, is aligned, and is good for the slice's length, also
 //! where that is 0; what the archive may write is borrowed by `&mut`, so that it overlaps nothing else; and the archive
 //! keeps no pointer after the call and does not unwind.
-use crate::{Config, Error, Reason, Refusal, Verdict};
+use crate::{Config, Error, Reason, Refusal, Verdict, MAX_GRAMMAR};
 
 /// A call's answer, field by field as in C.
 #[repr(C)]
@@ -92,6 +92,32 @@ extern "C" {
         image_length: usize,
         answer: *mut Answer,
     ) -> u32;
+    fn sejimakpu_read_grammar_nonnull(
+        text: *const u8,
+        text_length: usize,
+        grammar: *mut u8,
+        answer: *mut Answer,
+    ) -> u32;
+    fn sejimakpu_build_text_nonnull(
+        text: *const u8,
+        text_length: usize,
+        image: *mut u8,
+        image_length: usize,
+        answer: *mut Answer,
+    ) -> u32;
+    fn sejimakpu_judge_text_nonnull(
+        text: *const u8,
+        text_length: usize,
+        capture: *const u8,
+        capture_length: usize,
+        image: *mut u8,
+        image_length: usize,
+        notes: *mut u32,
+        notes_length: usize,
+        work: *mut u32,
+        work_length: usize,
+        answer: *mut Answer,
+    ) -> u32;
 }
 
 pub(crate) fn check(image: &[u8], answer: &mut Answer) -> u32 {
@@ -140,6 +166,44 @@ pub(crate) fn plain_run(image: &[u8], capture: &[u8], budget: u32, stack: &mut [
 pub(crate) fn build(grammar: &[u8], image: &mut [u8], answer: &mut Answer) -> u32 {
     // SAFETY: each pointer goes with its own slice's length; `image` and `answer` are written, each borrowed alone.
     unsafe { sejimakpu_build_nonnull(grammar.as_ptr(), grammar.len(), image.as_mut_ptr(), image.len(), answer) }
+}
+
+pub(crate) fn read_grammar(text: &[u8], grammar: &mut [u8; MAX_GRAMMAR], answer: &mut Answer) -> u32 {
+    // SAFETY: the text's pointer goes with its length, and `grammar` has the 124 bytes that may be written; `grammar` and
+    // `answer` are each borrowed alone.
+    unsafe { sejimakpu_read_grammar_nonnull(text.as_ptr(), text.len(), grammar.as_mut_ptr(), answer) }
+}
+
+pub(crate) fn build_text(text: &[u8], image: &mut [u8], answer: &mut Answer) -> u32 {
+    // SAFETY: each pointer goes with its own slice's length; `image` and `answer` are written, each borrowed alone.
+    unsafe { sejimakpu_build_text_nonnull(text.as_ptr(), text.len(), image.as_mut_ptr(), image.len(), answer) }
+}
+
+pub(crate) fn judge_text(
+    text: &[u8],
+    capture: &[u8],
+    image: &mut [u8],
+    notes: &mut [u32],
+    work: &mut [u32],
+    answer: &mut Answer,
+) -> u32 {
+    // SAFETY: each pointer goes with its own slice's length; `image`, `notes`, `work` and `answer` are written, each
+    // borrowed alone.
+    unsafe {
+        sejimakpu_judge_text_nonnull(
+            text.as_ptr(),
+            text.len(),
+            capture.as_ptr(),
+            capture.len(),
+            image.as_mut_ptr(),
+            image.len(),
+            notes.as_mut_ptr(),
+            notes.len(),
+            work.as_mut_ptr(),
+            work.len(),
+            answer,
+        )
+    }
 }
 
 #[cfg(test)]
@@ -205,6 +269,40 @@ mod tests {
         assert_eq!(run(3, 1), [0, 0, 6, 0, 0, 0, 0]);
     }
 
+    #[test]
+    fn read_grammar_writes_every_field() {
+        let mut grammar = [9; MAX_GRAMMAR];
+        let mut read = |text: &[u8]| told(|answer| read_grammar(text, &mut grammar, answer));
+        assert_eq!(read(b"a=b;"), [15, 2, 0, 0, 0, 0, 0]);
+        assert_eq!(read(b"a=.++++++++;"), [16, 12, 0, 0, 0, 0, 0]);
+        assert_eq!(read(b"a=((((((((((((((((("), [17, 18, 0, 0, 0, 0, 0]);
+        assert_eq!(read(b"a=.;"), [0, 0, 0, 4, 0, 0, 0]);
+        assert_eq!((&grammar[..4], &grammar[4..]), (&[5, 0, 255, 0][..], &[9; 120][..]));
+    }
+
+    #[test]
+    fn build_text_writes_every_field() {
+        let mut lent = [9; 468];
+        let mut built = |text: &[u8], room| told(|answer| build_text(text, &mut lent[..room], answer));
+        assert_eq!(built(b"", 468), [15, 0, 0, 0, 0, 0, 0]);
+        assert_eq!(built(b"a=empty;", 467), [13, 468, 0, 0, 0, 0, 0]);
+        assert_eq!(built(b"a=empty;", 468), [0, 0, 0, 468, 0, 0, 0]);
+        assert_eq!(lent, image());
+    }
+
+    #[test]
+    fn judge_text_writes_every_field() {
+        let (mut lent, mut notes, mut work) = ([9; 468], [7; 30], [7; 30]);
+        let mut judged = |text: &[u8], room, cells| {
+            told(|answer| judge_text(text, &[], &mut lent[..room], &mut notes[..cells], &mut work, answer))
+        };
+        assert_eq!(judged(b"a=empty", 468, 30), [15, 7, 0, 0, 0, 0, 0]);
+        assert_eq!(judged(b"a=empty;", 467, 30), [13, 468, 0, 0, 0, 0, 0]);
+        assert_eq!(judged(b"a=empty;", 468, 29), [8, 30, 0, 0, 0, 0, 0]);
+        assert_eq!(judged(b"a=empty;", 468, 30), [0, 0, 1, 3, 2, 1, 0]);
+        assert_eq!(lent, image());
+    }
+
     /// What another archive might give is an error, and no panic.
     #[test]
     fn unknown_numbers_are_a_mismatch() {
@@ -217,7 +315,10 @@ mod tests {
         assert_eq!(Answer { state: 1 << 32, ..zero }.config(), Err(of("state", 1 << 32)));
         assert_eq!(Answer { head: 1 << 32, ..zero }.config(), Err(of("head", 1 << 32)));
         assert_eq!(Answer { symbol: 1 << 32, ..zero }.config(), Err(of("symbol", 1 << 32)));
-        assert_eq!(answer_of(|_| 14).err(), Some(of("refusal", 14)));
+        for unknown in [14, 18, u32::MAX] {
+            assert_eq!(answer_of(|_| unknown).err(), Some(of("refusal", unknown.into())));
+        }
         assert_eq!(answer_of(|_| 13).err(), Some(Refusal::new(Reason::ImageBufferShort, 0).into()));
+        assert_eq!(answer_of(|_| 17).err(), Some(Refusal::new(Reason::TextDepth, 0).into()));
     }
 }

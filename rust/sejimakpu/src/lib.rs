@@ -127,3 +127,82 @@ pub fn plain_run(image: &[u8], capture: &[u8], budget: u32, stack: &mut [u32]) -
 pub fn build(grammar: &[u8], image: &mut [u8]) -> Result<usize, Error> {
     ffi::answer_of(|answer| ffi::build(grammar, image, answer))?.count()
 }
+
+/// Reads a typed grammar: puts its bytes at the start of the array, and answers their count, for [`build`]. Later bytes
+/// stay.
+///
+/// A line is a name of letters a to z, `=`, an expression and `;`, and the first line is where parsing starts. In an
+/// expression stand names, ranges such as `'a-z'`, `.` for any byte, `empty` and `fail`; suffixes `*`, `+` and `?` bind
+/// first, then prefixes `!` and `&`, then sequence, then `/`; parentheses nest up to 16 deep. The README tells all of it.
+///
+/// ```
+/// use sejimakpu::{Reason, Refusal};
+/// let mut grammar = [0; sejimakpu::MAX_GRAMMAR];
+/// let length = sejimakpu::read_grammar(b"port = '1-8' / 'a-b';", &mut grammar)?;
+/// assert_eq!(grammar[..length], [2, 1, 2, 0, 5, b'1', b'8', 0, 5, b'a', b'b', 0]);
+///
+/// // A name that no line defines, with its offset.
+/// let refusal = Refusal::new(Reason::TextSyntax, 7);
+/// assert_eq!(sejimakpu::read_grammar(b"port = digit;", &mut grammar), Err(refusal.into()));
+/// # Ok::<(), sejimakpu::Error>(())
+/// ```
+///
+/// # Errors
+///
+/// [`Error::Refused`]: refusals 15 and 17, whichever comes first in the text, then 16; a refused call changes no byte.
+pub fn read_grammar(text: &[u8], grammar: &mut [u8; MAX_GRAMMAR]) -> Result<usize, Error> {
+    ffi::answer_of(|answer| ffi::read_grammar(text, grammar, answer))?.count()
+}
+
+/// Builds the image of a typed grammar at the start of a buffer, and answers its length. Later bytes stay.
+///
+/// It is the image that [`build`] makes of the bytes that [`read_grammar`] gives.
+///
+/// ```
+/// let mut image = [0; sejimakpu::MAX_BUILT_IMAGE];
+/// let length = sejimakpu::build_text(b"word = 'a-z'+;", &mut image)?;
+/// // Five rules and three classes.
+/// assert_eq!(length, 288 + 4 * 5 * (3 + 2) * 11);
+/// assert!(sejimakpu::check(&image[..length]).is_ok());
+/// # Ok::<(), sejimakpu::Error>(())
+/// ```
+///
+/// # Errors
+///
+/// [`Error::Refused`]: refusals 15 to 17 as of [`read_grammar`], then 13; a refused call changes no byte.
+pub fn build_text(text: &[u8], image: &mut [u8]) -> Result<usize, Error> {
+    ffi::answer_of(|answer| ffi::build_text(text, image, answer))?.count()
+}
+
+/// Judges a capture by a typed grammar: builds its image at the start of a buffer, and judges by that as [`judge`] does.
+///
+/// Afterwards the buffer holds the image, and notes and work cells are as [`judge`] leaves them. A grammar of m rules
+/// needs 5 · (n + 2) · (2 · m + 1) of each for n bytes; with too few the refusal says how many.
+///
+/// ```
+/// use sejimakpu::Verdict;
+/// let (text, capture) = (b"word = 'a-z'+;", b"ring");
+/// let mut image = [0; sejimakpu::MAX_BUILT_IMAGE];
+/// let length = sejimakpu::build_text(text, &mut image)?;
+/// let cells = sejimakpu::cells(&image[..length], capture.len())?;
+///
+/// let (mut notes, mut work) = (vec![0; cells], vec![0; cells]);
+/// let judged = sejimakpu::judge_text(text, capture, &mut image, &mut notes, &mut work)?;
+/// assert_eq!(judged.verdict, Verdict::Accepted);
+/// # Ok::<(), sejimakpu::Error>(())
+/// ```
+///
+/// # Errors
+///
+/// [`Error::Refused`]: refusals 15 to 17 as of [`read_grammar`], then 13, then 7 to 9; a refused call changes no byte and
+/// no cell.
+pub fn judge_text(
+    text: &[u8],
+    capture: &[u8],
+    image: &mut [u8],
+    notes: &mut [u32],
+    work: &mut [u32],
+) -> Result<Judged, Error> {
+    let answer = ffi::answer_of(|answer| ffi::judge_text(text, capture, image, notes, work, answer))?;
+    Ok(Judged { verdict: answer.verdict()?, readings: answer.count()?, end: answer.config()? })
+}

@@ -1,6 +1,6 @@
 -- `answer::answer_parts` meets its contract: 11 and 12, then what the plan's answer says. Assumes nothing.
 use Rattle.builder.proofs.CodeBuild.{grammar-refused, not-refused}
-use Rattle.answer.proofs.Refusing.{first-refused}
+use Rattle.grammar_judge.proofs.Refusing.{first-refused}
 use Rattle.answer.proofs.Answering.{parts-refused}
 use borrow.Author.Needs.{needs}
 use Rattle.answer.proofs.answer_parts.Statement.{statement}

@@ -116,19 +116,48 @@ fn class_map(rules: &[[u8; 4]]) -> [u8; 256] {
     map
 }
 
+/// A right grammar's image before it is written.
+pub(super) struct Plan<'a> {
+    rules: &'a [[u8; 4]],
+    map: [u8; 256],
+    classes: u32,
+    symbols: u32,
+    size: u32,
+}
+
+impl<'a> Plan<'a> {
+    pub fn of(grammar: &'a [u8]) -> Result<Self, Error> {
+        let rules = check_grammar(grammar)?;
+        let map = class_map(rules);
+        let classes = u32::from(map[255]) + 1;
+        let symbols = 2 * rules.len() as u32 + 1;
+        Ok(Plan { rules, map, classes, symbols, size: 4 * STATES * (classes + 2) * symbols })
+    }
+
+    /// The part of a buffer that the image takes.
+    pub fn room<'b>(&self, buffer: &'b mut [u8]) -> Result<&'b mut [u8], Error> {
+        let length = RULES + self.size as usize;
+        buffer.get_mut(..length).ok_or_else(|| refused(Reason::ImageBufferShort, length))
+    }
+
+    /// How many cells judging a capture of so many bytes needs.
+    pub fn cells(&self, capture_length: usize) -> usize {
+        STATES as usize * (capture_length + 2) * self.symbols as usize
+    }
+
+    pub fn write(&self, image: &mut [u8]) {
+        write_header(&mut image[..MAP], self.size, self.classes as u8, self.symbols as u8);
+        image[MAP..RULES].copy_from_slice(&self.map);
+        write_rules(self.rules, &self.map, self.classes, self.symbols, &mut image[RULES..]);
+    }
+}
+
 /// Builds the image of a grammar at the start of a buffer, as [`sejimakpu::build`] does.
 pub fn build(grammar: &[u8], image: &mut [u8]) -> Result<usize, Error> {
-    let rules = check_grammar(grammar)?;
-    let map = class_map(rules);
-    let classes = u32::from(map[255]) + 1;
-    let symbols = 2 * rules.len() as u32 + 1;
-    let size = 4 * STATES * (classes + 2) * symbols;
-    let length = RULES + size as usize;
-    let image = image.get_mut(..length).ok_or_else(|| refused(Reason::ImageBufferShort, length))?;
-    write_header(&mut image[..MAP], size, classes as u8, symbols as u8);
-    image[MAP..RULES].copy_from_slice(&map);
-    write_rules(rules, &map, classes, symbols, &mut image[RULES..]);
-    Ok(length)
+    let plan = Plan::of(grammar)?;
+    let image = plan.room(image)?;
+    plan.write(image);
+    Ok(image.len())
 }
 
 fn write_header(header: &mut [u8], size: u32, classes: u8, symbols: u8) {

@@ -4,11 +4,15 @@
 //! place, a machine is a view of the image, and the compiler's bounds checks stand where the library has proofs.
 mod build;
 mod check;
+mod faults;
 mod judge;
 mod machine;
+mod read;
 mod run;
+mod tokens;
 
 pub use build::build;
 pub use check::check;
 pub use judge::judge;
+pub use read::{build_text, judge_text, read_grammar};
 pub use run::plain_run;

@@ -3,6 +3,7 @@ pub mod backtracking;
 pub mod building;
 pub mod lines;
 pub mod looping;
+pub mod texts;
 pub mod two_way;
 
 use crate::twin;

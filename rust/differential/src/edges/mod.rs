@@ -8,6 +8,7 @@ mod refusals;
 mod runs;
 mod sizes;
 mod table;
+mod texts;
 pub mod tools;
 
 use crate::findings::Findings;
@@ -41,5 +42,6 @@ pub fn all() -> Vec<Edge> {
     runs::add(&mut edges);
     long::add(&mut edges);
     program::add(&mut edges);
+    texts::add(&mut edges);
     edges.0
 }

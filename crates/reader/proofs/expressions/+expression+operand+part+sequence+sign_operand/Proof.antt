@@ -5,9 +5,9 @@ use native.Mathlib.Nat.{pos-of-ne-zero}
 use native.Mathlib.Omega.{arith}
 use borrow.Author.Needs.{needs}
 use borrow.Author.Tests.{not-true, not-false}
-use Rattle.reader.proofs.Lookings.{prefix-here, prefix-not-here}
+use Rattle.reader.proofs.Lookings.{clash, prefix-here, prefix-not-here}
 use Rattle.reader.proofs.Operands.{part-over, part-suffixed, part-spent}
-use Rattle.reader.proofs.Leaves.{clash, name-there, nothing-spent}
+use Rattle.reader.proofs.Leaves.{name-there, nothing-spent}
 use Rattle.reader.proofs.Joining.{choosing, sequencing, spent-room, joined-over, joined-alone, joined-none, rest-room, joined-rest-over, last-fits, joined-both}
 use Rattle.reader.proofs.Ways.{named-operand, signed-operand, ranged-operand, no-operand-there, prefix-over-read, prefix-taken, prefix-fits-room, prefix-read, prefix-inner-over, bracket-over, leaf-operand, bracket-operand, other-sign}
 use Prim.Native.Nat.{ℕ, _<_}

@@ -1,0 +1,5 @@
+-- Laws of the calls on grammars as text, by topic.
+pub mod ReadRight
+pub mod Calling
+pub mod Determined
+pub mod TypedJudged

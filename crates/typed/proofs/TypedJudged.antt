@@ -1,0 +1,134 @@
+-- A capture judged by a text is judged as the typed grammar says, on its first line's tree. Assumes nothing.
+use mathlib.Core.Path.{_≡_, subst}
+use mathlib.Core.List.{List, _∷_}
+use mathlib.Core.Logic.{_↔_}
+use mathlib.Core.Option.{Option, some}
+use Prim.Native.Nat.{ℕ, _+_, _*_, _≤_}
+use lib.ListN.{length}
+use Rattle.codec.specs.Bytes.{Bytes}
+use Rattle.machine.specs.declared.Config.{Config}
+use Rattle.machine.specs.declared.Verdict.{Verdict}
+use Rattle.machine.specs.declared.Verdict.the-variants.{Accepted, Ended, Stuck, Looping}
+use Rattle.machine.specs.Verdicts.{Says}
+use Rattle.image.specs.Format
+use Rattle.image.specs.Image.{machine}
+use Rattle.simulator.specs.declared.Judged.{Judged}
+use Rattle.simulator.specs.Calls.{Judged-right}
+use Rattle.simulator.proofs.Answered.{judged-right}
+use Rattle.grammar.specs.Grammar.{expression}
+use Rattle.grammar.specs.Parsing.{Parses}
+use Rattle.builder.specs.Image.{built}
+use Rattle.parsing_theory.proofs.Parsed.{Parses-right}
+use Rattle.parsing_theory.proofs.BuiltParses.{built-parses}
+use Rattle.syntax.specs.Trees.{Definition, here, Legal-text}
+use Rattle.syntax.specs.Meaning.{Means}
+use Rattle.syntax.specs.Needs.{later-refusal}
+use Rattle.syntax.specs.Compile.{grammar-of}
+use Rattle.syntax.specs.RuleOf.{Typed-right}
+use Rattle.syntax_theory.proofs.TypedRight.{typed-right}
+use Rattle.grammar_judge.specs.Calls.{Lent, lent-refusal}
+use Rattle.grammar_judge.specs.TwoCalls.{As-parsed, Gets}
+use Rattle.grammar_judge.proofs.Refusing.{parts-fine}
+use Rattle.grammar_judge.proofs.TwoCallsHold.{loops-exact, gets, enough-unrefused}
+use Rattle.typed.specs.Calls.{Judge-text-says}
+use Rattle.typed.specs.TypedCalls.{As-typed, Typed-gets, Enough-lent}
+use Rattle.typed.proofs.ReadRight.{Lines-read, lines-read, lines-right, rules-needed}
+use Rattle.typed.proofs.Determined.{Grammar-judged, judge-read}
+
+-- THE FIRST LINE, and rule 0
+module _ {d : Definition} {ds : List Definition} {gs : List ℕ} (t : Typed-right (d ∷ ds) gs) (cs : List ℕ) where
+  means : {o : Option ℕ} → Parses (expression gs) cs 0 0 o → Means (d ∷ ds) cs (d .body) 0 o
+  means {o} p = t .parses 0 (d .letters) (d .body) here cs 0 o .0 p
+
+  parses : {o : Option ℕ} → Means (d ∷ ds) cs (d .body) 0 o → Parses (expression gs) cs 0 0 o
+  parses {o} m = t .parses 0 (d .letters) (d .body) here cs 0 o .1 m
+
+  typed-as : (v : Verdict) → As-parsed gs cs v → As-typed d ds cs v
+  typed-as Accepted p = means p
+  typed-as Ended p = p
+  typed-as Stuck (o, p, other) = (o, means p, other)
+  typed-as Looping p = λ o m. p o (parses m)
+
+  parsed-as : (v : Verdict) → As-typed d ds cs v → As-parsed gs cs v
+  parsed-as Accepted m = parses m
+  parsed-as Ended m = m
+  parsed-as Stuck (o, m, other) = (o, parses m, other)
+  parsed-as Looping m = λ o p. m o (means p)
+
+-- THE MACHINE OF A LEGAL TEXT, judged whole
+module _
+    (text cs : List ℕ) (d : Definition) (ds : List Definition) (bytes : Bytes cs) (legal : Legal-text text (d ∷ ds))
+    (unrefused : later-refusal text (d ∷ ds) .number ≡ 0)
+  where
+    right : Typed-right (d ∷ ds) (grammar-of (d ∷ ds))
+    right = typed-right text (d ∷ ds) legal unrefused
+
+    built-right : Parses-right (machine (built (grammar-of (d ∷ ds))) cs) (expression (grammar-of (d ∷ ds))) cs
+    built-right = built-parses (grammar-of (d ∷ ds)) cs (right .good) bytes
+
+    pub typed-accepts :
+        ((c : Config) × Says (machine (built (grammar-of (d ∷ ds))) cs) Accepted c) ↔ Means (d ∷ ds) cs (d .body) 0 (some (length cs))
+    typed-accepts =
+        (λ (c, s). typed-as right cs Accepted (built-right .accepted-parses c s), λ m. built-right .parses-accepted (parsed-as right cs Accepted m))
+
+    pub typed-stuck :
+        ((c : Config) × Says (machine (built (grammar-of (d ∷ ds))) cs) Stuck c)
+        ↔ ((o : Option ℕ) × Means (d ∷ ds) cs (d .body) 0 o × (o ≡ some (length cs) → ⊥))
+    typed-stuck = (
+      λ (c, s). typed-as right cs Stuck (built-right .stuck-parses c s),
+      λ (o, m, other). built-right .parses-stuck o (parses right cs m) other,
+    )
+
+    pub typed-loops :
+        length cs ≤ Format.max-capture →
+        ((c : Config) × Says (machine (built (grammar-of (d ∷ ds))) cs) Looping c) ↔ ((o : Option ℕ) → Means (d ∷ ds) cs (d .body) 0 o → ⊥)
+    typed-loops short =
+        let exact = loops-exact (grammar-of (d ∷ ds)) cs (right .good) bytes short in
+        (λ s. typed-as right cs Looping (exact .0 s), λ none-meant. exact .1 (parsed-as right cs Looping none-meant))
+
+-- THE CALL
+typed-gets : {text gs cs : List ℕ} {r : Judged} → Lines-read text gs → Gets gs cs r → Typed-gets text cs r
+typed-gets {cs = cs} l g =
+    let t = lines-right l in
+    record {
+      first = l .first;
+      rest = l .rest;
+      legal = l .legal;
+      verdict = g .verdict;
+      readings = g .readings;
+      end = g .end;
+      answers = g .answers;
+      meant = typed-as t cs (g .verdict) (g .parsed);
+      only = λ v m. g .only v (parsed-as t cs v m);
+      few = subst (λ (n : ℕ). g .readings ≤ 6 * n * (length cs + 1) + 2) (rules-needed t) (g .few);
+    }
+
+pub typed-judged : (text cs : List ℕ) (r : Judged) (x y : Lent) → Enough-lent text cs x → Judge-text-says text cs r x y → Typed-gets text cs r
+typed-judged text cs r x y e s = typed-gets l (gets gs cs (x .notes) (y .notes) (x .work) (y .work) r (right .good) (e .bytes) answer)
+  where
+    gs : List ℕ
+    gs = e .grammar
+
+    l : Lines-read text gs
+    l = lines-read (e .read)
+
+    right : Typed-right (l .first ∷ l .rest) gs
+    right = lines-right l
+
+    unrefused : lent-refusal gs cs x .number ≡ 0
+    unrefused =
+        enough-unrefused gs cs (x .image) (x .notes) (x .work)
+        (record {
+          good = right .good;
+          bytes = e .bytes;
+          short = e .short;
+          image-room = e .image-room;
+          notes-room = e .notes-room;
+          work-room = e .work-room;
+        })
+
+    g : Grammar-judged gs cs r x y
+    g = judge-read gs (e .read) unrefused s
+
+    answer : Judged-right (built gs) cs r (x .notes) (y .notes) (x .work) (y .work)
+    answer = judged-right (built gs) cs r (x .notes) (y .notes) (x .work) (y .work) (parts-fine gs cs _ _ _ unrefused .1) (g .judges)

@@ -1,0 +1,99 @@
+//! The twin's scanner: the text that it was lent, and how far it has read.
+
+#[derive(Clone, Copy, PartialEq, Eq)]
+pub(super) enum Token<'a> {
+    Name(&'a [u8]),
+    Any,
+    Empty,
+    Fail,
+    Range(u8, u8),
+    Not,
+    And,
+    Star,
+    Plus,
+    Optional,
+    Slash,
+    Opening,
+    Closing,
+    Equals,
+    Semicolon,
+    Unknown,
+}
+
+impl Token<'_> {
+    /// Whether a part of a sequence begins with it.
+    pub fn begins_part(self) -> bool {
+        use Token::*;
+        matches!(self, Name(_) | Any | Empty | Fail | Range(..) | Not | And | Opening)
+    }
+}
+
+pub(super) struct Reader<'a> {
+    text: &'a [u8],
+    at: usize,
+}
+
+impl<'a> Reader<'a> {
+    pub fn new(text: &'a [u8]) -> Self {
+        Reader { text, at: 0 }
+    }
+
+    /// The next token, which stays unread.
+    pub fn peek(&self) -> Option<Token<'a>> {
+        Reader { ..*self }.next().map(|(_, token)| token)
+    }
+}
+
+impl<'a> Iterator for Reader<'a> {
+    type Item = (usize, Token<'a>);
+
+    #[inline]
+    fn next(&mut self) -> Option<(usize, Token<'a>)> {
+        while let Some(b' ' | b'\n') = self.text.get(self.at) {
+            self.at += 1;
+        }
+        let offset = self.at;
+        let (token, width) = token_of(self.text.get(offset..)?)?;
+        self.at += width;
+        Some((offset, token))
+    }
+}
+
+/// The token at the front, and how many bytes it has.
+#[inline]
+fn token_of(text: &[u8]) -> Option<(Token<'_>, usize)> {
+    let &byte = text.first()?;
+    if byte.is_ascii_lowercase() {
+        let end = text.iter().position(|byte| !byte.is_ascii_lowercase()).unwrap_or(text.len());
+        return Some((word(&text[..end]), end));
+    }
+    if let &[b'\'', low, b'-', high, b'\'', ..] = text {
+        return Some((Token::Range(low, high), 5));
+    }
+    Some((sign(byte), 1))
+}
+
+fn word(letters: &[u8]) -> Token<'_> {
+    match letters {
+        b"empty" => Token::Empty,
+        b"fail" => Token::Fail,
+        _ => Token::Name(letters),
+    }
+}
+
+fn sign(byte: u8) -> Token<'static> {
+    match byte {
+        b'=' => Token::Equals,
+        b';' => Token::Semicolon,
+        b'/' => Token::Slash,
+        b'(' => Token::Opening,
+        b')' => Token::Closing,
+        b'.' => Token::Any,
+        b'!' => Token::Not,
+        b'&' => Token::And,
+        b'*' => Token::Star,
+        b'+' => Token::Plus,
+        b'?' => Token::Optional,
+        _ => Token::Unknown,
+    }
+}
