@@ -1,3 +1,2 @@
 -- Laws that the proofs of the program's functions cite.
 pub mod Printing
-pub mod Outcomes

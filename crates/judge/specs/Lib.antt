@@ -1,3 +1,2 @@
--- What a reader must believe of the program: its buffers, the line that it prints, and how it reads and writes.
+-- What a reader must believe of the program: its buffers, and the line that it prints.
 pub mod Program
-pub mod Transfers

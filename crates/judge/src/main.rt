@@ -1,6 +1,4 @@
 // The program: reads a grammar and a capture from standard input, and prints the line of the answer.
-mod transfer;
-
 use answer::answer;
 use transfer::cut_short;
 use transfer::read_whole;
@@ -34,7 +32,7 @@ fn main() {
     let mut notes = [0u32; 16384];
     let mut work = [0u32; 16384];
     let mut line = [0u8; 64];
-    let count = read_whole(&mut input);
+    let count = read_whole(&mut input, b"judge: standard input cannot be read");
     let long = line_of(&input, count, &mut image, &mut notes, &mut work, &mut line);
     let stop = write_on(&line[..long]);
     if cut_short(stop, long) {

@@ -8,6 +8,9 @@ use Rattle.judge.proofs.main.Tie as tie
 slice-aggregate-read-whole : tie.Need-slice-aggregate-read-whole
 slice-aggregate-read-whole c = search needs
 
+slice-aggregate-read-whole-2 : tie.Need-slice-aggregate-read-whole-2
+slice-aggregate-read-whole-2 c = search needs
+
 read-whole-requires : tie.Need-read-whole-requires
 read-whole-requires c κs = search needs
 
@@ -61,6 +64,7 @@ main-spec =
     tie.close
     (tie.spec
     slice-aggregate-read-whole
+    slice-aggregate-read-whole-2
     read-whole-requires
     slice-aggregate-line-of
     slice-aggregate-line-of-2

@@ -1,0 +1,70 @@
+-- `read_text::output_of` meets its contract: by whether a read failed, then by the length. Assumes nothing.
+use mathlib.Core.Path.{sym, _∙_}
+use native.Mathlib.Omega.{arith}
+use Rattle.read_text.specs.Program.{too-long, unread, whole}
+use Rattle.read_text.proofs.Outputs.{read-long}
+use borrow.Author.Needs.{needs}
+use Rattle.read_text.proofs.output_of.Statement.{statement}
+use Rattle.read_text.proofs.output_of.Tie as tie
+
+failed-requires : tie.Need-failed-requires
+failed-requires c κs = search needs
+
+unread-requires : tie.Need-unread-requires
+unread-requires c κs = search needs
+
+returns : tie.Need-returns
+returns c =
+    record {
+      output = _;
+      right = unread (sym (c .before .before .failed .ensures) ∙ c .before .if1 .taken);
+      held = c .unread .ensures;
+    }
+
+no-text-requires : tie.Need-no-text-requires
+no-text-requires c κs = search needs
+
+returns-2 : tie.Need-returns-2
+returns-2 c =
+    let test = c .before in
+    let got = test .before .before in
+    let start = got .before .before in
+    let long = read-long (start .args .input .now) (start .args .stop) (start .pre) in
+    record {
+      output = _;
+      right = whole (sym (got .failed .ensures) ∙ test .before .if1 .left) (too-long (omega (arith, long, test .if2 .taken)));
+      held = c .no-text .ensures;
+    }
+
+slice-aggregate-output-of-text : tie.Need-slice-aggregate-output-of-text
+slice-aggregate-output-of-text c =
+    let start = c .before .before .before .before .before in
+    sym (read-long (start .args .input .now) (start .args .stop) (start .pre))
+
+output-of-text-requires : tie.Need-output-of-text-requires
+output-of-text-requires c κs =
+    let start = c .before .before .before .before .before in
+    omega (arith, read-long (start .args .input .now) (start .args .stop) (start .pre), c .before .if2 .left)
+
+returns-3 : tie.Need-returns-3
+returns-3 c =
+    let test = c .before .before in
+    let said = c .output-of-text .ensures in
+    record {
+      output = said .output;
+      right = whole (sym (test .before .before .failed .ensures) ∙ test .before .if1 .left) (said .right);
+      held = said .held;
+    }
+
+pub output-of-spec : {M : Type 1} → statement M
+output-of-spec =
+    tie.close
+    (tie.spec
+    failed-requires
+    unread-requires
+    returns
+    no-text-requires
+    returns-2
+    slice-aggregate-output-of-text
+    output-of-text-requires
+    returns-3)

@@ -1,0 +1,37 @@
+-- `read_text::output_of_text` meets its contract: the refusal's line, or the grammar, which stands at the start of its bytes. Assumes nothing.
+use mathlib.Core.Path.{refl}
+use Rattle.typed.proofs.ReadRight.{text-refused, grammar-read}
+use Rattle.read_text.specs.Program.{refuses, gives}
+use borrow.Author.Needs.{needs}
+use Rattle.read_text.proofs.output_of_text.Statement.{statement}
+use Rattle.read_text.proofs.output_of_text.Tie as tie
+
+read-requires : tie.Need-read-requires
+read-requires c κs = search needs
+
+refused-requires : tie.Need-refused-requires
+refused-requires c κs = search needs
+
+returns : tie.Need-returns
+returns c =
+    let test = c .before in
+    let got = test .before .before .before in
+    record {
+      output = _;
+      right = refuses (got .before .before .pre) (text-refused _ _ (got .read .ensures) (test .if1 .taken));
+      held = c .refused .ensures;
+    }
+
+returns-2 : tie.Need-returns-2
+returns-2 c =
+    let test = c .before in
+    let got = test .before .before .before in
+    let there = grammar-read _ _ (got .read .ensures) (test .if1 .left) in
+    record {
+      output = _;
+      right = gives (got .before .before .pre) (there .says);
+      held = record { is = refl; within = there .fits };
+    }
+
+pub output-of-text-spec : {M : Type 1} → statement M
+output-of-text-spec = tie.close (tie.spec read-requires refused-requires returns returns-2)

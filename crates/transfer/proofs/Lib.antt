@@ -1,0 +1,2 @@
+-- Laws that the proofs of reading and writing cite.
+pub mod Outcomes
