@@ -6,6 +6,7 @@ pub mod Lexing
 pub mod Comparing
 pub mod Tokenizing
 pub mod Searching
+pub mod Passing
 pub mod Lookings
 pub mod Placing
 pub mod Deriving

@@ -1,4 +1,4 @@
--- The search for the line that a name names, token after token: what the lines passed and the lines left say of its number. Assumes nothing.
+-- The search for the line that a name names, line after line: what the lines passed and the lines left say of its number. Assumes nothing.
 use mathlib.Core.Path.{_≡_, refl, sym, ap, subst, _∙_}
 use mathlib.Core.Bool.{Bool, true, false, cond}
 use mathlib.Core.List.{List, [], _∷_}
@@ -14,7 +14,7 @@ use Rattle.reader.specs.declared.Head.{Head}
 use Rattle.reader.specs.declared.Head.the-variants.{Sought, Other, Nothing}
 use Rattle.reader.specs.code.Scanning.{lexemes-at, token-of, Scans, Scans-to}
 use Rattle.reader.specs.code.Levels.{tokens-at}
-use Rattle.reader.specs.code.Naming.{head-by}
+use Rattle.reader.specs.code.Naming.{head-by, Passes-heads}
 
 -- WHAT A SCAN FOUND, once its kind is known
 pub scan-found : (text : List ℕ) (at : ℕ) (r : Scanned) (l : Scanner.Lexeme) → Scans text at r → r ≡ Found l → Scans-to text at l
@@ -49,24 +49,23 @@ by-test true n = refl
 by-test false n = refl
 
 index-of-head :
-    (n : List ℕ) (b : Bool) (t : Token) (hs : List (List ℕ)) → index-of n (head-of b t hs) ≡ by-head (head-by n b t) (index-of n hs)
+    (n : List ℕ) (t : Token) (hs : List (List ℕ)) → index-of n (head-of true t hs) ≡ by-head (head-by n t) (index-of n hs)
 unfolding index-of head-of by-head head-by
-index-of-head n true (name m) hs = by-test (same n m) (index-of n hs)
-index-of-head n true (sign s) hs = refl
-index-of-head n true (range l h) hs = refl
-index-of-head n true unknown hs = refl
-index-of-head n false t hs = refl
+index-of-head n (name m) hs = by-test (same n m) (index-of n hs)
+index-of-head n (sign s) hs = refl
+index-of-head n (range l h) hs = refl
+index-of-head n unknown hs = refl
 
--- THE SEARCH, with the tokens from a place on still to be looked at, after so many lines
-pub record Searching (text sought : List ℕ) (at : ℕ) (begins : Bool) (line : ℕ) : Type 0 where
-  pub left : index-of sought (heads text) ≡ line + index-of sought (heads-from begins (tokens-at text at))
+-- THE SEARCH, after so many lines, at a place where a line begins
+pub record Searching (text sought : List ℕ) (at line : ℕ) : Type 0 where
+  pub left : index-of sought (heads text) ≡ line + index-of sought (heads-from true (tokens-at text at))
   pub few : line ≤ at
 
 module _ (text sought : List ℕ) where
-  pub search-start : Searching text sought 0 true 0
+  pub search-start : Searching text sought 0 0
   search-start = record { left = ap (λ (ts : List Token). index-of sought (heads-from true ts)) (tokens-start text) ∙ omega arith; few = omega arith }
 
-  module _ (at : ℕ) (begins : Bool) (line : ℕ) (come : Searching text sought at begins line) where
+  module _ (at line : ℕ) (come : Searching text sought at line) where
     pub search-end : lexemes-at text at ≡ [] → line ≡ index-of sought (heads text)
     unfolding heads-from index-of
     search-end e = sym (come .left ∙ rw (tokens-end text at e) (omega arith))
@@ -78,11 +77,11 @@ module _ (text sought : List ℕ) where
       rest : ℕ
       rest = index-of sought (heads-from (ends-line told) (tokens-at text (l .next)))
 
-      one-more : index-of sought (heads text) ≡ line + by-head (head-by sought begins told) rest
+      one-more : index-of sought (heads text) ≡ line + by-head (head-by sought told) rest
       unfolding told rest heads-from
-      one-more = come .left ∙ rw (tokens-next text at l s) (ap (λ (n : ℕ). line + n) (index-of-head sought begins _ _))
+      one-more = come .left ∙ rw (tokens-next text at l s) (ap (λ (n : ℕ). line + n) (index-of-head sought _ _))
 
-      module _ (h : Head) (is : h ≡ head-by sought begins (token-of text (l .offset) (l .token))) where
+      module _ (h : Head) (is : h ≡ head-by sought (token-of text (l .offset) (l .token))) where
         by : (k : Head) → h ≡ k → index-of sought (heads text) ≡ line + by-head k rest
         unfolding told
         by k e = one-more ∙ ap (λ (j : Head). line + by-head j rest) (sym is ∙ e)
@@ -91,15 +90,15 @@ module _ (text sought : List ℕ) where
         unfolding by-head
         search-found e = omega (arith, by Sought e)
 
-        module _ (b : Bool) (ends : b ≡ ends-line (token-of text (l .offset) (l .token))) where
-          after : rest ≡ index-of sought (heads-from b (tokens-at text (l .next)))
+        module _ (to : ℕ) (p : Passes-heads text (ends-line (token-of text (l .offset) (l .token))) (l .next) true to) where
+          after : rest ≡ index-of sought (heads-from true (tokens-at text to))
           unfolding rest told
-          after = rw ends
+          after = ap (index-of sought) (p .left)
 
-          pub search-other : h ≡ Other → (n : ℕ) → n ≡ line + 1 → Searching text sought (l .next) b n
+          pub search-other : h ≡ Other → (n : ℕ) → n ≡ line + 1 → Searching text sought to n
           unfolding by-head
-          search-other e n q = record { left = omega (arith, by Other e, after); few = omega (arith, come .few, s .from, s .some) }
+          search-other e n q = record { left = omega (arith, by Other e, after); few = omega (arith, come .few, s .from, s .some, p .from) }
 
-          pub search-nothing : h ≡ Nothing → (n : ℕ) → n ≡ line → Searching text sought (l .next) b n
+          pub search-nothing : h ≡ Nothing → (n : ℕ) → n ≡ line → Searching text sought to n
           unfolding by-head
-          search-nothing e n q = record { left = omega (arith, by Nothing e, after); few = omega (arith, come .few, s .from, s .some) }
+          search-nothing e n q = record { left = omega (arith, by Nothing e, after); few = omega (arith, come .few, s .from, s .some, p .from) }

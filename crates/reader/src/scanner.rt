@@ -16,7 +16,7 @@ ghost use Rattle.syntax.specs.Tokens.{letter, letters, same, sign-of, range-the
 ghost use Rattle.reader.specs.code.Scanning.{token-of, Scans, Skips, Scans-word, Scans-token};
 
 // The bytes of a range: quote, low, minus, high, quote.
-const RANGE_BYTES: usize = 5;
+pub const RANGE_BYTES: usize = 5;
 
 // Whether a byte is a letter, a to z.
 fn is_letter(byte: u8) -> bool
@@ -100,7 +100,7 @@ fn word_at(text: &[u8], at: usize, long: usize) -> Token
 }
 
 // Whether a range stands at a place.
-fn range_at(text: &[u8], at: usize) -> bool
+pub fn range_at(text: &[u8], at: usize) -> bool
     requires { ⌜ at < length (now text) ⌝ }
     ensures { λ r. ⌜ r ≡ range-there (drop at (now (text .entry))) ⌝ }
 {

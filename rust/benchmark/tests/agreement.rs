@@ -2,6 +2,12 @@
 use benchmark::twin;
 use sejimakpu::{MAX_BUILT_IMAGE, MAX_GRAMMAR};
 
+/// The names of a text's lines: one begins as another does, and one as a reserved word.
+const NAMES: [&[u8]; 3] = [b"a", b"ab", b"emptyx"];
+
+/// The ends of ranges: letters of captures, and bytes that are signs elsewhere.
+const ENDS: [u8; 8] = *b"aabbc;'-";
+
 /// A sequence of numbers, the same in every run.
 struct Numbers(u64);
 
@@ -73,8 +79,8 @@ impl Numbers {
     fn text(&mut self) -> Vec<u8> {
         let lines = 1 + self.below(3);
         let mut text = Vec::new();
-        for line in 0..lines {
-            text.extend([b'a' + line as u8, b'=']);
+        for name in &NAMES[..lines] {
+            text.extend([name, &b"="[..]].concat());
             self.expression(lines, 3, &mut text);
             text.extend([b";", &b";\n"[..]][self.below(2)]);
         }
@@ -91,13 +97,13 @@ impl Numbers {
                 0 => text.push(b'.'),
                 1 => text.extend(b"empty"),
                 2 => text.extend(b"fail"),
-                3..=4 => text.push(b'a' + self.byte(lines)),
+                3..=4 => text.extend(NAMES[self.below(lines)]),
                 5 if depth > 0 => {
                     text.push(b'(');
                     self.expression(lines, depth - 1, text);
                     text.push(b')');
                 }
-                _ => text.extend([b'\'', b'a' + self.byte(3), b'-', b'a' + self.byte(3), b'\'']),
+                _ => text.extend([b'\'', ENDS[self.below(8)], b'-', ENDS[self.below(8)], b'\'']),
             }
             text.extend([&b""[..], b"", b"", b"*", b"+", b"?"][self.below(6)]);
         }
@@ -204,6 +210,13 @@ fn on_long_captures() {
         let (mut a, mut b) = ((vec![7; 900_000], vec![7; 900_000]), (vec![7; 900_000], vec![7; 900_000]));
         let judged = sejimakpu::judge(&image, &capture, &mut a.0, &mut a.1);
         assert_eq!(twin::judge(&image, &capture, &mut b.0, &mut b.1), judged);
+        assert!(a == b);
+
+        let lent = (vec![7; 500], vec![7; 1_000_000], vec![8; 1_000_000]);
+        let (mut a, mut b) = (lent.clone(), lent);
+        let judged = sejimakpu::judge_text(b"a=.;", &capture, &mut a.0, &mut a.1, &mut a.2);
+        assert_eq!(judged.is_ok(), n == 65_535);
+        assert_eq!(twin::judge_text(b"a=.;", &capture, &mut b.0, &mut b.1, &mut b.2), judged);
         assert!(a == b);
     }
 }

@@ -126,12 +126,12 @@ pub(super) struct Plan<'a> {
 }
 
 impl<'a> Plan<'a> {
-    pub fn of(grammar: &'a [u8]) -> Result<Self, Error> {
-        let rules = check_grammar(grammar)?;
+    /// The plan of rules that have passed their check.
+    pub fn of(rules: &'a [[u8; 4]]) -> Self {
         let map = class_map(rules);
         let classes = u32::from(map[255]) + 1;
         let symbols = 2 * rules.len() as u32 + 1;
-        Ok(Plan { rules, map, classes, symbols, size: 4 * STATES * (classes + 2) * symbols })
+        Plan { rules, map, classes, symbols, size: 4 * STATES * (classes + 2) * symbols }
     }
 
     /// The part of a buffer that the image takes.
@@ -154,7 +154,12 @@ impl<'a> Plan<'a> {
 
 /// Builds the image of a grammar at the start of a buffer, as [`sejimakpu::build`] does.
 pub fn build(grammar: &[u8], image: &mut [u8]) -> Result<usize, Error> {
-    let plan = Plan::of(grammar)?;
+    build_checked(check_grammar(grammar)?, image)
+}
+
+/// Builds the image of rules that have passed their check.
+pub(super) fn build_checked(rules: &[[u8; 4]], image: &mut [u8]) -> Result<usize, Error> {
+    let plan = Plan::of(rules);
     let image = plan.room(image)?;
     plan.write(image);
     Ok(image.len())

@@ -41,16 +41,16 @@ fn inside(complete: bool, opened: u32, token: Token) -> Result<Spot, Reason> {
     }
 }
 
-/// The number of the line that begins with a name.
+/// The number of the line that begins with a name, in a text whose lines are right: only their first tokens are read.
 pub(super) fn line_of(text: &[u8], name: &[u8]) -> Option<u32> {
+    let mut reader = Reader::new(text);
     let mut line = 0;
-    let mut begins = true;
-    for (_, token) in Reader::new(text) {
-        if begins && token == Token::Name(name) {
+    while let Some((_, Token::Name(head))) = reader.next() {
+        if head == name {
             return Some(line);
         }
-        begins = token == Token::Semicolon;
-        line += u32::from(begins);
+        reader.pass_line();
+        line += 1;
     }
     None
 }

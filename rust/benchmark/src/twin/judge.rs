@@ -150,13 +150,18 @@ pub fn judge(image: &[u8], capture: &[u8], notes: &mut [u32], work: &mut [u32]) 
     if capture.len() > MAX_CAPTURE {
         return Err(refused(Reason::CaptureLong, capture.len()));
     }
-    let machine = Machine::new(image, capture);
-    let cells = machine.configurations();
+    let cells = Machine::new(image, capture).configurations();
     let notes = notes.get_mut(..cells).ok_or_else(|| refused(Reason::NotesShort, cells))?;
     let work = work.get_mut(..cells).ok_or_else(|| refused(Reason::WorkShort, cells))?;
+    Ok(judge_checked(image, capture, notes, work))
+}
+
+/// Judges by what has passed its checks, in exactly as many cells as there are configurations.
+pub(super) fn judge_checked(image: &[u8], capture: &[u8], notes: &mut [u32], work: &mut [u32]) -> Judged {
+    let machine = Machine::new(image, capture);
     notes.fill(0);
     work.fill(0);
-    Ok(run(&machine, notes, work))
+    run(&machine, notes, work)
 }
 
 fn run(machine: &Machine, notes: &mut [u32], work: &mut [u32]) -> Judged {

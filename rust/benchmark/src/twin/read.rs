@@ -1,9 +1,9 @@
 //! The twin's reading of a text: after its check, an expression is read by recursion on its brackets, and rules are put
 //! where they belong as they come.
-use super::build::{build, Plan};
+use super::build::{build_checked, Plan};
 use super::check::refused;
 use super::faults::{check_text, line_of};
-use super::judge::judge;
+use super::judge::judge_checked;
 use super::tokens::{Reader, Token};
 use sejimakpu::{Error, Judged, Reason, MAX_CAPTURE, MAX_GRAMMAR};
 
@@ -30,8 +30,8 @@ struct Grammar {
 }
 
 impl Grammar {
-    fn bytes(&self) -> &[u8] {
-        self.rules[..self.count].as_flattened()
+    fn rules(&self) -> &[[u8; 4]] {
+        &self.rules[..self.count]
     }
 
     fn put(&mut self, rule: [u8; 4]) -> Result<u8, TooMany> {
@@ -201,17 +201,17 @@ fn read(text: &[u8]) -> Result<Grammar, Error> {
 /// Reads a text, as [`sejimakpu::read_grammar`] does.
 pub fn read_grammar(text: &[u8], grammar: &mut [u8; MAX_GRAMMAR]) -> Result<usize, Error> {
     let read = read(text)?;
-    let bytes = read.bytes();
+    let bytes = read.rules().as_flattened();
     grammar[..bytes.len()].copy_from_slice(bytes);
     Ok(bytes.len())
 }
 
-/// Builds the image of a text, as [`sejimakpu::build_text`] does.
+/// Builds the image of a text, as [`sejimakpu::build_text`] does. What was read needs no check.
 pub fn build_text(text: &[u8], image: &mut [u8]) -> Result<usize, Error> {
-    build(read(text)?.bytes(), image)
+    build_checked(read(text)?.rules(), image)
 }
 
-/// Judges by a text, as [`sejimakpu::judge_text`] does: all checks come before the image is written.
+/// Judges by a text, as [`sejimakpu::judge_text`] does: all checks come before the image is written, each once.
 pub fn judge_text(
     text: &[u8],
     capture: &[u8],
@@ -220,18 +220,14 @@ pub fn judge_text(
     work: &mut [u32],
 ) -> Result<Judged, Error> {
     let grammar = read(text)?;
-    let plan = Plan::of(grammar.bytes())?;
+    let plan = Plan::of(grammar.rules());
     let image = plan.room(image)?;
     if capture.len() > MAX_CAPTURE {
         return Err(refused(Reason::CaptureLong, capture.len()));
     }
     let cells = plan.cells(capture.len());
-    if notes.len() < cells {
-        return Err(refused(Reason::NotesShort, cells));
-    }
-    if work.len() < cells {
-        return Err(refused(Reason::WorkShort, cells));
-    }
+    let notes = notes.get_mut(..cells).ok_or_else(|| refused(Reason::NotesShort, cells))?;
+    let work = work.get_mut(..cells).ok_or_else(|| refused(Reason::WorkShort, cells))?;
     plan.write(image);
-    judge(image, capture, notes, work)
+    Ok(judge_checked(image, capture, notes, work))
 }

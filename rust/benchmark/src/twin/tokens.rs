@@ -1,5 +1,8 @@
 //! The twin's scanner: the text that it was lent, and how far it has read.
 
+/// A range is a quote, its low byte, a minus, its high byte and a quote.
+const RANGE_BYTES: usize = 5;
+
 #[derive(Clone, Copy, PartialEq, Eq)]
 pub(super) enum Token<'a> {
     Name(&'a [u8]),
@@ -42,6 +45,11 @@ impl<'a> Reader<'a> {
     pub fn peek(&self) -> Option<Token<'a>> {
         Reader { ..*self }.next().map(|(_, token)| token)
     }
+
+    /// Passes the rest of a line, its semicolon included.
+    pub fn pass_line(&mut self) {
+        self.at = after_line(self.text, self.at);
+    }
 }
 
 impl<'a> Iterator for Reader<'a> {
@@ -59,6 +67,28 @@ impl<'a> Iterator for Reader<'a> {
     }
 }
 
+/// The place after the next semicolon that is in no range, or the text's end: byte by byte, but a range at once.
+#[inline]
+fn after_line(text: &[u8], mut at: usize) -> usize {
+    while let Some(&byte) = text.get(at) {
+        at += match byte {
+            b';' => return at + 1,
+            b'\'' if range_of(&text[at..]).is_some() => RANGE_BYTES,
+            _ => 1,
+        };
+    }
+    at
+}
+
+/// The low and the high byte of a range at the front.
+#[inline]
+fn range_of(text: &[u8]) -> Option<(u8, u8)> {
+    match *text {
+        [b'\'', low, b'-', high, b'\'', ..] => Some((low, high)),
+        _ => None,
+    }
+}
+
 /// The token at the front, and how many bytes it has.
 #[inline]
 fn token_of(text: &[u8]) -> Option<(Token<'_>, usize)> {
@@ -67,8 +97,8 @@ fn token_of(text: &[u8]) -> Option<(Token<'_>, usize)> {
         let end = text.iter().position(|byte| !byte.is_ascii_lowercase()).unwrap_or(text.len());
         return Some((word(&text[..end]), end));
     }
-    if let &[b'\'', low, b'-', high, b'\'', ..] = text {
-        return Some((Token::Range(low, high), 5));
+    if let Some((low, high)) = range_of(text) {
+        return Some((Token::Range(low, high), RANGE_BYTES));
     }
     Some((sign(byte), 1))
 }
