@@ -2,9 +2,8 @@
 use mathlib.Core.Path.{_≡_, refl, sym, ap, subst, _∙_}
 use mathlib.Core.Bool.{true, false}
 use mathlib.Core.List.{List, [], _∷_, _++_, append-assoc, append-nil}
-use Prim.Native.Nat.{ℕ, zero, suc, _+_, _-_, _*_, _<_, _≤_}
+use Prim.Native.Nat.{ℕ, suc, _+_, _-_, _*_, _<_, _≤_}
 use native.Mathlib.Omega.{arith}
-use lib.Dec.{leb}
 use lib.ListN.{length, replicate, length-append}
 use borrow.Author.Tests.{le-leb, lt-leb, leb-false, leb-true}
 use Rattle.codec.specs.Bytes.{written}
@@ -12,18 +11,17 @@ use Rattle.grammar.specs.Grammar.{max-rules}
 use Rattle.grammar.specs.declared.Expression.{Expression}
 use Rattle.syntax.specs.declared.Sign.the-variants.{Equals, Semicolon}
 use Rattle.syntax.specs.Tokens.{Token, name, sign}
-use Rattle.syntax.specs.Trees.{Tree, Definition, choices, Derives, Reads, last-line, more-lines, max-depth}
+use Rattle.syntax.specs.Trees.{Definition, choices, Derives, Reads, last-line, more-lines, max-depth}
 use Rattle.syntax.specs.Needs.{line-need, needs}
 use Rattle.syntax.specs.Compile.{Compiled, compile, line-rule, line-helpers, named-from, helpers-from, rule-bytes, encode}
 use Rattle.syntax.specs.code.Heads.{heads}
 use Rattle.syntax.proofs.Counting.{line-counted, helpers-counted}
 use Rattle.reader.specs.declared.Rules.{Rules}
 use Rattle.reader.specs.declared.LineRead.{LineRead}
-use Rattle.reader.specs.declared.Lines.{Lines}
 use Rattle.reader.specs.Calls.{padded}
 use Rattle.reader.specs.code.Building.{put-rules}
 use Rattle.reader.specs.code.Levels.{tokens-at}
-use Rattle.reader.specs.code.Lines.{Line-room, Line-done, Line-read, Lines-room, Lines-right, Lines-read}
+use Rattle.reader.specs.code.Lines.{Line-room, Line-read, Lines-room, Lines-right, Lines-read}
 use Rattle.reader.proofs.Tables.{table, named-written, helpers-written, table-first, table-last}
 use Rattle.reader.proofs.Lookings.{clash}
 

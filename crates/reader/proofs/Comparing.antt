@@ -7,7 +7,7 @@ use native.Mathlib.Nat.{add-zero, sub-zero}
 use native.Mathlib.Numerals.{add-one}
 use native.Mathlib.Omega.{arith}
 use lib.Dec.{eqb}
-use lib.ListN.{length, take, drop, length-drop, drop-of-length-le}
+use lib.ListN.{length, drop, length-drop, drop-of-length-le}
 use lib.Seq.{drop-cons, length-take-le}
 use borrow.Author.Tests.{eq-eqb, ne-eqb}
 use Rattle.codec.specs.Bytes.{byte, section}
@@ -27,10 +27,6 @@ lengths-differ (x ∷ xs) (y ∷ ys) h = go (eqb x y) (lengths-differ xs ys (λ 
 
 pub section-length : (text : List ℕ) (at long : ℕ) → at + long ≤ length text → length (section text at long) ≡ long
 section-length text at long h = length-take-le long (drop at text) (omega (arith, length-drop at text))
-
-pub section-cons :
-    (text : List ℕ) (at long : ℕ) → at < length text → section text at (suc long) ≡ byte text at ∷ section text (suc at) long
-section-cons text at long h = ap (take (suc long)) (drop-cons text at 0 h)
 
 -- THE COMPARISON, with the bytes from i on still to be compared
 pub record Same-left (text : List ℕ) (at long : ℕ) (word : List ℕ) (i : ℕ) : Type 0 where

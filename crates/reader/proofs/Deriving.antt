@@ -1,18 +1,15 @@
 -- How an expression's derivation begins and is put together: by its first token, its suffixes, its first part and the rest. Assumes nothing.
 use mathlib.Core.Path.{_≡_, refl, sym, ap, subst, _∙_}
-use mathlib.Core.Bool.{Bool, true, false}
-use mathlib.Core.List.{List, [], _∷_, _++_, append-assoc, map}
-use mathlib.Core.Logic.{_⊎_, inl, inr}
-use Prim.Native.Nat.{ℕ, _+_, _≤_}
+use mathlib.Core.Bool.{true, false}
+use mathlib.Core.List.{List, [], _∷_, _++_}
+use Prim.Native.Nat.{ℕ}
 use native.Mathlib.Omega.{arith}
 use Rattle.syntax.specs.declared.Prefix.{Prefix}
 use Rattle.syntax.specs.declared.Suffix.{Suffix}
-use Rattle.syntax.specs.declared.Sign.{Sign}
 use Rattle.syntax.specs.declared.Sign.the-variants.{Operand, Before, After, Slash, Opening, Closing, Equals, Semicolon}
 use Rattle.syntax.specs.Tokens.{Token, name, sign, range, unknown}
 use Rattle.syntax.specs.Trees.{Tree, suffixed, sequence, choice, Level, choices, parts, prefixes, suffixes, operand, Derives, last-choice, more-choices, last-part, more-parts, no-prefix, a-prefix, no-suffix, a-suffix, a-name, a-leaf, a-range, brackets}
-use Rattle.syntax.specs.Needs.{need}
-use Rattle.reader.specs.code.Levels.{suffix-sign, start-sign, slash-sign, by-sign, is-suffix, is-start, is-slash, Stops, suffixed-all, suffix-tokens}
+use Rattle.reader.specs.code.Levels.{suffix-sign, start-sign, slash-sign, by-sign, is-suffix, is-start, Stops, suffixed-all, suffix-tokens}
 
 -- the first token of an expression starts a part
 pub record Begins (ts : List Token) : Type 0 where

@@ -1,20 +1,18 @@
 -- Reading level by level: what each function of the descent answers, from what its callees answer. Assumes nothing.
 use mathlib.Core.Path.{_≡_, refl, sym, ap, subst, _∙_}
 use mathlib.Core.Bool.{Bool, true, false}
-use mathlib.Core.List.{List, [], _∷_, _++_}
+use mathlib.Core.List.{List, []}
 use Prim.Native.Nat.{ℕ, suc, _+_, _-_, _<_, _≤_}
 use native.Mathlib.Nat.{pos-of-ne-zero}
 use native.Mathlib.Omega.{arith}
-use lib.Dec.{leb, eqb}
+use lib.Dec.{eqb}
 use borrow.Author.Tests.{le-leb, lt-leb, leb-true, leb-false, eqb-true, eqb-false}
 use Rattle.grammar.specs.Grammar.{max-rules}
 use Rattle.grammar.specs.declared.Expression.{Expression}
 use Rattle.syntax.specs.declared.Node.the-variants.{Operator}
-use Rattle.syntax.specs.declared.Prefix.{Prefix}
-use Rattle.syntax.specs.declared.Suffix.{Suffix}
 use Rattle.syntax.specs.Tokens.{Token}
-use Rattle.syntax.specs.Trees.{Tree, prefixed, suffixed, Level, Derives}
-use Rattle.syntax.specs.Needs.{need, prefix-need, suffix-need}
+use Rattle.syntax.specs.Trees.{Tree, Level, Derives}
+use Rattle.syntax.specs.Needs.{need}
 use Rattle.syntax.specs.Compile.{own-rules, compile, place, owed}
 use Rattle.syntax.specs.code.Heads.{heads}
 use Rattle.syntax.proofs.Counting.{compiled-need, placed-need}
@@ -22,7 +20,7 @@ use Rattle.reader.specs.declared.Rules.{Rules}
 use Rattle.reader.specs.declared.Part.{Part}
 use Rattle.reader.specs.declared.Begun.{Begun}
 use Rattle.reader.specs.code.Building.{advanced}
-use Rattle.reader.specs.code.Operators.{part, Part-room, placed-rules, placed-number, begun-of}
+use Rattle.reader.specs.code.Operators.{part, placed-rules, placed-number, begun-of}
 use Rattle.reader.specs.code.Levels.{tokens-at, Room, Stops, Reads-to, Part-right, Spent}
 use Rattle.reader.proofs.Emitting.{advanced-next, advanced-left}
 use Rattle.reader.proofs.Operating.{next-placed}

@@ -2,14 +2,13 @@
 use mathlib.Core.Path.{_≡_, refl, sym, ap, subst, _∙_}
 use mathlib.Core.Bool.{Bool, true, false}
 use mathlib.Core.List.{List, [], _∷_}
-use Prim.Native.Nat.{ℕ, suc, _+_, _*_, _<_, _≤_}
+use Prim.Native.Nat.{ℕ, _+_, _<_, _≤_}
 use native.Mathlib.Omega.{arith}
 use Rattle.grammar.specs.Grammar.{max-rules}
 use Rattle.grammar.specs.declared.Expression.{Expression}
 use Rattle.grammar.specs.declared.Expression.the-variants.{Sequence, Choice}
 use Rattle.syntax.specs.declared.Node.the-variants.{Operator}
-use Rattle.syntax.specs.declared.Sign.the-variants.{Slash}
-use Rattle.syntax.specs.Tokens.{Token, sign}
+use Rattle.syntax.specs.Tokens.{Token}
 use Rattle.syntax.specs.Trees.{Tree, sequence, choice, Level, choices, parts, prefixes, Derives}
 use Rattle.syntax.specs.Compile.{own-rules, own-number, owed}
 use Rattle.syntax.specs.code.Heads.{heads}
@@ -21,7 +20,7 @@ use Rattle.reader.specs.code.Scanning.{Peeks}
 use Rattle.reader.specs.code.Lookahead.{starts-part, slash-found}
 use Rattle.reader.specs.code.Building.{advanced}
 use Rattle.reader.specs.code.Operators.{part, over, Part-room, placed-rules, placed-number, begun-of}
-use Rattle.reader.specs.code.Levels.{tokens-at, is-start, Room, Stops, Part-right, Spent, Level-right, Level-read}
+use Rattle.reader.specs.code.Levels.{tokens-at, Room, Stops, Spent, Level-read}
 use Rattle.reader.proofs.Lookings.{slash-here, slash-not-here, start-here, start-there}
 use Rattle.reader.proofs.Placing.{Joins, sequence-joins, choice-joins}
 use Rattle.reader.proofs.Deriving.{Begins, After-slash, After-part, Parted, choices-parted, parts-parted}

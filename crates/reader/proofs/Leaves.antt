@@ -2,8 +2,8 @@
 use mathlib.Core.Path.{_≡_, refl, sym, ap, subst, _∙_}
 use mathlib.Core.Bool.{Bool, true, false, cond}
 use mathlib.Core.List.{List, [], _∷_}
-use mathlib.Core.Logic.{_⊎_, inl, inr, ⊎-elim}
-use Prim.Native.Nat.{ℕ, zero, suc, _+_, _-_, _<_, _≤_}
+use mathlib.Core.Logic.{_⊎_, ⊎-elim}
+use Prim.Native.Nat.{ℕ, suc, _+_, _-_, _≤_}
 use native.Mathlib.Nat.{pos-of-ne-zero}
 use native.Mathlib.Omega.{arith}
 use lib.Dec.{eqb}
@@ -13,10 +13,8 @@ use Rattle.codec.specs.Bytes.{section}
 use Rattle.grammar.specs.declared.Expression.{Expression}
 use Rattle.grammar.specs.declared.Expression.the-variants.{Range}
 use Rattle.syntax.specs.declared.Leaf.{Leaf}
-use Rattle.syntax.specs.declared.Prefix.{Prefix}
-use Rattle.syntax.specs.declared.Suffix.{Suffix}
 use Rattle.syntax.specs.declared.Sign.{Sign}
-use Rattle.syntax.specs.declared.Sign.the-variants.{Operand, Before, After, Slash, Opening, Closing, Equals, Semicolon}
+use Rattle.syntax.specs.declared.Sign.the-variants.{Operand, Opening, Closing}
 use Rattle.syntax.specs.declared.Node.the-variants.{Numbered, Operator}
 use Rattle.syntax.specs.declared.Token as Code
 use Rattle.syntax.specs.declared.Token.the-variants as Variants
@@ -31,7 +29,7 @@ use Rattle.reader.specs.declared.Part.{Part}
 use Rattle.reader.specs.declared.Lexeme.{Lexeme}
 use Rattle.reader.specs.code.Building.{advanced}
 use Rattle.reader.specs.code.Operators.{over, part}
-use Rattle.reader.specs.code.Scanning.{token-of, Scans-to, Peeks}
+use Rattle.reader.specs.code.Scanning.{token-of, Peeks}
 use Rattle.reader.specs.code.Levels.{Spent, tokens-at, leaf-made, name-made, Reads-to, Part-right, Level-right, Passes, Sign-right}
 use Rattle.reader.proofs.Emitting.{advanced-none, advanced-next, advanced-left}
 use Rattle.reader.proofs.Lookings.{clash, peeked}

@@ -2,7 +2,7 @@
 use mathlib.Core.Path.{_≡_, refl, sym, ap, subst, _∙_}
 use mathlib.Core.Bool.{Bool, true, false, cond}
 use mathlib.Core.List.{List, [], _∷_, _++_}
-use Prim.Native.Nat.{ℕ, zero, suc, _+_, _-_, _*_, _<_, _≤_}
+use Prim.Native.Nat.{ℕ, suc, _+_, _-_, _*_, _<_, _≤_}
 use native.Mathlib.Omega.{arith}
 use lib.Dec.{leb, eqb}
 use lib.ListN.{length, length-append}
@@ -27,7 +27,7 @@ use Rattle.reader.specs.code.Building.{put-rules, advanced, placed-at}
 use Rattle.reader.specs.code.Operators.{Part-room}
 use Rattle.reader.specs.code.Levels.{tokens-at, Room, Passes, Part-right, Spent, Level-read, Reads-to}
 use Rattle.reader.specs.code.Lines.{with-left, line-with, topped-by, topped, Line-room, Line-done, Line-read}
-use Rattle.reader.proofs.Emitting.{advanced-on, advanced-none, advanced-next, put-append}
+use Rattle.reader.proofs.Emitting.{advanced-on, advanced-none, advanced-next}
 use Rattle.reader.proofs.Deriving.{semicolon-stops}
 use Rattle.reader.proofs.Descending.{unfit, fit}
 use Rattle.reader.proofs.Lookings.{clash}

@@ -1,6 +1,6 @@
 -- What looking ahead tells of the tokens from a place on. Assumes nothing.
-use mathlib.Core.Path.{_≡_, refl, sym, ap, subst, _∙_}
-use mathlib.Core.Bool.{Bool, true, false}
+use mathlib.Core.Path.{_≡_, refl, ap, subst, _∙_}
+use mathlib.Core.Bool.{true, false}
 use mathlib.Core.List.{List, [], _∷_}
 use mathlib.Core.Logic.{_⊎_, inl, inr, ⊎-elim}
 use Prim.Native.Nat.{ℕ}
@@ -12,14 +12,14 @@ use Rattle.syntax.specs.declared.Sign.the-variants.{Operand, Before, After, Sla
 use Rattle.syntax.specs.declared.Token.{Token}
 use Rattle.syntax.specs.declared.Token.the-variants.{Name, Sign, Range, Unknown}
 use Rattle.syntax.specs.Tokens as Tokens
-use Rattle.syntax.specs.Tokens.{name, sign, range, unknown}
+use Rattle.syntax.specs.Tokens.{sign}
 use Rattle.reader.specs.declared.Lexeme.{Lexeme}
 use Rattle.reader.specs.declared.lookahead.FoundPrefix.the-variants as Prefixes
 use Rattle.reader.specs.declared.lookahead.FoundSuffix.the-variants as Suffixes
 use Rattle.reader.specs.code.Scanning.{token-of, Peeks}
 use Rattle.reader.specs.code.Lookahead.{prefix-found, suffix-found, starts-part, slash-found}
 use Rattle.reader.proofs.Searching.{tokens-next, tokens-end}
-use Rattle.reader.specs.code.Levels.{tokens-at, suffix-sign, start-sign, slash-sign, by-sign, is-suffix, is-start, is-slash}
+use Rattle.reader.specs.code.Levels.{tokens-at, suffix-sign, start-sign, by-sign, is-suffix, is-start}
 
 -- two constructors that are equal
 pub clash : {A : Type 0} → _≡_ {A = ℕ} 0 1 → A

@@ -1,38 +1,32 @@
 -- Reading a part, its suffixes and its operand: what each function answers, from what its callees answer. Assumes nothing.
 use mathlib.Core.Path.{_≡_, refl, sym, ap, subst, _∙_}
-use mathlib.Core.Bool.{Bool, true, false, cond}
+use mathlib.Core.Bool.{Bool, true, false}
 use mathlib.Core.List.{List, [], _∷_, _++_}
-use Prim.Native.Nat.{ℕ, zero, suc, _+_, _-_, _<_, _≤_}
+use Prim.Native.Nat.{ℕ, suc, _+_, _-_, _<_, _≤_}
 use native.Mathlib.Omega.{arith}
-use lib.Dec.{leb, eqb, ltb}
-use borrow.Author.Tests.{le-leb, lt-leb, eqb-true, eqb-false, lt-ltb, le-ltb, ltb-true, ltb-false}
-use Rattle.codec.specs.Bytes.{section}
+use lib.Dec.{ltb}
+use borrow.Author.Tests.{ltb-true, ltb-false}
 use Rattle.grammar.specs.Grammar.{max-rules}
-use Rattle.grammar.specs.declared.Expression.{Expression}
 use Rattle.grammar.specs.declared.Expression.the-variants.{Not, Empty}
-use Rattle.syntax.specs.declared.Node.the-variants.{Numbered, Operator}
-use Rattle.syntax.specs.declared.Leaf.{Leaf}
 use Rattle.syntax.specs.declared.Prefix.{Prefix}
 use Rattle.syntax.specs.declared.Prefix.the-variants.{NotPredicate, AndPredicate}
 use Rattle.syntax.specs.declared.Suffix.{Suffix}
 use Rattle.syntax.specs.declared.Suffix.the-variants.{ZeroOrMore, OneOrMore, Optional}
-use Rattle.syntax.specs.declared.Sign.{Sign}
-use Rattle.syntax.specs.declared.Sign.the-variants.{Operand, Before, After, Slash, Opening, Closing, Equals, Semicolon}
-use Rattle.syntax.specs.Tokens.{Token, name, sign, range, unknown}
-use Rattle.syntax.specs.Trees.{Tree, nonterminal, leaf, bytes, prefixed, suffixed, Level, choices, parts, prefixes, suffixes, operand, Derives, no-prefix, a-prefix, a-name, a-leaf, a-range, brackets}
+use Rattle.syntax.specs.declared.Sign.the-variants.{Before, After}
+use Rattle.syntax.specs.Tokens.{Token, sign}
+use Rattle.syntax.specs.Trees.{Tree, prefixed, suffixed, prefixes, suffixes, operand, Derives, no-prefix, a-prefix}
 use Rattle.syntax.specs.Needs.{need, prefix-need, suffix-need}
-use Rattle.syntax.specs.Compile.{index-of, repetition-rules, own-rules, owed, compile-leaf, compile}
-use Rattle.syntax.specs.code.Heads.{heads}
+use Rattle.syntax.specs.Compile.{repetition-rules, own-rules, owed}
 use Rattle.reader.specs.declared.Rules.{Rules}
 use Rattle.reader.specs.declared.Part.{Part}
 use Rattle.reader.specs.code.Building.{advanced}
-use Rattle.reader.specs.code.Operators.{over, part, Part-room, Prefix-room, placed-rules, placed-number, prefix-by, prefix-made, suffix-made, suffix-done}
-use Rattle.reader.specs.code.Levels.{tokens-at, by-sign, suffix-sign, is-suffix, leaf-made, name-made, Stops, Reads-to, Part-right, Level-right, suffixed-all, suffix-tokens, Suffixes-right, Passes, Sign-right, Room, Spent}
+use Rattle.reader.specs.code.Operators.{over, part, Prefix-room, placed-rules, placed-number, prefix-by, prefix-made, suffix-made, suffix-done}
+use Rattle.reader.specs.code.Levels.{tokens-at, by-sign, suffix-sign, is-suffix, Stops, Reads-to, Part-right, Level-right, suffixed-all, suffix-tokens, Suffixes-right, Room, Spent}
 use Rattle.reader.proofs.Lookings.{clash}
-use Rattle.reader.proofs.Emitting.{advanced-none, advanced-next, advanced-left}
+use Rattle.reader.proofs.Emitting.{advanced-next, advanced-left}
 use Rattle.reader.proofs.Operating.{next-placed, suffix-some}
 use Rattle.reader.proofs.Placing.{suffix-reads, prefix-reads}
-use Rattle.reader.proofs.Deriving.{stops-operand, stops-suffixes, closing-stops, operand-of, suffixes-prefix}
+use Rattle.reader.proofs.Deriving.{stops-operand, stops-suffixes, operand-of, suffixes-prefix}
 use Rattle.reader.proofs.Descending.{not-fit, does-fit, unfit, fit, read-left}
 
 prefix-fits : (q : Prefix) (x : Part) → prefix-made q x .fits ≡ true
@@ -45,10 +39,6 @@ more-needed : (ss : List Suffix) (e : Tree) → need e ≤ need (suffixed-all ss
 unfolding suffixed-all need
 more-needed [] e = omega arith
 more-needed (s ∷ ss) e = omega (arith, more-needed ss (suffixed s e))
-
-suffix-first : (s : Suffix) (us : List Token) → is-suffix (sign (After s)) ≡ true
-unfolding by-sign suffix-sign
-suffix-first s us = refl
 
 -- none follows
 pub suffixes-none :

@@ -1,11 +1,11 @@
 -- The call `read`: each of its answers is the one that the definitions give. Assumes nothing.
 use mathlib.Core.Path.{_≡_, refl, sym, ap, subst, _∙_}
-use mathlib.Core.Bool.{Bool, true, false, cond}
+use mathlib.Core.Bool.{true, false}
 use mathlib.Core.List.{List, [], _∷_, _++_}
-use Prim.Native.Nat.{ℕ, suc, _+_, _*_, _-_, _<_, _≤_}
+use Prim.Native.Nat.{ℕ, suc, _*_, _<_, _≤_}
 use native.Mathlib.Omega.{arith}
-use lib.Dec.{ltb, leb, eqb}
-use lib.ListN.{length, replicate}
+use lib.Dec.{ltb}
+use lib.ListN.{length}
 use borrow.Author.Tests.{eq-eqb, ne-eqb, lt-ltb, le-ltb, leb-true, leb-false}
 use Rattle.refusal.specs.declared.Refusal.{Refusal}
 use Rattle.refusal.specs.First.{refusal, no-refusal, or-else, refuse-if}
@@ -15,7 +15,7 @@ use Rattle.syntax.specs.Trees.{Definition, names, Reads, Legal-text, max-depth}
 use Rattle.syntax.specs.Faults.{fault, first-undefined}
 use Rattle.syntax.specs.Needs.{needs, later-refusal}
 use Rattle.syntax.specs.Compile.{named-from, helpers-from, encode, all-rules, grammar-of}
-use Rattle.syntax.specs.Reading.{Reading, Refused, Grammar, Read-says, at-fault, refused, read}
+use Rattle.syntax.specs.Reading.{Refused, Grammar, at-fault, refused, read}
 use Rattle.syntax.specs.code.Heads.{heads}
 use Rattle.syntax.proofs.Heads.{heads-are}
 use Rattle.syntax.proofs.FaultsRight.{faults-right}
@@ -26,7 +26,6 @@ use Rattle.reader.specs.declared.Lines.{Lines}
 use Rattle.reader.specs.declared.ReadGrammar.{ReadGrammar}
 use Rattle.reader.specs.Calls.{padded, grammar-answer, Read-tells}
 use Rattle.reader.specs.code.Stepping.{Text-checked}
-use Rattle.reader.specs.code.Levels.{tokens-at}
 use Rattle.reader.specs.code.Lines.{Lines-room, Lines-right, Lines-read}
 use Rattle.reader.proofs.Searching.{tokens-start}
 

@@ -1,7 +1,7 @@
 -- The grammar built of the lines of a text, and how its rules are numbered: the lines first, in their order, each line's top operator at the line's own number; then the helper rules of the first line, of the second, and so on. Inside a line parts stand before what they are parts of, the first part first. Assumes nothing: these are definitions.
 use mathlib.Core.Bool.{cond}
 use mathlib.Core.List.{List, [], _∷_, _++_}
-use Prim.Native.Nat.{ℕ, zero, suc, _+_}
+use Prim.Native.Nat.{ℕ, suc, _+_}
 use lib.ListN.{length}
 use Rattle.grammar.specs.Grammar.{kind-sequence, kind-choice, kind-not, kind-empty, kind-range}
 use Rattle.grammar.specs.declared.Expression.{Expression}

@@ -1,5 +1,5 @@
 -- Syntax trees, and the grammar of texts: which tokens are an expression, with its tree, and which are the lines of a grammar. Assumes nothing: these are definitions.
-use mathlib.Core.List.{List, [], _∷_, _++_, map}
+use mathlib.Core.List.{List, [], _∷_, map}
 use Prim.Native.Nat.{ℕ, suc}
 use Rattle.machine.specs.Verdicts.{Distinct}
 use Rattle.syntax.specs.declared.Leaf.{Leaf}

@@ -3,14 +3,13 @@ use mathlib.Core.Path.{_≡_, refl, ap, _∙_}
 use mathlib.Core.List.{List, [], _∷_, _++_}
 use Prim.Native.Nat.{ℕ, zero, suc, _+_, _*_, _<_}
 use native.Mathlib.Omega.{arith}
-use lib.ListN.{length, getD, length-append}
+use lib.ListN.{length, getD}
 use Rattle.codec.specs.Bytes.{byte}
 use Rattle.grammar.specs.declared.Expression.{Expression}
 use Rattle.grammar.specs.declared.Expression.the-variants.{Sequence, Choice, Not, Empty, Range}
 use Rattle.grammar.specs.Grammar.{rules, kind-of, b-of, c-of, expression, expression-by, Parts-below}
 use Rattle.grammar.specs.Conditions.{last-of, Grammar-rule-right, sequence-right, choice-right, not-right, empty-right, range-right}
 use Rattle.syntax.specs.Compile.{rule-bytes, encode}
-use Rattle.syntax.proofs.Encoding.{length-encode}
 use Rattle.syntax_theory.proofs.Numbering.{Holds, holds-all}
 
 -- the four bytes of rule k are those of x

@@ -1,6 +1,6 @@
 -- What a tree means, its rule parses; where each line has its rule, and names are distinct. Assumes nothing.
 use mathlib.Core.Path.{_≡_, refl, sym, subst}
-use mathlib.Core.List.{List, _∷_}
+use mathlib.Core.List.{List}
 use mathlib.Core.Option.{Option, none, some}
 use Prim.Native.Nat.{ℕ, _<_}
 use Rattle.machine.specs.Verdicts.{Distinct}

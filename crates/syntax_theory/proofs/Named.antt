@@ -1,12 +1,10 @@
 -- Names that are defined: where a legal text has no undefined name, each name in a line's body is that of a line; and of one only, as names are distinct. Assumes nothing.
 use mathlib.Core.Path.{_≡_, refl, sym, ap, subst, _∙_}
-use mathlib.Core.Bool.{Bool, true, false, _&&_, cond}
+use mathlib.Core.Bool.{Bool, true, false, cond}
 use mathlib.Core.List.{List, [], _∷_, List·Memᴰ, List·Memᴰ·head, List·Memᴰ·tail, Memᴰ·cast}
 use Prim.Native.Nat.{ℕ, suc, _<_}
 use native.Mathlib.Omega.{arith}
-use lib.Dec.{eqb}
 use lib.ListN.{length, getD}
-use borrow.Author.Tests.{eqb-true, eq-eqb}
 use Rattle.machine.specs.Verdicts.{Distinct}
 use Rattle.refusal.specs.First.{refusal}
 use Rattle.syntax.specs.declared.Leaf.the-variants.{EmptyString}

@@ -1,5 +1,5 @@
 -- `transfer::write_on` meets its contract. The measure: bytes that are still to be written, and tries that are left. Assumes nothing.
-use Prim.Native.Nat.{_+_, _-_, _≤_}
+use Prim.Native.Nat.{_+_, _-_}
 use native.Mathlib.Omega.{arith}
 use lib.ListN.{length}
 use borrow.Author.Needs.{needs}

@@ -1,5 +1,5 @@
 -- The functions of the descent meet their contracts, and end: from an expression to a sequence, a part, an operand, and inside brackets an expression again. The remaining depth falls at a bracket, and at a further part the rules that are left. Assumes nothing.
-use mathlib.Core.Path.{_≡_, sym, _∙_}
+use mathlib.Core.Path.{sym, _∙_}
 use Prim.Native.Nat.{_+_, _*_}
 use native.Mathlib.Nat.{pos-of-ne-zero}
 use native.Mathlib.Omega.{arith}
