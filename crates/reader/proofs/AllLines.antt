@@ -6,22 +6,20 @@ use Prim.Native.Nat.{ℕ, suc, _+_, _-_, _*_, _<_, _≤_}
 use native.Mathlib.Omega.{arith}
 use lib.ListN.{length, replicate, length-append}
 use borrow.Author.Tests.{le-leb, lt-leb, leb-false, leb-true}
-use Rattle.codec.specs.Bytes.{written}
 use Rattle.grammar.specs.Grammar.{max-rules}
 use Rattle.grammar.specs.declared.Expression.{Expression}
 use Rattle.syntax.specs.declared.Sign.the-variants.{Equals, Semicolon}
 use Rattle.syntax.specs.Tokens.{Token, name, sign}
 use Rattle.syntax.specs.Trees.{Definition, choices, Derives, Reads, last-line, more-lines, max-depth}
 use Rattle.syntax.specs.Needs.{line-need, needs}
-use Rattle.syntax.specs.Compile.{Compiled, compile, line-rule, line-helpers, named-from, helpers-from, rule-bytes, encode}
+use Rattle.syntax.specs.Compile.{Compiled, compile, line-rule, line-helpers, named-from, helpers-from, encode}
 use Rattle.syntax.specs.code.Heads.{heads}
 use Rattle.syntax.proofs.Counting.{line-counted, helpers-counted}
 use Rattle.reader.specs.declared.Rules.{Rules}
-use Rattle.reader.specs.declared.LineRead.{LineRead}
 use Rattle.reader.specs.Calls.{padded}
-use Rattle.reader.specs.code.Building.{put-rules}
+use Rattle.reader.specs.code.Building.{rule-put, put-rules}
 use Rattle.reader.specs.code.Levels.{tokens-at}
-use Rattle.reader.specs.code.Lines.{Line-room, Line-read, Lines-room, Lines-right, Lines-read}
+use Rattle.reader.specs.code.Lines.{LineRead, Line-room, Line-read, Lines-room, Lines-right, Lines-read}
 use Rattle.reader.proofs.Tables.{table, named-written, helpers-written, table-first, table-last}
 use Rattle.reader.proofs.Lookings.{clash}
 
@@ -126,9 +124,9 @@ line-step text lines ds place k rules left size fit more r read d es f count a b
           ∙ helpers-written lines (left .named) (left .helpers) hs (omega (arith, left .named-count)) (omega (arith, left .helpers-count))
           in
           let bytes : r .rules .bytes ≡ table lines (left .named ++ (own ∷ [])) (left .helpers ++ hs) =
-          done .bytes ∙ ap (λ (bs : List ℕ). written bs (4 * k) (rule-bytes own)) put
-          ∙ ap (λ (n : ℕ). written (table lines (left .named) (left .helpers ++ hs)) (4 * n) (rule-bytes own)) (sym (left .named-count))
-          ∙ named-written lines (left .named) (left .helpers ++ hs) own (omega (arith, left .named-count))
+          done .bytes ∙ ap (λ (bs : List ℕ). rule-put bs k own) put
+          ∙ ap (λ (n : ℕ). rule-put (table lines (left .named) (left .helpers ++ hs)) n own) (sym (left .named-count))
+          ∙ named-written lines (left .named) (left .helpers ++ hs) own (omega (arith, left .named-count)) (omega (arith, left .helpers-count, length-append (left .helpers) hs))
           in
           record {
             rest = es;

@@ -17,10 +17,8 @@ use Rattle.syntax.specs.Compile.{own-rules, compile, place, owed}
 use Rattle.syntax.specs.code.Heads.{heads}
 use Rattle.syntax.proofs.Counting.{compiled-need, placed-need}
 use Rattle.reader.specs.declared.Rules.{Rules}
-use Rattle.reader.specs.declared.Part.{Part}
-use Rattle.reader.specs.declared.Begun.{Begun}
 use Rattle.reader.specs.code.Building.{advanced}
-use Rattle.reader.specs.code.Operators.{part, placed-rules, placed-number, begun-of}
+use Rattle.reader.specs.code.Operators.{Begun, Part, part, placed-rules, placed-number, begun-of}
 use Rattle.reader.specs.code.Levels.{tokens-at, Room, Stops, Reads-to, Part-right, Spent}
 use Rattle.reader.proofs.Emitting.{advanced-next, advanced-left}
 use Rattle.reader.proofs.Operating.{next-placed}

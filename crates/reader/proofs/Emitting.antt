@@ -1,18 +1,16 @@
 -- Rules put one after another: one rule's stores, and what is put in two parts is put in one. Assumes nothing.
 use mathlib.Core.Path.{_≡_, refl, sym, ap, _∙_}
 use mathlib.Core.List.{List, [], _∷_, _++_}
-use Prim.Native.Nat.{ℕ, suc, _+_, _-_, _*_, _<_}
+use Prim.Native.Nat.{ℕ, suc, _+_, _-_, _*_}
 use native.Mathlib.Nat.{sub-zero}
 use native.Mathlib.Omega.{arith}
 use lib.ListN.{length, set, length-append}
-use Rattle.codec.specs.Bytes.{written}
-use Rattle.codec.proofs.Writes.{four-stored}
-use Rattle.grammar.specs.Grammar.{max-rules}
+use Rattle.codec.specs.Bytes.{byte}
 use Rattle.grammar.specs.declared.Expression.{Expression}
 use Rattle.grammar.specs.declared.Expression.the-variants.{Sequence, Choice, Empty}
 use Rattle.syntax.specs.Compile.{rule-bytes, repetition-rules}
 use Rattle.reader.specs.declared.Rules.{Rules}
-use Rattle.reader.specs.code.Building.{put-rules, advanced, placed-at}
+use Rattle.reader.specs.code.Building.{rule-put, put-rules, advanced}
 
 -- the same rules by the same parts
 pub rules-by :
@@ -22,24 +20,18 @@ rules-by bs bs′ n n′ l l′ p q r = cc
 
 -- one rule's four stores
 pub one-put :
-    (r : Rules) (n : ℕ) (x : Expression) (k b c : ℕ) → k ∷ b ∷ c ∷ 0 ∷ [] ≡ rule-bytes x → length (r .bytes) ≡ 124 → n < max-rules →
-    _≡_ {A = Rules}
-    (record {
-      bytes = set (set (set (set (r .bytes) (4 * n) k) (4 * n + 1) b) (4 * n + 2) c) (4 * n + 3) 0;
-      next = r .next;
-      left = r .left;
-    })
-    (placed-at r n x)
-one-put r n x k b c e long below =
-    rules-by _ _ _ _ _ _ (four-stored (r .bytes) (4 * n) k b c 0 (omega arith) ∙ ap (λ (p : List ℕ). written (r .bytes) (4 * n) p) e) refl refl
+    (bs : List ℕ) (n : ℕ) (x : Expression) (k b c : ℕ) → k ∷ b ∷ c ∷ 0 ∷ [] ≡ rule-bytes x →
+    set (set (set (set bs (4 * n) k) (4 * n + 1) b) (4 * n + 2) c) (4 * n + 3) 0 ≡ rule-put bs n x
+unfolding rule-put
+one-put bs n x k b c e =
+    ap (λ (p : List ℕ). set (set (set (set bs (4 * n) (byte p 0)) (4 * n + 1) (byte p 1)) (4 * n + 2) (byte p 2)) (4 * n + 3) (byte p 3)) e
 
 -- and the next number after it
 pub one-added :
-    (r p : Rules) (x : Expression) → p ≡ placed-at r (r .next) x →
-    _≡_ {A = Rules} (record { bytes = p .bytes; next = r .next + 1; left = p .left }) (advanced r (x ∷ []) 0)
+    (r : Rules) (bs : List ℕ) (x : Expression) → bs ≡ rule-put (r .bytes) (r .next) x →
+    _≡_ {A = Rules} (record { bytes = bs; next = r .next + 1; left = r .left }) (advanced r (x ∷ []) 0)
 unfolding advanced put-rules
-one-added r p x e =
-    rules-by _ _ _ _ _ _ (ap (λ (q : Rules). q .bytes) e) refl (ap (λ (q : Rules). q .left) e ∙ sym (sub-zero (r .left)))
+one-added r bs x e = rules-by _ _ _ _ _ _ e refl (sym (sub-zero (r .left)))
 
 pub put-append :
     (bs : List ℕ) (n : ℕ) (xs ys : List Expression) → put-rules (put-rules bs n xs) (n + length xs) ys ≡ put-rules bs n (xs ++ ys)
@@ -47,8 +39,8 @@ unfolding put-rules
 put-append bs n [] ys = ap (λ (m : ℕ). put-rules bs m ys) (omega arith)
 put-append bs n (x ∷ xs) ys =
     let same : n + suc (length xs) ≡ suc n + length xs = omega arith in
-    ap (λ (m : ℕ). put-rules (put-rules (written bs (4 * n) (rule-bytes x)) (suc n) xs) m ys) same
-    ∙ put-append (written bs (4 * n) (rule-bytes x)) (suc n) xs ys
+    ap (λ (m : ℕ). put-rules (put-rules (rule-put bs n x) (suc n) xs) m ys) same
+    ∙ put-append (rule-put bs n x) (suc n) xs ys
 
 -- in two parts, in one
 pub advanced-on :

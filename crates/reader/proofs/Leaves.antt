@@ -25,10 +25,9 @@ use Rattle.syntax.specs.Needs.{need}
 use Rattle.syntax.specs.Compile.{index-of, owed, Compiled, compile-leaf, compile}
 use Rattle.syntax.specs.code.Heads.{heads}
 use Rattle.reader.specs.declared.Rules.{Rules}
-use Rattle.reader.specs.declared.Part.{Part}
 use Rattle.reader.specs.declared.Lexeme.{Lexeme}
 use Rattle.reader.specs.code.Building.{advanced}
-use Rattle.reader.specs.code.Operators.{over, part}
+use Rattle.reader.specs.code.Operators.{Part, over, part}
 use Rattle.reader.specs.code.Scanning.{token-of, Peeks}
 use Rattle.reader.specs.code.Levels.{Spent, tokens-at, leaf-made, name-made, Reads-to, Part-right, Level-right, Passes, Sign-right}
 use Rattle.reader.proofs.Emitting.{advanced-none, advanced-next, advanced-left}

@@ -7,7 +7,6 @@ use native.Mathlib.Omega.{arith}
 use lib.Dec.{leb, eqb}
 use lib.ListN.{length, length-append}
 use borrow.Author.Tests.{le-leb, lt-leb, leb-true, leb-false, eqb-true}
-use Rattle.codec.specs.Bytes.{written}
 use Rattle.grammar.specs.Grammar.{max-rules}
 use Rattle.grammar.specs.declared.Expression.{Expression}
 use Rattle.grammar.specs.declared.Expression.the-variants.{Sequence, Choice, Empty}
@@ -17,16 +16,14 @@ use Rattle.syntax.specs.declared.Sign.the-variants.{Equals, Semicolon}
 use Rattle.syntax.specs.Tokens.{Token, name, sign}
 use Rattle.syntax.specs.Trees.{Tree, choices, Derives, max-depth}
 use Rattle.syntax.specs.Needs.{need, line-need}
-use Rattle.syntax.specs.Compile.{Compiled, compile, owed, top-rule, top-helpers, line-rule, line-helpers, rule-bytes}
+use Rattle.syntax.specs.Compile.{Compiled, compile, owed, top-rule, top-helpers, line-rule, line-helpers}
 use Rattle.syntax.specs.code.Heads.{heads}
 use Rattle.syntax.proofs.Counting.{compiled-need, line-counted}
 use Rattle.reader.specs.declared.Rules.{Rules}
-use Rattle.reader.specs.declared.Part.{Part}
-use Rattle.reader.specs.declared.LineRead.{LineRead}
-use Rattle.reader.specs.code.Building.{put-rules, advanced, placed-at}
-use Rattle.reader.specs.code.Operators.{Part-room}
+use Rattle.reader.specs.code.Building.{rule-put, put-rules, advanced, placed-at}
+use Rattle.reader.specs.code.Operators.{Part, Part-room}
 use Rattle.reader.specs.code.Levels.{tokens-at, Room, Passes, Part-right, Spent, Level-read, Reads-to}
-use Rattle.reader.specs.code.Lines.{with-left, line-with, topped-by, topped, Line-room, Line-done, Line-read}
+use Rattle.reader.specs.code.Lines.{LineRead, with-left, line-with, topped-by, topped, Line-room, Line-done, Line-read}
 use Rattle.reader.proofs.Emitting.{advanced-on, advanced-none, advanced-next}
 use Rattle.reader.proofs.Deriving.{semicolon-stops}
 use Rattle.reader.proofs.Descending.{unfit, fit}
@@ -65,9 +62,9 @@ owed-three : (j : ℕ) → owed (Repetition j) ≡ 3
 unfolding owed
 owed-three j = refl
 
-put-is : (r : Rules) (xs : List Expression) (n i : ℕ) (part : List ℕ) → written (advanced r xs n .bytes) i part ≡ written (put-rules (r .bytes) (r .next) xs) i part
+put-is : (r : Rules) (xs : List Expression) (n k : ℕ) (x : Expression) → rule-put (advanced r xs n .bytes) k x ≡ rule-put (put-rules (r .bytes) (r .next) xs) k x
 unfolding advanced
-put-is r xs n i part = refl
+put-is r xs n k x = refl
 
 -- the room for the helper rules of e*
 pub repetition-room : (x : Part) (i : ℕ) → x .node ≡ Repetition i → Part-room x → x .rules .next + 2 ≤ max-rules
@@ -156,9 +153,9 @@ module _ (text : List ℕ) (before : Rules) (k at : ℕ) (fit-in : before .next 
       record {
         bytes =
             ap (λ (y : LineRead). y .rules .bytes) makes
-            ∙ ap (λ (z : Expression). written (advanced (x .rules) (top-helpers (x .node) k) 0 .bytes) (4 * k) (rule-bytes z)) top
-            ∙ ap (λ (y : Rules). written (y .bytes) (4 * k) (rule-bytes (top-rule (c .node) (before .next + length (c .helpers))))) all
-            ∙ put-is (with-left before) (c .helpers ++ top-helpers (c .node) k) (need e + 0) (4 * k) (rule-bytes (top-rule (c .node) (before .next + length (c .helpers))));
+            ∙ ap (λ (z : Expression). rule-put (advanced (x .rules) (top-helpers (x .node) k) 0 .bytes) k z) top
+            ∙ ap (λ (y : Rules). rule-put (y .bytes) k (top-rule (c .node) (before .next + length (c .helpers)))) all
+            ∙ put-is (with-left before) (c .helpers ++ top-helpers (c .node) k) (need e + 0) k (top-rule (c .node) (before .next + length (c .helpers)));
         next = ap (λ (y : LineRead). y .rules .next) makes ∙ advanced-next (with-left before) _ _ _ all;
         rest = ap (λ (i : ℕ). tokens-at text i) (ap (λ (y : LineRead). y .at) makes) ∙ rest;
       }
@@ -184,9 +181,8 @@ module _ (text : List ℕ) (at k equals from : ℕ) (before : Rules) (room : Lin
       subst (λ (r : Rules). Part-right text r e (sign Semicolon ∷ us) x) filled
       (read .right e (sign Semicolon ∷ us) (subst (λ (vs : List Token). Derives choices max-depth vs e (sign Semicolon ∷ us)) (from-body n ts t) d) (semicolon-stops us))
 
-  pub line-over : x .fits ≡ false → (r : LineRead) → r ≡ record { fits = false; at = at; rules = before } → Line-read text at k before r
-  line-over f r is =
-      let gone : r .fits ≡ false = ap (λ (y : LineRead). y .fits) is in
+  pub line-over : x .fits ≡ false → (r : LineRead) → r .fits ≡ false → Line-read text at k before r
+  line-over f r gone =
       record {
         fits = λ n ts us e t d.
             let lt = unfit text (with-left before) e (sign Semicolon ∷ us) x (body-read n ts us e t d) f in

@@ -18,9 +18,8 @@ use Rattle.syntax.specs.Trees.{Tree, prefixed, suffixed, prefixes, suffixes, op
 use Rattle.syntax.specs.Needs.{need, prefix-need, suffix-need}
 use Rattle.syntax.specs.Compile.{repetition-rules, own-rules, owed}
 use Rattle.reader.specs.declared.Rules.{Rules}
-use Rattle.reader.specs.declared.Part.{Part}
 use Rattle.reader.specs.code.Building.{advanced}
-use Rattle.reader.specs.code.Operators.{over, part, Prefix-room, placed-rules, placed-number, prefix-by, prefix-made, suffix-made, suffix-done}
+use Rattle.reader.specs.code.Operators.{Part, over, part, Prefix-room, placed-rules, placed-number, prefix-by, prefix-made, suffix-made, suffix-done}
 use Rattle.reader.specs.code.Levels.{tokens-at, by-sign, suffix-sign, is-suffix, Stops, Reads-to, Part-right, Level-right, suffixed-all, suffix-tokens, Suffixes-right, Room, Spent}
 use Rattle.reader.proofs.Lookings.{clash}
 use Rattle.reader.proofs.Emitting.{advanced-next, advanced-left}

@@ -17,10 +17,8 @@ use Rattle.syntax.specs.Needs.{prefix-need, suffix-need}
 use Rattle.syntax.specs.Compile.{own-rules, own-number, owed}
 use Rattle.syntax.proofs.Counting.{own-counted}
 use Rattle.reader.specs.declared.Rules.{Rules}
-use Rattle.reader.specs.declared.Part.{Part}
-use Rattle.reader.specs.declared.Begun.{Begun}
 use Rattle.reader.specs.code.Building.{advanced}
-use Rattle.reader.specs.code.Operators.{over, part, Part-room, Prefix-room, prefix-by, prefix-made, suffix-made, suffix-done, begun-of}
+use Rattle.reader.specs.code.Operators.{Begun, Part, over, part, Part-room, Prefix-room, prefix-by, prefix-made, suffix-made, suffix-done, begun-of}
 use Rattle.reader.proofs.Emitting.{advanced-next}
 
 -- ROOM for an expression's own rule, once so many are taken

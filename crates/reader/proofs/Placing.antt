@@ -19,9 +19,8 @@ use Rattle.syntax.specs.Needs.{need, prefix-need, suffix-need}
 use Rattle.syntax.specs.Compile.{repetition-rules, own-rules, own-number, Compiled, Placed, place, compile, compile-prefix, compile-suffix}
 use Rattle.syntax.specs.code.Heads.{heads}
 use Rattle.reader.specs.declared.Rules.{Rules}
-use Rattle.reader.specs.declared.Part.{Part}
 use Rattle.reader.specs.code.Building.{advanced}
-use Rattle.reader.specs.code.Operators.{part, placed-rules, placed-number, prefix-by, prefix-made, suffix-done}
+use Rattle.reader.specs.code.Operators.{Part, part, placed-rules, placed-number, prefix-by, prefix-made, suffix-done}
 use Rattle.reader.specs.code.Levels.{tokens-at, Reads-to}
 use Rattle.reader.proofs.Emitting.{advanced-on, advanced-next, advanced-none}
 

@@ -6,12 +6,14 @@ use native.Mathlib.Omega.{arith}
 use lib.ListN.{length, take, drop, replicate, length-append, length-replicate, replicate-append-replicate}
 use lib.Seq.{take-at, drop-at, take-append-add, drop-append-add, take-append-le, drop-append-le}
 use Rattle.codec.specs.Bytes.{written}
+use Rattle.codec.proofs.Writes.{four-stored}
 use Rattle.grammar.specs.Grammar.{max-rules}
 use Rattle.grammar.specs.declared.Expression.{Expression}
+use Rattle.grammar.specs.declared.Expression.the-variants.{Sequence, Choice, Not, Empty, Range}
 use Rattle.syntax.specs.Compile.{rule-bytes, encode}
 use Rattle.syntax.proofs.Encoding.{four-bytes, length-encode, encode-append, encode-one}
 use Rattle.reader.specs.Calls.{padded}
-use Rattle.reader.specs.code.Building.{put-rules}
+use Rattle.reader.specs.code.Building.{rule-put, put-rules}
 
 abbrev zeros : (count : ℕ) → List ℕ
 zeros n = replicate n 0
@@ -79,14 +81,32 @@ written-right a b i part =
     ∙ ap (λ (x : List ℕ). x ++ drop (i + length part) b) (append-assoc a (take i b) part)
     ∙ append-assoc a (take i b ++ part) (drop (i + length part) b)
 
+-- a rule put where there is room for it is written there
+put-written : (bs : List ℕ) (n : ℕ) (x : Expression) → 4 * n + 4 ≤ length bs → rule-put bs n x ≡ written bs (4 * n) (rule-bytes x)
+unfolding rule-put rule-bytes
+put-written bs n (Sequence b c) h = four-stored bs (4 * n) _ b c 0 h
+put-written bs n (Choice b c) h = four-stored bs (4 * n) _ b c 0 h
+put-written bs n (Not b) h = four-stored bs (4 * n) _ b 0 0 h
+put-written bs n Empty h = four-stored bs (4 * n) _ 0 0 0 h
+put-written bs n (Range b c) h = four-stored bs (4 * n) _ b c 0 h
+
+table-length :
+    (n : ℕ) (named hs : List Expression) → length named ≤ n → n + length hs ≤ max-rules → length (table n named hs) ≡ 4 * max-rules
+unfolding table
+table-length n named hs le h =
+    length-append (filled named (n - length named)) (filled hs (max-rules - n - length hs))
+    ∙ omega (arith, filled-length named (n - length named), filled-length hs (max-rules - n - length hs))
+
 -- A LINE'S OWN RULE
 pub named-written :
-    (n : ℕ) (named hs : List Expression) (x : Expression) → length named < n → written (table n named hs) (4 * length named) (rule-bytes x) ≡ table n (named ++ (x ∷ [])) hs
+    (n : ℕ) (named hs : List Expression) (x : Expression) → length named < n → n + length hs ≤ max-rules →
+    rule-put (table n named hs) (length named) x ≡ table n (named ++ (x ∷ [])) hs
 unfolding table
-named-written n named hs x h =
+named-written n named hs x h fit =
     let room : n - length named ≡ suc (n - length (named ++ (x ∷ []))) = omega (arith, length-append named (x ∷ [])) in
     let q = filled hs (max-rules - n - length hs) in
-    ap (λ (z : ℕ). written (filled named z ++ q) (4 * length named) (rule-bytes x)) room
+    put-written (table n named hs) (length named) x (omega (arith, table-length n named hs (omega arith) fit))
+    ∙ ap (λ (z : ℕ). written (filled named z ++ q) (4 * length named) (rule-bytes x)) room
     ∙ written-left (filled named (suc (n - length (named ++ (x ∷ []))))) q (4 * length named) (rule-bytes x)
     (omega (arith, four-bytes x, filled-length named (suc (n - length (named ++ (x ∷ []))))))
     ∙ ap (λ (bs : List ℕ). bs ++ q) (written-zeros named x (n - length (named ++ (x ∷ []))))
@@ -94,13 +114,14 @@ named-written n named hs x h =
 -- HELPER RULES, one and many
 helper-written :
     (n : ℕ) (named hs : List Expression) (x : Expression) → length named ≤ n → n + length hs < max-rules →
-    written (table n named hs) (4 * (n + length hs)) (rule-bytes x) ≡ table n named (hs ++ (x ∷ []))
+    rule-put (table n named hs) (n + length hs) x ≡ table n named (hs ++ (x ∷ []))
 unfolding table
 helper-written n named hs x le h =
     let room : max-rules - n - length hs ≡ suc (max-rules - n - length (hs ++ (x ∷ []))) = omega (arith, length-append hs (x ∷ [])) in
     let p = filled named (n - length named) in
     let place : 4 * (n + length hs) ≡ length p + 4 * length hs = omega (arith, filled-length named (n - length named)) in
-    ap (λ (z : ℕ). written (p ++ filled hs z) (4 * (n + length hs)) (rule-bytes x)) room
+    put-written (table n named hs) (n + length hs) x (omega (arith, table-length n named hs le (omega arith)))
+    ∙ ap (λ (z : ℕ). written (p ++ filled hs z) (4 * (n + length hs)) (rule-bytes x)) room
     ∙ ap (λ (i : ℕ). written (p ++ filled hs (suc (max-rules - n - length (hs ++ (x ∷ []))))) i (rule-bytes x)) place
     ∙ written-right p (filled hs (suc (max-rules - n - length (hs ++ (x ∷ []))))) (4 * length hs) (rule-bytes x)
     ∙ ap (λ (bs : List ℕ). p ++ bs) (written-zeros hs x (max-rules - n - length (hs ++ (x ∷ []))))

@@ -1,6 +1,6 @@
 // The rules of a grammar, made one by one: a rule's four bytes, the next helper rule, and an expression's own rule.
 use crate::Numbered;
-use crate::Rules;
+use crate::Numbering;
 use grammar::Expression;
 use grammar::check::RULE_BYTES;
 use syntax::Node;
@@ -9,7 +9,7 @@ ghost use mathlib.Core.List.{_∷_, []};
 ghost use Prim.Native.Nat.{_+_, _<_, _≤_};
 ghost use Rattle.grammar.specs.Grammar.{max-rules};
 ghost use Rattle.syntax.specs.Compile.{repetition-rules, own-rules, own-number, owed};
-ghost use Rattle.reader.specs.code.Building.{advanced, placed-at, bytes-are};
+ghost use Rattle.reader.specs.code.Building.{rules-of, rule-put, advanced, bytes-are};
 
 // A rule's bytes but the last, which is 0.
 pub struct RuleBytes {
@@ -50,56 +50,61 @@ fn bytes_of(x: Expression) -> RuleBytes
 }
 
 // A rule written at a number.
-pub fn put(rules: Rules, k: usize, x: Expression) -> Rules
+pub fn put(rules: &mut [u8; 124], k: usize, x: Expression)
     requires { ⌜ k < max-rules ⌝ }
-    ensures { λ r. ⌜ r ≡ placed-at rules k x ⌝ }
+    ensures { λ r. ⌜ now (rules .exit) ≡ rule-put (now (rules .entry)) k x ⌝ }
 {
     let four = bytes_of(x);
     let at = RULE_BYTES * k;
-    let mut more = rules;
-    more.bytes[at] = four.kind;
-    more.bytes[at + 1] = four.b;
-    more.bytes[at + 2] = four.c;
-    more.bytes[at + 3] = 0;
-    more
+    rules[at] = four.kind;
+    rules[at + 1] = four.b;
+    rules[at + 2] = four.c;
+    rules[at + 3] = 0;
 }
 
 // One helper rule more.
-pub fn added(rules: Rules, x: Expression) -> Rules
-    requires { ⌜ rules .next < max-rules ⌝ }
-    ensures { λ r. ⌜ r ≡ advanced rules (x ∷ []) 0 ⌝ }
+pub fn added(rules: &mut [u8; 124], numbering: Numbering, x: Expression) -> Numbering
+    requires { ⌜ numbering .next < max-rules ⌝ }
+    ensures { λ r. ⌜ rules-of (now (rules .exit)) r ≡ advanced (rules-of (now (rules .entry)) numbering) (x ∷ []) 0 ⌝ }
 {
-    let next = rules.next;
-    let mut more = put(rules, next, x);
-    more.next = next + 1;
-    more
+    let next = numbering.next;
+    put(rules, next, x);
+    Numbering {
+        next: next + 1,
+        left: numbering.left,
+    }
 }
 
 // The three rules of e*, A ← eA / ε.
-pub fn repeated(rules: Rules, operand: u8) -> Rules
-    requires { ⌜ rules .next + 3 ≤ max-rules ⌝ }
-    ensures { λ r. ⌜ r ≡ advanced rules (repetition-rules operand (rules .next)) 0 ⌝ }
+pub fn repeated(rules: &mut [u8; 124], numbering: Numbering, operand: u8) -> Numbering
+    requires { ⌜ numbering .next + 3 ≤ max-rules ⌝ }
+    ensures { λ r. ⌜ rules-of (now (rules .exit)) r ≡
+        advanced (rules-of (now (rules .entry)) numbering) (repetition-rules operand (numbering .next)) 0 ⌝ }
 {
-    let number = rules.next as u8;
-    let choice = added(rules, Expression::Choice(number + 1, number + 2));
-    let sequence = added(choice, Expression::Sequence(operand, number));
-    added(sequence, Expression::Empty)
+    let number = numbering.next as u8;
+    let choice = added(rules, numbering, Expression::Choice(number + 1, number + 2));
+    let sequence = added(rules, choice, Expression::Sequence(operand, number));
+    added(rules, sequence, Expression::Empty)
 }
 
 // An expression gets its own rule, and so its number.
-pub fn numbered(rules: Rules, node: Node) -> Numbered
-    requires { ⌜ rules .next + owed node ≤ max-rules ⌝ }
-    ensures { λ r. ⌜ (r .number ≡ own-number node (rules .next)) × (r .rules ≡ advanced rules (own-rules node (rules .next)) 0) ⌝ }
+pub fn numbered(rules: &mut [u8; 124], numbering: Numbering, node: Node) -> Numbered
+    requires { ⌜ numbering .next + owed node ≤ max-rules ⌝ }
+    ensures { λ r. ⌜ (r .number ≡ own-number node (numbering .next)) ×
+        (rules-of (now (rules .exit)) (r .numbering) ≡ advanced (rules-of (now (rules .entry)) numbering) (own-rules node (numbering .next)) 0) ⌝ }
 {
     match node {
-        Node::Numbered(k) => Numbered { number: k, rules },
+        Node::Numbered(k) => Numbered {
+            number: k,
+            numbering,
+        },
         Node::Operator(x) => Numbered {
-            number: rules.next as u8,
-            rules: added(rules, x),
+            number: numbering.next as u8,
+            numbering: added(rules, numbering, x),
         },
         Node::Repetition(i) => Numbered {
-            number: rules.next as u8,
-            rules: repeated(rules, i),
+            number: numbering.next as u8,
+            numbering: repeated(rules, numbering, i),
         },
     }
 }

@@ -1,7 +1,7 @@
 // Reading an expression of a legal text: recursive descent, a function for each level of the grammar of texts. Each takes the rules that it needs from those
 // that are left, and answers that it does not fit where they are too few. So the remaining depth and the rules left bound how deep the calls go.
+use crate::Numbering;
 use crate::Part;
-use crate::Rules;
 use crate::emitter::numbered;
 use crate::lookahead::FoundPrefix;
 use crate::lookahead::FoundSuffix;
@@ -23,12 +23,14 @@ use syntax::Node;
 use syntax::Sign;
 use syntax::Token;
 ghost use mathlib.Core.Path.{_≡_};
+ghost use mathlib.Core.List.{List};
 ghost use Prim.Native.Nat.{ℕ, _+_, _≤_};
 ghost use lib.ListN.{length};
 ghost use Rattle.syntax.specs.declared.Token.the-variants.{Name};
 ghost use Rattle.syntax.specs.Trees.{choices, parts, prefixes, operand};
 ghost use Rattle.syntax.specs.Compile.{compile-leaf};
-ghost use Rattle.reader.specs.code.Operators.{Part-room};
+ghost use Rattle.reader.specs.code.Building.{rules-of};
+ghost use Rattle.reader.specs.code.Operators.{part-of, Part-room};
 ghost use Rattle.reader.specs.code.Levels.{Room, Name-room, leaf-made, name-made, Passes, Sign-read, Level-read, Suffixes-read};
 
 // A leaf's rule.
@@ -43,48 +45,48 @@ fn leaf_rule(a: Leaf) -> Expression
 }
 
 // An operand that is one rule.
-fn leaf(x: Expression, rules: Rules, at: usize) -> Part
-    ensures { λ r. ⌜ r ≡ leaf-made x rules at ⌝ }
+fn leaf(x: Expression, numbering: Numbering, at: usize) -> Part
+    ensures { λ r. ⌜ ((bytes : List ℕ) → part-of r bytes ≡ leaf-made x (rules-of bytes numbering) at) ⌝ }
 {
-    if rules.left == 0 {
-        return over(rules, at);
+    if numbering.left == 0 {
+        return over(numbering, at);
     }
-    let less = taken(rules, 1);
+    let less = taken(numbering, 1);
     Part {
         fits: true,
         at,
         node: Node::Operator(x),
-        rules: less,
+        numbering: less,
     }
 }
 
 // An operand that is a name.
-fn named(text: &[u8], name: usize, long: usize, rules: Rules, at: usize) -> Part
+fn named(text: &[u8], name: usize, long: usize, numbering: Numbering, at: usize) -> Part
     requires { ⌜ (name + long ≤ length (now text)) × Name-room (now text) ⌝ }
-    ensures { λ r. ⌜ r ≡ name-made (now (text .entry)) name long rules at ⌝ }
+    ensures { λ r. ⌜ ((bytes : List ℕ) → part-of r bytes ≡ name-made (now (text .entry)) name long (rules-of bytes numbering) at) ⌝ }
 {
     let line = line_of(text, name, long);
     Part {
         fits: true,
         at,
         node: Node::Numbered(line as u8),
-        rules,
+        numbering,
     }
 }
 
 // The suffixes after an expression, as many as stand there.
-fn suffixes(text: &[u8], x: Part) -> Part
-    requires { ⌜ Part-room x ⌝ }
-    ensures { λ r. ⌜ Suffixes-read (now (text .entry)) x r ⌝ }
+fn suffixes(text: &[u8], x: Part, rules: &mut [u8; 124]) -> Part
+    requires { ⌜ Part-room (part-of x (now rules)) ⌝ }
+    ensures { λ r. ⌜ Suffixes-read (now (text .entry)) (part-of x (now (rules .entry))) (part-of r (now (rules .exit))) ⌝ }
 {
     let l = peek(text, x.at);
     let token = l.token;
     match suffix_of(token) {
         FoundSuffix::Nothing => x,
         FoundSuffix::Operator(s) => {
-            let more = with_suffix(s, x, l.next);
+            let more = with_suffix(s, x, l.next, rules);
             if more.fits {
-                suffixes(text, more)
+                suffixes(text, more, rules)
             } else {
                 more
             }
@@ -101,79 +103,98 @@ pub fn after(text: &[u8], at: usize) -> usize
 }
 
 // An operand that is a sign: a leaf, or an expression in brackets.
-fn sign_operand(text: &[u8], s: Sign, next: usize, depth: usize, rules: Rules) -> Part
-    requires { ⌜ Room (now text) rules ⌝ }
-    ensures { λ r. ⌜ Sign-read (now (text .entry)) s next depth rules r ⌝ }
+fn sign_operand(
+    text: &[u8],
+    s: Sign,
+    next: usize,
+    depth: usize,
+    numbering: Numbering,
+    rules: &mut [u8; 124],
+) -> Part
+    requires { ⌜ Room (now text) (rules-of (now rules) numbering) ⌝ }
+    ensures { λ r. ⌜ Sign-read (now (text .entry)) s next depth (rules-of (now (rules .entry)) numbering) (part-of r (now (rules .exit))) ⌝ }
 {
     match s {
-        Sign::Operand(a) => leaf(leaf_rule(a), rules, next),
+        Sign::Operand(a) => leaf(leaf_rule(a), numbering, next),
         Sign::Opening => {
             if depth == 0 {
-                return over(rules, next);
+                return over(numbering, next);
             }
-            let inner = expression(text, next, depth - 1, rules);
+            let inner = expression(text, next, depth - 1, numbering, rules);
             let node = inner.node;
-            let made = inner.rules;
+            let made = inner.numbering;
             Part {
                 fits: inner.fits,
                 at: after(text, inner.at),
                 node,
-                rules: made,
+                numbering: made,
             }
         }
-        Sign::Before(_) => over(rules, next),
-        Sign::After(_) => over(rules, next),
-        Sign::Slash => over(rules, next),
-        Sign::Closing => over(rules, next),
-        Sign::Equals => over(rules, next),
-        Sign::Semicolon => over(rules, next),
+        Sign::Before(_) => over(numbering, next),
+        Sign::After(_) => over(numbering, next),
+        Sign::Slash => over(numbering, next),
+        Sign::Closing => over(numbering, next),
+        Sign::Equals => over(numbering, next),
+        Sign::Semicolon => over(numbering, next),
     }
 }
 
 // An operand.
-fn operand(text: &[u8], at: usize, depth: usize, rules: Rules) -> Part
-    requires { ⌜ Room (now text) rules ⌝ }
-    ensures { λ r. ⌜ Level-read operand (now (text .entry)) at depth rules r ⌝ }
+fn operand(
+    text: &[u8],
+    at: usize,
+    depth: usize,
+    numbering: Numbering,
+    rules: &mut [u8; 124],
+) -> Part
+    requires { ⌜ Room (now text) (rules-of (now rules) numbering) ⌝ }
+    ensures { λ r. ⌜ Level-read operand (now (text .entry)) at depth (rules-of (now (rules .entry)) numbering) (part-of r (now (rules .exit))) ⌝ }
 {
     let l = peek(text, at);
     let token = l.token;
     match token {
-        Token::Name(long) => named(text, l.offset, long, rules, l.next),
-        Token::Sign(s) => sign_operand(text, s, l.next, depth, rules),
-        Token::Range(ends) => leaf(Expression::Range(ends.low, ends.high), rules, l.next),
-        Token::Unknown => over(rules, at),
+        Token::Name(long) => named(text, l.offset, long, numbering, l.next),
+        Token::Sign(s) => sign_operand(text, s, l.next, depth, numbering, rules),
+        Token::Range(ends) => leaf(Expression::Range(ends.low, ends.high), numbering, l.next),
+        Token::Unknown => over(numbering, at),
     }
 }
 
 // A part of a sequence: prefixes, an operand, suffixes.
-fn part(text: &[u8], at: usize, depth: usize, rules: Rules) -> Part
-    requires { ⌜ Room (now text) rules ⌝ }
-    ensures { λ r. ⌜ Level-read prefixes (now (text .entry)) at depth rules r ⌝ }
+fn part(text: &[u8], at: usize, depth: usize, numbering: Numbering, rules: &mut [u8; 124]) -> Part
+    requires { ⌜ Room (now text) (rules-of (now rules) numbering) ⌝ }
+    ensures { λ r. ⌜ Level-read prefixes (now (text .entry)) at depth (rules-of (now (rules .entry)) numbering) (part-of r (now (rules .exit))) ⌝ }
 {
     let l = peek(text, at);
     let token = l.token;
     match prefix_of(token) {
         FoundPrefix::Nothing => {
-            let x = operand(text, at, depth, rules);
-            if x.fits { suffixes(text, x) } else { x }
+            let x = operand(text, at, depth, numbering, rules);
+            if x.fits { suffixes(text, x, rules) } else { x }
         }
         FoundPrefix::Operator(p) => {
             let cost = prefix_need(p);
-            if rules.left < cost {
-                return over(rules, at);
+            if numbering.left < cost {
+                return over(numbering, at);
             }
-            let x = part(text, l.next, depth, taken(rules, cost));
-            if x.fits { with_prefix(p, x) } else { x }
+            let x = part(text, l.next, depth, taken(numbering, cost), rules);
+            if x.fits { with_prefix(p, x, rules) } else { x }
         }
     }
 }
 
 // A sequence of parts, to the right.
-fn sequence(text: &[u8], at: usize, depth: usize, rules: Rules) -> Part
-    requires { ⌜ Room (now text) rules ⌝ }
-    ensures { λ r. ⌜ Level-read parts (now (text .entry)) at depth rules r ⌝ }
+fn sequence(
+    text: &[u8],
+    at: usize,
+    depth: usize,
+    numbering: Numbering,
+    rules: &mut [u8; 124],
+) -> Part
+    requires { ⌜ Room (now text) (rules-of (now rules) numbering) ⌝ }
+    ensures { λ r. ⌜ Level-read parts (now (text .entry)) at depth (rules-of (now (rules .entry)) numbering) (part-of r (now (rules .exit))) ⌝ }
 {
-    let first = part(text, at, depth, rules);
+    let first = part(text, at, depth, numbering, rules);
     if !first.fits {
         return first;
     }
@@ -182,32 +203,38 @@ fn sequence(text: &[u8], at: usize, depth: usize, rules: Rules) -> Part
     if !starts(token) {
         return first;
     }
-    let head = begun(first);
-    let made = head.rules;
+    let head = begun(first, rules);
+    let made = head.numbering;
     if !head.fits {
         return over(made, at);
     }
-    let rest = sequence(text, first.at, depth, made);
+    let rest = sequence(text, first.at, depth, made, rules);
     if !rest.fits {
         return rest;
     }
     let node = rest.node;
-    let last = numbered(rest.rules, node);
-    let all = last.rules;
+    let last = numbered(rules, rest.numbering, node);
+    let all = last.numbering;
     Part {
         fits: true,
         at: rest.at,
         node: Node::Operator(Expression::Sequence(head.number, last.number)),
-        rules: all,
+        numbering: all,
     }
 }
 
 // A choice of sequences, to the right: an expression.
-pub fn expression(text: &[u8], at: usize, depth: usize, rules: Rules) -> Part
-    requires { ⌜ Room (now text) rules ⌝ }
-    ensures { λ r. ⌜ Level-read choices (now (text .entry)) at depth rules r ⌝ }
+pub fn expression(
+    text: &[u8],
+    at: usize,
+    depth: usize,
+    numbering: Numbering,
+    rules: &mut [u8; 124],
+) -> Part
+    requires { ⌜ Room (now text) (rules-of (now rules) numbering) ⌝ }
+    ensures { λ r. ⌜ Level-read choices (now (text .entry)) at depth (rules-of (now (rules .entry)) numbering) (part-of r (now (rules .exit))) ⌝ }
 {
-    let first = sequence(text, at, depth, rules);
+    let first = sequence(text, at, depth, numbering, rules);
     if !first.fits {
         return first;
     }
@@ -216,22 +243,22 @@ pub fn expression(text: &[u8], at: usize, depth: usize, rules: Rules) -> Part
     if !is_slash(token) {
         return first;
     }
-    let head = begun(first);
-    let made = head.rules;
+    let head = begun(first, rules);
+    let made = head.numbering;
     if !head.fits {
         return over(made, at);
     }
-    let rest = expression(text, l.next, depth, made);
+    let rest = expression(text, l.next, depth, made, rules);
     if !rest.fits {
         return rest;
     }
     let node = rest.node;
-    let last = numbered(rest.rules, node);
-    let all = last.rules;
+    let last = numbered(rules, rest.numbering, node);
+    let all = last.numbering;
     Part {
         fits: true,
         at: rest.at,
         node: Node::Operator(Expression::Choice(head.number, last.number)),
-        rules: all,
+        numbering: all,
     }
 }

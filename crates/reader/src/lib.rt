@@ -66,32 +66,38 @@ pub struct Rules {
     pub left: usize,
 }
 
-// A rule's number, and the rules with it.
-pub struct Numbered {
-    pub number: u8,
-    pub rules: Rules,
+// The same but for the bytes. Those are lent while lines are read: handed on by value they would be copied in every call.
+pub struct Numbering {
+    pub next: usize,
+    pub left: usize,
 }
 
-// An expression that was read, up to a place: what stands for it, and the rules with those of its parts. It fits if no more rules are needed than were left.
+// A rule's number, and the numbering after it.
+pub struct Numbered {
+    pub number: u8,
+    pub numbering: Numbering,
+}
+
+// An expression that was read, up to a place: what stands for it, and the numbering after the rules of its parts. It fits if no more rules are needed than were left.
 pub struct Part {
     pub fits: bool,
     pub at: usize,
     pub node: Node,
-    pub rules: Rules,
+    pub numbering: Numbering,
 }
 
-// The first part of a sequence or choice, with its number, and the rules with those of the part. It fits if a rule was left.
+// The first part of a sequence or choice, with its number, and the numbering after the part. It fits if a rule was left.
 pub struct Begun {
     pub fits: bool,
     pub number: u8,
-    pub rules: Rules,
+    pub numbering: Numbering,
 }
 
-// A line that was read, up to a place, and the rules with its own. It fits if no more are needed than were left.
+// A line that was read, up to a place, and the numbering after its rules. It fits if no more are needed than were left.
 pub struct LineRead {
     pub fits: bool,
     pub at: usize,
-    pub rules: Rules,
+    pub numbering: Numbering,
 }
 
 // The lines of a text, read into rules. They fit if 31 rules are enough.

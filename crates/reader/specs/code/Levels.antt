@@ -18,10 +18,9 @@ use Rattle.syntax.specs.Needs.{need}
 use Rattle.syntax.specs.Compile.{index-of, compile, owed}
 use Rattle.syntax.specs.code.Heads.{heads}
 use Rattle.reader.specs.declared.Rules.{Rules}
-use Rattle.reader.specs.declared.Part.{Part}
 use Rattle.reader.specs.code.Scanning.{lexemes-at}
 use Rattle.reader.specs.code.Building.{advanced}
-use Rattle.reader.specs.code.Operators.{over, part}
+use Rattle.reader.specs.code.Operators.{Part, over, part}
 
 -- the tokens from a place on
 abbrev pub tokens-at : (text : List ℕ) → (at : ℕ) → List Token

@@ -1,13 +1,12 @@
 -- What reading the lines of a legal text answers: the bytes of their grammar, if 31 rules are enough. Assumes nothing: these are definitions.
 use mathlib.Core.Path.{_≡_}
-use mathlib.Core.Bool.{true, false, cond}
+use mathlib.Core.Bool.{Bool, true, false, cond}
 use mathlib.Core.List.{List, [], _∷_, _++_}
 use Prim.Native.Nat.{ℕ, suc, _+_, _-_, _*_, _<_, _≤_}
 use lib.Dec.{leb}
 use lib.ListN.{length}
 use Rattle.grammar.specs.Grammar.{max-rules}
 use Rattle.grammar.specs.declared.Expression.the-variants.{Sequence, Choice, Empty}
-use Rattle.codec.specs.Bytes.{written}
 use Rattle.syntax.specs.declared.Node.{Node}
 use Rattle.syntax.specs.declared.Node.the-variants.{Numbered, Operator, Repetition}
 use Rattle.syntax.specs.declared.Sign.the-variants.{Equals, Semicolon}
@@ -17,12 +16,22 @@ use Rattle.syntax.specs.Needs.{line-need, needs}
 use Rattle.syntax.specs.Compile.{compile, line-rule, line-helpers, named-from, helpers-from, rule-bytes, encode}
 use Rattle.syntax.specs.code.Heads.{heads}
 use Rattle.reader.specs.declared.Rules.{Rules}
-use Rattle.reader.specs.declared.Part.{Part}
-use Rattle.reader.specs.declared.LineRead.{LineRead}
+use Rattle.reader.specs.declared.LineRead as Code
 use Rattle.reader.specs.declared.Lines.{Lines}
-use Rattle.reader.specs.code.Building.{put-rules, advanced, placed-at}
+use Rattle.reader.specs.code.Building.{rules-of, rule-put, put-rules, advanced, placed-at}
+use Rattle.reader.specs.code.Operators.{Part}
 use Rattle.reader.specs.Calls.{padded}
 use Rattle.reader.specs.code.Levels.{tokens-at, Name-room}
+
+-- a line that was read, and the rules with its own
+pub record LineRead : Type 0 where
+  pub fits : Bool
+  pub at : ℕ
+  pub rules : Rules
+
+-- the code's, over the bytes that were lent
+abbrev pub line-of : Code.LineRead → (bytes : List ℕ) → LineRead
+line-of l bs = record { fits = l .fits; at = l .at; rules = rules-of bs (l .numbering) }
 
 -- the rules that a line may need: those that are left, and its own
 abbrev pub with-left : Rules → Rules
@@ -53,7 +62,7 @@ pub record Line-room (text : List ℕ) (k : ℕ) (r : Rules) : Type 0 where
 pub record Line-done (text : List ℕ) (before : Rules) (k : ℕ) (e : Tree) (us : List Token) (r : LineRead) : Type 0 where
   pub bytes :
       let c = compile (heads text) e (before .next) in
-      r .rules .bytes ≡ written (put-rules (before .bytes) (before .next) (line-helpers c k)) (4 * k) (rule-bytes (line-rule c (before .next)))
+      r .rules .bytes ≡ rule-put (put-rules (before .bytes) (before .next) (line-helpers c k)) k (line-rule c (before .next))
   pub next : r .rules .next ≡ before .next + length (line-helpers (compile (heads text) e (before .next)) k)
   pub rest : tokens-at text (r .at) ≡ us
 

@@ -1,6 +1,6 @@
 -- Operators over an expression that was read, on the code's own structs. Assumes nothing: these are definitions.
-use mathlib.Core.Bool.{true, false, cond}
-use mathlib.Core.List.{[], _∷_}
+use mathlib.Core.Bool.{Bool, true, false, cond}
+use mathlib.Core.List.{List, [], _∷_}
 use Prim.Native.Nat.{ℕ, suc, _+_, _≤_}
 use lib.Dec.{eqb, ltb}
 use Rattle.grammar.specs.Grammar.{max-rules}
@@ -14,9 +14,29 @@ use Rattle.syntax.specs.declared.Suffix.the-variants.{ZeroOrMore, OneOrMore, Op
 use Rattle.syntax.specs.Needs.{prefix-need, suffix-need}
 use Rattle.syntax.specs.Compile.{repetition-rules, own-rules, own-number, owed}
 use Rattle.reader.specs.declared.Rules.{Rules}
-use Rattle.reader.specs.declared.Part.{Part}
-use Rattle.reader.specs.declared.Begun.{Begun}
-use Rattle.reader.specs.code.Building.{advanced}
+use Rattle.reader.specs.declared.Part as Code
+use Rattle.reader.specs.declared.Begun as CodeBegun
+use Rattle.reader.specs.code.Building.{rules-of, advanced}
+
+-- an expression that was read: what stands for it, and the rules with those of its parts
+pub record Part : Type 0 where
+  pub fits : Bool
+  pub at : ℕ
+  pub node : Node
+  pub rules : Rules
+
+-- the code's, over the bytes that were lent
+abbrev pub part-of : Code.Part → (bytes : List ℕ) → Part
+part-of p bs = record { fits = p .fits; at = p .at; node = p .node; rules = rules-of bs (p .numbering) }
+
+-- the first part of a sequence or choice, with its number
+pub record Begun : Type 0 where
+  pub fits : Bool
+  pub number : ℕ
+  pub rules : Rules
+
+abbrev pub begun-with : CodeBegun.Begun → (bytes : List ℕ) → Begun
+begun-with p bs = record { fits = p .fits; number = p .number; rules = rules-of bs (p .numbering) }
 
 -- no expression, or one for which no rules are left
 abbrev pub over : Rules → (at : ℕ) → Part

@@ -1,6 +1,9 @@
 -- `reader::definitions::line` meets its contract. Assumes nothing.
-use borrow.Author.Tests.{not-true, not-false}
 use Rattle.reader.proofs.Lining.{line-over, line-read, line-ready, line-part}
+use Rattle.reader.specs.code.Lines.{LineRead}
+use borrow.Author.Tests.{not-true, not-false}
+use mathlib.Core.Path.{ap}
+use mathlib.Core.List.{[]}
 use borrow.Author.Needs.{needs}
 use Rattle.reader.proofs.definitions.line.Statement.{statement}
 use Rattle.reader.proofs.definitions.line.Tie as tie
@@ -22,22 +25,22 @@ refilled-requires : tie.Need-refilled-requires
 refilled-requires c κs = search needs
 
 expression-requires : tie.Need-expression-requires
-expression-requires c κs = line-ready _ _ _ _ (c .before .before .before .before .pre) (c .refilled .ensures)
+expression-requires c κs = line-ready _ _ _ _ (c .before .before .before .before .before .pre) (c .before .refilled .ensures _)
 
 unread-requires : tie.Need-unread-requires
 unread-requires c κs = search needs
 
 returns : tie.Need-returns
-returns c = line-over _ _ _ _ _ _ (c .before .before .before .before .before .before .before .before .pre) (c .before .before .before .before .before .before .after .ensures) (c .before .before .before .before .before .after2 .ensures) _ (c .before .before .before .before .refilled .ensures) _ (c .before .before .before .expression .ensures) (not-true _ (c .before .if1 .taken)) _ (c .unread .ensures)
+returns c = line-over _ _ _ _ _ _ (c .before .before .before .before .before .before .before .before .before .pre) (c .before .before .before .before .before .before .before .after .ensures) (c .before .before .before .before .before .before .after2 .ensures) _ (c .before .before .before .before .before .refilled .ensures _) _ (c .before .before .before .expression .ensures) (not-true _ (c .before .if1 .taken)) _ (ap (λ (y : LineRead). y .fits) (c .unread .ensures []))
 
 after-requires-3 : tie.Need-after-requires-3
 after-requires-3 c κs = search needs
 
 topped-requires : tie.Need-topped-requires
-topped-requires c κs = (c .before .before .before .before .before .before .before .before .pre .below, line-part _ _ _ _ _ (c .before .before .before .before .before .before .before .before .pre) (c .before .before .before .before .refilled .ensures) (c .before .before .before .expression .ensures .spent (not-false _ (c .before .if1 .left))))
+topped-requires c κs = (c .before .before .before .before .before .before .before .before .before .before .pre .below, line-part _ _ _ _ _ (c .before .before .before .before .before .before .before .before .before .before .pre) (c .before .before .before .before .before .before .refilled .ensures _) (c .before .before .before .before .expression .ensures .spent (not-false _ (c .before .before .if1 .left))))
 
 returns-2 : tie.Need-returns-2
-returns-2 c = line-read _ _ _ _ _ _ (c .before .before .before .before .before .before .before .before .before .pre) (c .before .before .before .before .before .before .before .after .ensures) (c .before .before .before .before .before .before .after2 .ensures) _ (c .before .before .before .before .before .refilled .ensures) _ (c .before .before .before .before .expression .ensures) (not-false _ (c .before .before .if1 .left)) _ (c .before .after3 .ensures) _ (c .topped .ensures)
+returns-2 c = line-read _ _ _ _ _ _ (c .before .before .before .before .before .before .before .before .before .before .before .pre) (c .before .before .before .before .before .before .before .before .before .after .ensures) (c .before .before .before .before .before .before .before .before .after2 .ensures) _ (c .before .before .before .before .before .before .before .refilled .ensures _) _ (c .before .before .before .before .before .expression .ensures) (not-false _ (c .before .before .before .if1 .left)) _ (c .before .before .after3 .ensures) _ (c .topped .ensures)
 
 pub line-spec : {M : Type 1} → statement M
 line-spec =

@@ -10,11 +10,11 @@ use Rattle.reader.proofs.emitter.put.Reads as put-reads
 put-requires : tie.Need-put-requires
 put-requires c κs = search needs
 
-add-more : tie.Need-add-more
-add-more c = search needs
+add-t7 : tie.Need-add-t7
+add-t7 c = search needs
 
 returns : tie.Need-returns
 returns c = one-added _ _ _ (c .put .ensures)
 
 pub added-spec : {M : Type 1} → statement M
-added-spec = tie.close (tie.spec put-requires add-more returns)
+added-spec = tie.close (tie.spec put-requires add-t7 returns)

@@ -13,29 +13,29 @@ bytes-of-requires c κs = search needs
 mul-at : tie.Need-mul-at
 mul-at c = search needs
 
-element-write-more : tie.Need-element-write-more
-element-write-more c = search needs
+element-write-rules : tie.Need-element-write-rules
+element-write-rules c = search needs
 
-add-more : tie.Need-add-more
-add-more c = search needs
+add-rules : tie.Need-add-rules
+add-rules c = search needs
 
-element-write-more-2 : tie.Need-element-write-more-2
-element-write-more-2 c = search needs
+element-write-rules-2 : tie.Need-element-write-rules-2
+element-write-rules-2 c = search needs
 
-add-more-2 : tie.Need-add-more-2
-add-more-2 c = search needs
+add-rules-2 : tie.Need-add-rules-2
+add-rules-2 c = search needs
 
-element-write-more-3 : tie.Need-element-write-more-3
-element-write-more-3 c = search needs
+element-write-rules-3 : tie.Need-element-write-rules-3
+element-write-rules-3 c = search needs
 
-add-more-3 : tie.Need-add-more-3
-add-more-3 c = search needs
+add-rules-3 : tie.Need-add-rules-3
+add-rules-3 c = search needs
 
-element-write-more-4 : tie.Need-element-write-more-4
-element-write-more-4 c = search needs
+element-write-rules-4 : tie.Need-element-write-rules-4
+element-write-rules-4 c = search needs
 
 returns : tie.Need-returns
-returns c = one-put (c .before .args .rules) _ (c .before .args .x) _ _ _ (c .bytes-of .ensures) (search needs) (c .before .pre)
+returns c = one-put _ _ (c .before .args .x) _ _ _ (c .bytes-of .ensures)
 
 pub put-spec : {M : Type 1} → statement M
 put-spec =
@@ -43,11 +43,11 @@ put-spec =
     (tie.spec
     bytes-of-requires
     mul-at
-    element-write-more
-    add-more
-    element-write-more-2
-    add-more-2
-    element-write-more-3
-    add-more-3
-    element-write-more-4
+    element-write-rules
+    add-rules
+    element-write-rules-2
+    add-rules-2
+    element-write-rules-3
+    add-rules-3
+    element-write-rules-4
     returns)

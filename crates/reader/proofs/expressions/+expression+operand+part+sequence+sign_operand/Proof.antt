@@ -5,6 +5,7 @@ use native.Mathlib.Nat.{pos-of-ne-zero}
 use native.Mathlib.Omega.{arith}
 use borrow.Author.Needs.{needs}
 use borrow.Author.Tests.{not-true, not-false}
+use Rattle.reader.specs.code.Operators.{part-of}
 use Rattle.reader.proofs.Lookings.{clash, prefix-here, prefix-not-here}
 use Rattle.reader.proofs.Operands.{part-over, part-suffixed, part-spent}
 use Rattle.reader.proofs.Leaves.{name-there, nothing-spent}
@@ -50,58 +51,58 @@ use Rattle.reader.proofs.expressions.+expression+operand+part+sequence+
   close,
 }
 
-abbrev μ-expression : Measures 1 expression-kinds.ps ℕ
+abbrev μ-expression : Measures 2 expression-kinds.ps ℕ
 μ-expression κs a = (a .1 .1 .0 * 64 + a .1 .1 .1 .0 .left) * 8 + 4
 
-abbrev μ-operand : Measures 1 operand-kinds.ps ℕ
+abbrev μ-operand : Measures 2 operand-kinds.ps ℕ
 μ-operand κs a = (a .1 .1 .0 * 64 + a .1 .1 .1 .0 .left) * 8 + 1
 
-abbrev μ-part : Measures 1 part-kinds.ps ℕ
+abbrev μ-part : Measures 2 part-kinds.ps ℕ
 μ-part κs a = (a .1 .1 .0 * 64 + a .1 .1 .1 .0 .left) * 8 + 2
 
-abbrev μ-sequence : Measures 1 sequence-kinds.ps ℕ
+abbrev μ-sequence : Measures 2 sequence-kinds.ps ℕ
 μ-sequence κs a = (a .1 .1 .0 * 64 + a .1 .1 .1 .0 .left) * 8 + 3
 
-abbrev μ-sign-operand : Measures 1 sign-operand-kinds.ps ℕ
+abbrev μ-sign-operand : Measures 2 sign-operand-kinds.ps ℕ
 μ-sign-operand κs a = (a .1 .1 .1 .0 * 64 + a .1 .1 .1 .1 .0 .left) * 8
 
-abbrev expression-at : ℕ → In 1 expression-kinds.ps
+abbrev expression-at : ℕ → In 2 expression-kinds.ps
 expression-at t =
-    and 1 expression-kinds.ps (is 1 expression-kinds.ps μ-expression t) expression.Pre
+    and 2 expression-kinds.ps (is 2 expression-kinds.ps μ-expression t) expression.Pre
 
-abbrev expression-below : ℕ → In 1 expression-kinds.ps
+abbrev expression-below : ℕ → In 2 expression-kinds.ps
 expression-below t =
-    and 1 expression-kinds.ps (falls 1 expression-kinds.ps _<_ μ-expression t) expression.Pre
+    and 2 expression-kinds.ps (falls 2 expression-kinds.ps _<_ μ-expression t) expression.Pre
 
-abbrev operand-at : ℕ → In 1 operand-kinds.ps
-operand-at t = and 1 operand-kinds.ps (is 1 operand-kinds.ps μ-operand t) operand.Pre
+abbrev operand-at : ℕ → In 2 operand-kinds.ps
+operand-at t = and 2 operand-kinds.ps (is 2 operand-kinds.ps μ-operand t) operand.Pre
 
-abbrev operand-below : ℕ → In 1 operand-kinds.ps
-operand-below t = and 1 operand-kinds.ps (falls 1 operand-kinds.ps _<_ μ-operand t) operand.Pre
+abbrev operand-below : ℕ → In 2 operand-kinds.ps
+operand-below t = and 2 operand-kinds.ps (falls 2 operand-kinds.ps _<_ μ-operand t) operand.Pre
 
-abbrev part-at : ℕ → In 1 part-kinds.ps
-part-at t = and 1 part-kinds.ps (is 1 part-kinds.ps μ-part t) part.Pre
+abbrev part-at : ℕ → In 2 part-kinds.ps
+part-at t = and 2 part-kinds.ps (is 2 part-kinds.ps μ-part t) part.Pre
 
-abbrev part-below : ℕ → In 1 part-kinds.ps
-part-below t = and 1 part-kinds.ps (falls 1 part-kinds.ps _<_ μ-part t) part.Pre
+abbrev part-below : ℕ → In 2 part-kinds.ps
+part-below t = and 2 part-kinds.ps (falls 2 part-kinds.ps _<_ μ-part t) part.Pre
 
-abbrev sequence-at : ℕ → In 1 sequence-kinds.ps
-sequence-at t = and 1 sequence-kinds.ps (is 1 sequence-kinds.ps μ-sequence t) sequence.Pre
+abbrev sequence-at : ℕ → In 2 sequence-kinds.ps
+sequence-at t = and 2 sequence-kinds.ps (is 2 sequence-kinds.ps μ-sequence t) sequence.Pre
 
-abbrev sequence-below : ℕ → In 1 sequence-kinds.ps
+abbrev sequence-below : ℕ → In 2 sequence-kinds.ps
 sequence-below t =
-    and 1 sequence-kinds.ps (falls 1 sequence-kinds.ps _<_ μ-sequence t) sequence.Pre
+    and 2 sequence-kinds.ps (falls 2 sequence-kinds.ps _<_ μ-sequence t) sequence.Pre
 
-abbrev sign-operand-at : ℕ → In 1 sign-operand-kinds.ps
+abbrev sign-operand-at : ℕ → In 2 sign-operand-kinds.ps
 sign-operand-at t =
-    and 1 sign-operand-kinds.ps (is 1 sign-operand-kinds.ps μ-sign-operand t) sign-operand.Pre
+    and 2 sign-operand-kinds.ps (is 2 sign-operand-kinds.ps μ-sign-operand t) sign-operand.Pre
 
-abbrev sign-operand-below : ℕ → In 1 sign-operand-kinds.ps
+abbrev sign-operand-below : ℕ → In 2 sign-operand-kinds.ps
 sign-operand-below t =
     and
-    1
+    2
     sign-operand-kinds.ps
-    (falls 1 sign-operand-kinds.ps _<_ μ-sign-operand t)
+    (falls 2 sign-operand-kinds.ps _<_ μ-sign-operand t)
     sign-operand.Pre
 
 abbrev expression-claims : ℕ → expression-lts.Claims
@@ -120,7 +121,7 @@ abbrev sign-operand-claims : ℕ → sign-operand-lts.Claims
 sign-operand-claims t = (leaf-rule-reads.Asked, leaf-rule-reads.Learnt, leaf-reads.Asked, leaf-reads.Learnt, over-reads.Asked, over-reads.Learnt, expression-below t, expression.Post, after-reads.Asked, after-reads.Learnt)
 
 expression-sequence-requires : (t : ℕ) → expression-lts.Need-sequence-requires (expression-claims t) (expression-at t) expression.Post
-expression-sequence-requires t c κs = (omega (arith, c .before .pre .0), c .before .pre .1)
+expression-sequence-requires t c κs = (omega (arith, c .before .before .pre .0), c .before .before .pre .1)
 
 expression-returns : (t : ℕ) → expression-lts.Need-returns (expression-claims t) (expression-at t) expression.Post
 expression-returns t c = joined-over _ (choosing _) _ _ _ _ (c .before .before .sequence .ensures) (not-true _ (c .if1 .taken))
@@ -135,27 +136,27 @@ expression-returns-2 : (t : ℕ) → expression-lts.Need-returns-2 (expression-c
 expression-returns-2 t c = joined-alone _ (choosing _) _ _ _ _ (c .before .before .before .before .before .sequence .ensures) (not-false _ (c .before .before .before .if1 .left)) _ (c .before .before .peek .ensures) (sym (c .before .is-slash .ensures) ∙ not-true _ (c .if2 .taken))
 
 expression-begun-requires : (t : ℕ) → expression-lts.Need-begun-requires (expression-claims t) (expression-at t) expression.Post
-expression-begun-requires t c κs = spent-room _ _ _ (c .before .before .before .before .before .before .before .pre .1) (c .before .before .before .before .before .sequence .ensures .spent (not-false _ (c .before .before .before .if1 .left)))
+expression-begun-requires t c κs = spent-room _ _ _ (c .before .before .before .before .before .before .before .before .before .pre .1) (c .before .before .before .before .before .before .sequence .ensures .spent (not-false _ (c .before .before .before .before .if1 .left)))
 
 expression-over-requires : (t : ℕ) → expression-lts.Need-over-requires (expression-claims t) (expression-at t) expression.Post
 expression-over-requires t c κs = search needs
 
 expression-returns-3 : (t : ℕ) → expression-lts.Need-returns-3 (expression-claims t) (expression-at t) expression.Post
-expression-returns-3 t c = joined-none _ (choosing _) _ _ _ _ (c .before .before .before .before .before .before .before .before .before .before .sequence .ensures) (not-false _ (c .before .before .before .before .before .before .before .before .if1 .left)) _ (c .before .before .before .before .before .before .before .peek .ensures) (sym (c .before .before .before .before .before .before .is-slash .ensures) ∙ not-false _ (c .before .before .before .before .before .if2 .left)) _ (c .before .before .before .before .begun .ensures) (not-true _ (c .before .if3 .taken)) _ (c .over .ensures)
+expression-returns-3 t c = joined-none _ (choosing _) _ _ _ _ (c .before .before .before .before .before .before .before .before .before .before .before .sequence .ensures) (not-false _ (c .before .before .before .before .before .before .before .before .before .if1 .left)) _ (c .before .before .before .before .before .before .before .before .peek .ensures) (sym (c .before .before .before .before .before .before .before .is-slash .ensures) ∙ not-false _ (c .before .before .before .before .before .before .if2 .left)) _ (c .before .before .before .before .begun .ensures) (not-true _ (c .before .if3 .taken)) _ (c .over .ensures _)
 
 expression-expression-requires : (t : ℕ) → expression-lts.Need-expression-requires (expression-claims t) (expression-at t) expression.Post
 expression-expression-requires t c κs =
-    let (room, less) = rest-room _ (choosing _) _ _ _ _ (c .before .before .before .before .before .before .before .before .before .sequence .ensures) (not-false _ (c .before .before .before .before .before .before .before .if1 .left)) _ (c .before .before .before .before .before .before .peek .ensures) (sym (c .before .before .before .before .before .is-slash .ensures) ∙ not-false _ (c .before .before .before .before .if2 .left)) _ (c .before .before .before .begun .ensures) (c .before .before .before .before .before .before .before .before .before .before .before .pre .1) (not-false _ (c .if3 .left)) in
-    (omega (arith, less, c .before .before .before .before .before .before .before .before .before .before .before .pre .0), room)
+    let (room, less) = rest-room _ (choosing _) _ _ _ _ (c .before .before .before .before .before .before .before .before .before .before .before .sequence .ensures) (not-false _ (c .before .before .before .before .before .before .before .before .before .if1 .left)) _ (c .before .before .before .before .before .before .before .before .peek .ensures) (sym (c .before .before .before .before .before .before .before .is-slash .ensures) ∙ not-false _ (c .before .before .before .before .before .before .if2 .left)) _ (c .before .before .before .before .begun .ensures) (c .before .before .before .before .before .before .before .before .before .before .before .before .before .before .pre .1) (not-false _ (c .before .if3 .left)) in
+    (omega (arith, less, c .before .before .before .before .before .before .before .before .before .before .before .before .before .before .pre .0), room)
 
 expression-returns-4 : (t : ℕ) → expression-lts.Need-returns-4 (expression-claims t) (expression-at t) expression.Post
-expression-returns-4 t c = joined-rest-over _ (choosing _) _ _ _ _ (c .before .before .before .before .before .before .before .before .before .before .before .before .sequence .ensures) (not-false _ (c .before .before .before .before .before .before .before .before .before .before .if1 .left)) _ (c .before .before .before .before .before .before .before .before .before .peek .ensures) (sym (c .before .before .before .before .before .before .before .before .is-slash .ensures) ∙ not-false _ (c .before .before .before .before .before .before .before .if2 .left)) _ (c .before .before .before .before .before .before .begun .ensures) (c .before .before .before .before .before .before .before .before .before .before .before .before .before .before .pre .1) (not-false _ (c .before .before .before .if3 .left)) _ (c .before .before .expression .ensures) (not-true _ (c .if4 .taken))
+expression-returns-4 t c = joined-rest-over _ (choosing _) _ _ _ _ (c .before .before .before .before .before .before .before .before .before .before .before .before .before .before .sequence .ensures) (not-false _ (c .before .before .before .before .before .before .before .before .before .before .before .before .if1 .left)) _ (c .before .before .before .before .before .before .before .before .before .before .before .peek .ensures) (sym (c .before .before .before .before .before .before .before .before .before .before .is-slash .ensures) ∙ not-false _ (c .before .before .before .before .before .before .before .before .before .if2 .left)) _ (c .before .before .before .before .before .before .before .begun .ensures) (c .before .before .before .before .before .before .before .before .before .before .before .before .before .before .before .before .before .pre .1) (not-false _ (c .before .before .before .before .if3 .left)) _ (c .before .before .expression .ensures) (not-true _ (c .if4 .taken))
 
 expression-numbered-requires : (t : ℕ) → expression-lts.Need-numbered-requires (expression-claims t) (expression-at t) expression.Post
-expression-numbered-requires t c κs = last-fits _ (choosing _) _ _ _ _ (c .before .before .before .before .before .before .before .before .before .before .before .before .sequence .ensures) (not-false _ (c .before .before .before .before .before .before .before .before .before .before .if1 .left)) _ (c .before .before .before .before .before .before .before .before .before .peek .ensures) (sym (c .before .before .before .before .before .before .before .before .is-slash .ensures) ∙ not-false _ (c .before .before .before .before .before .before .before .if2 .left)) _ (c .before .before .before .before .before .before .begun .ensures) (c .before .before .before .before .before .before .before .before .before .before .before .before .before .before .pre .1) (not-false _ (c .before .before .before .if3 .left)) _ (c .before .before .expression .ensures) (not-false _ (c .if4 .left))
+expression-numbered-requires t c κs = last-fits _ (choosing _) _ _ _ _ (c .before .before .before .before .before .before .before .before .before .before .before .before .before .before .before .sequence .ensures) (not-false _ (c .before .before .before .before .before .before .before .before .before .before .before .before .before .if1 .left)) _ (c .before .before .before .before .before .before .before .before .before .before .before .before .peek .ensures) (sym (c .before .before .before .before .before .before .before .before .before .before .before .is-slash .ensures) ∙ not-false _ (c .before .before .before .before .before .before .before .before .before .before .if2 .left)) _ (c .before .before .before .before .before .before .before .before .begun .ensures) (c .before .before .before .before .before .before .before .before .before .before .before .before .before .before .before .before .before .before .pre .1) (not-false _ (c .before .before .before .before .before .if3 .left)) _ (c .before .before .before .expression .ensures) (not-false _ (c .before .if4 .left))
 
 expression-returns-5 : (t : ℕ) → expression-lts.Need-returns-5 (expression-claims t) (expression-at t) expression.Post
-expression-returns-5 t c = joined-both _ (choosing _) _ _ _ _ (c .before .before .before .before .before .before .before .before .before .before .before .before .before .before .sequence .ensures) (not-false _ (c .before .before .before .before .before .before .before .before .before .before .before .before .if1 .left)) _ (c .before .before .before .before .before .before .before .before .before .before .before .peek .ensures) (sym (c .before .before .before .before .before .before .before .before .before .before .is-slash .ensures) ∙ not-false _ (c .before .before .before .before .before .before .before .before .before .if2 .left)) _ (c .before .before .before .before .before .before .before .before .begun .ensures) (c .before .before .before .before .before .before .before .before .before .before .before .before .before .before .before .before .pre .1) (not-false _ (c .before .before .before .before .before .if3 .left)) _ (c .before .before .before .before .expression .ensures) (not-false _ (c .before .before .if4 .left)) _ _ (c .before .numbered .ensures .0) (c .before .numbered .ensures .1)
+expression-returns-5 t c = joined-both _ (choosing _) _ _ _ _ (c .before .before .before .before .before .before .before .before .before .before .before .before .before .before .before .before .before .sequence .ensures) (not-false _ (c .before .before .before .before .before .before .before .before .before .before .before .before .before .before .before .if1 .left)) _ (c .before .before .before .before .before .before .before .before .before .before .before .before .before .before .peek .ensures) (sym (c .before .before .before .before .before .before .before .before .before .before .before .before .before .is-slash .ensures) ∙ not-false _ (c .before .before .before .before .before .before .before .before .before .before .before .before .if2 .left)) _ (c .before .before .before .before .before .before .before .before .before .before .begun .ensures) (c .before .before .before .before .before .before .before .before .before .before .before .before .before .before .before .before .before .before .before .before .pre .1) (not-false _ (c .before .before .before .before .before .before .before .if3 .left)) _ (c .before .before .before .before .before .expression .ensures) (not-false _ (c .before .before .before .if4 .left)) _ _ (c .before .numbered .ensures .0) (c .before .numbered .ensures .1)
 
 operand-peek-requires : (t : ℕ) → operand-lts.Need-peek-requires (operand-claims t) (operand-at t) operand.Post
 operand-peek-requires t c κs = search needs
@@ -170,7 +171,7 @@ operand-enum-known-token-2 : (t : ℕ) → operand-lts.Need-enum-known-token-2 (
 operand-enum-known-token-2 t c = search needs
 
 operand-sign-operand-requires : (t : ℕ) → operand-lts.Need-sign-operand-requires (operand-claims t) (operand-at t) operand.Post
-operand-sign-operand-requires t c κs = (omega (arith, c .before .before .before .before .before .pre .0), c .before .before .before .before .before .pre .1)
+operand-sign-operand-requires t c κs = (omega (arith, c .before .before .before .before .before .before .pre .0), c .before .before .before .before .before .before .pre .1)
 
 operand-enum-known-token-3 : (t : ℕ) → operand-lts.Need-enum-known-token-3 (operand-claims t) (operand-at t) operand.Post
 operand-enum-known-token-3 t c = search needs
@@ -185,16 +186,16 @@ operand-over-requires : (t : ℕ) → operand-lts.Need-over-requires (operand-cl
 operand-over-requires t c κs = search needs
 
 operand-returns : (t : ℕ) → operand-lts.Need-returns (operand-claims t) (operand-at t) operand.Post
-operand-returns t c = named-operand _ _ _ _ _ _ _ (c .before .before .before .before .peek .ensures) (c .before .before .token .given .1) (c .named .ensures)
+operand-returns t c = named-operand _ _ _ _ _ _ _ (c .before .before .before .before .peek .ensures) (c .before .before .token .given .1) (c .named .ensures _)
 
 operand-returns-2 : (t : ℕ) → operand-lts.Need-returns-2 (operand-claims t) (operand-at t) operand.Post
-operand-returns-2 t c = signed-operand _ _ _ _ _ _ _ (c .before .before .before .before .peek .ensures) (c .before .before .token2 .given .1) (c .sign-operand .ensures)
+operand-returns-2 t c = signed-operand _ _ _ _ _ _ _ (c .before .before .before .before .before .peek .ensures) (c .before .before .before .token2 .given .1) (c .sign-operand .ensures)
 
 operand-returns-3 : (t : ℕ) → operand-lts.Need-returns-3 (operand-claims t) (operand-at t) operand.Post
-operand-returns-3 t c = ranged-operand _ _ _ _ _ _ _ (c .before .before .before .before .peek .ensures) (c .before .before .token3 .given .1) (c .leaf .ensures)
+operand-returns-3 t c = ranged-operand _ _ _ _ _ _ _ (c .before .before .before .before .peek .ensures) (c .before .before .token3 .given .1) (c .leaf .ensures _)
 
 operand-returns-4 : (t : ℕ) → operand-lts.Need-returns-4 (operand-claims t) (operand-at t) operand.Post
-operand-returns-4 t c = no-operand-there _ _ _ _ _ _ _ (c .before .before .before .peek .ensures) (c .before .enum-told .given .1) (c .over .ensures)
+operand-returns-4 t c = no-operand-there _ _ _ _ _ _ _ (c .before .before .before .peek .ensures) (c .before .enum-told .given .1) (c .over .ensures _)
 
 part-peek-requires : (t : ℕ) → part-lts.Need-peek-requires (part-claims t) (part-at t) part.Post
 part-peek-requires t c κs = search needs
@@ -206,10 +207,10 @@ part-enum-told : (t : ℕ) → part-lts.Need-enum-told (part-claims t) (part-at 
 part-enum-told t c = search needs
 
 part-operand-requires : (t : ℕ) → part-lts.Need-operand-requires (part-claims t) (part-at t) part.Post
-part-operand-requires t c κs = (omega (arith, c .before .before .before .before .before .pre .0), c .before .before .before .before .before .pre .1)
+part-operand-requires t c κs = (omega (arith, c .before .before .before .before .before .before .pre .0), c .before .before .before .before .before .before .pre .1)
 
 part-suffixes-requires : (t : ℕ) → part-lts.Need-suffixes-requires (part-claims t) (part-at t) part.Post
-part-suffixes-requires t c κs = spent-room _ _ _ (c .before .before .before .before .before .before .before .pre .1) (c .before .operand .ensures .spent (c .if1 .taken))
+part-suffixes-requires t c κs = spent-room _ _ _ (c .before .before .before .before .before .before .before .before .before .pre .1) (c .before .before .operand .ensures .spent (c .before .if1 .taken))
 
 part-enum-known-p : (t : ℕ) → part-lts.Need-enum-known-p (part-claims t) (part-at t) part.Post
 part-enum-known-p t c = search needs
@@ -221,41 +222,41 @@ part-over-requires : (t : ℕ) → part-lts.Need-over-requires (part-claims t) (
 part-over-requires t c κs = search needs
 
 part-returns : (t : ℕ) → part-lts.Need-returns (part-claims t) (part-at t) part.Post
-part-returns t c = prefix-over-read _ _ _ _ _ _ (prefix-here _ _ _ (c .before .before .before .before .before .before .before .before .peek .ensures) _ (sym (c .before .before .before .before .before .before .before .prefix-of .ensures) ∙ c .before .before .before .before .before .p .given .1)) _ (c .before .before .before .prefix-need .ensures) (c .before .if2 .taken) _ _ (c .over .ensures)
+part-returns t c = prefix-over-read _ _ _ _ _ _ (prefix-here _ _ _ (c .before .before .before .before .before .before .before .before .peek .ensures) _ (sym (c .before .before .before .before .before .before .before .prefix-of .ensures) ∙ c .before .before .before .before .before .p .given .1)) _ (c .before .before .before .prefix-need .ensures) (c .before .if2 .taken) _ _ (c .over .ensures _)
 
 part-taken-requires : (t : ℕ) → part-lts.Need-taken-requires (part-claims t) (part-at t) part.Post
 part-taken-requires t c κs = search needs
 
 part-part-requires : (t : ℕ) → part-lts.Need-part-requires (part-claims t) (part-at t) part.Post
 part-part-requires t c κs =
-    let (room, less) = prefix-taken _ _ _ _ _ (c .before .before .before .prefix-need .ensures) (c .taken .ensures) (c .before .if2 .left) (c .before .before .before .before .before .before .before .before .before .before .pre .1) in
-    (omega (arith, less, c .before .before .before .before .before .before .before .before .before .before .pre .0), room)
+    let (room, less) = prefix-taken _ _ _ _ _ (c .before .before .before .before .prefix-need .ensures) (c .before .taken .ensures _) (c .before .before .if2 .left) (c .before .before .before .before .before .before .before .before .before .before .before .pre .1) in
+    (omega (arith, less, c .before .before .before .before .before .before .before .before .before .before .before .pre .0), room)
 
 part-with-prefix-requires : (t : ℕ) → part-lts.Need-with-prefix-requires (part-claims t) (part-at t) part.Post
-part-with-prefix-requires t c κs = prefix-fits-room _ _ _ _ _ _ (c .before .before .before .before .before .prefix-need .ensures) (c .before .before .taken .ensures) (c .before .before .before .if2 .left) (c .before .before .before .before .before .before .before .before .before .before .before .before .pre .1) (c .before .part .ensures .spent (c .if3 .taken))
+part-with-prefix-requires t c κs = prefix-fits-room _ _ _ _ _ _ (c .before .before .before .before .before .before .before .prefix-need .ensures) (c .before .before .before .before .taken .ensures _) (c .before .before .before .before .before .if2 .left) (c .before .before .before .before .before .before .before .before .before .before .before .before .before .before .pre .1) (c .before .before .part .ensures .spent (c .before .if3 .taken))
 
 part-returns-2 : (t : ℕ) → part-lts.Need-returns-2 (part-claims t) (part-at t) part.Post
 part-returns-2 t c =
     record {
-      right = part-suffixed _ _ _ _ (prefix-not-here _ _ _ (c .before .before .before .before .before .before .peek .ensures) (sym (c .before .before .before .before .before .prefix-of .ensures) ∙ c .before .before .before .enum-told .given .1)) _ (c .before .before .operand .ensures .right) (c .before .if1 .taken) _ (c .suffixes .ensures .right);
-      spent = λ f. part-spent _ (c .before .before .operand .result) _ (c .before .before .operand .ensures .spent (c .before .if1 .taken)) (c .suffixes .ensures .spent f);
+      right = part-suffixed _ _ _ _ (prefix-not-here _ _ _ (c .before .before .before .before .before .before .before .before .peek .ensures) (sym (c .before .before .before .before .before .before .before .prefix-of .ensures) ∙ c .before .before .before .before .before .enum-told .given .1)) _ (c .before .before .before .operand .ensures .right) (c .before .before .if1 .taken) _ (c .suffixes .ensures .right);
+      spent = λ f. part-spent _ (part-of (c .before .before .before .operand .result) _) _ (c .before .before .before .operand .ensures .spent (c .before .before .if1 .taken)) (c .suffixes .ensures .spent f);
     }
 
 part-returns-3 : (t : ℕ) → part-lts.Need-returns-3 (part-claims t) (part-at t) part.Post
 part-returns-3 t c =
     record {
-      right = part-over _ _ _ _ (prefix-not-here _ _ _ (c .before .before .before .before .before .peek .ensures) (sym (c .before .before .before .before .prefix-of .ensures) ∙ c .before .before .enum-told .given .1)) _ (c .before .operand .ensures .right) (c .if1 .left);
+      right = part-over _ _ _ _ (prefix-not-here _ _ _ (c .before .before .before .before .before .before .peek .ensures) (sym (c .before .before .before .before .before .prefix-of .ensures) ∙ c .before .before .before .enum-told .given .1)) _ (c .before .operand .ensures .right) (c .if1 .left);
       spent = nothing-spent _ _ _ (c .if1 .left);
     }
 
 part-returns-4 : (t : ℕ) → part-lts.Need-returns-4 (part-claims t) (part-at t) part.Post
-part-returns-4 t c = prefix-read _ _ _ _ _ _ (prefix-here _ _ _ (c .before .before .before .before .before .before .before .before .before .before .before .peek .ensures) _ (sym (c .before .before .before .before .before .before .before .before .before .before .prefix-of .ensures) ∙ c .before .before .before .before .before .before .before .before .p .given .1)) _ (c .before .before .before .before .before .before .prefix-need .ensures) _ (c .before .before .before .taken .ensures) (c .before .before .before .before .if2 .left) _ (c .before .before .part .ensures) (c .before .if3 .taken) _ (c .with-prefix .ensures)
+part-returns-4 t c = prefix-read _ _ _ _ _ _ (prefix-here _ _ _ (c .before .before .before .before .before .before .before .before .before .before .before .before .before .peek .ensures) _ (sym (c .before .before .before .before .before .before .before .before .before .before .before .before .prefix-of .ensures) ∙ c .before .before .before .before .before .before .before .before .before .before .p .given .1)) _ (c .before .before .before .before .before .before .before .before .prefix-need .ensures) _ (c .before .before .before .before .before .taken .ensures _) (c .before .before .before .before .before .before .if2 .left) _ (c .before .before .before .part .ensures) (c .before .before .if3 .taken) _ (c .with-prefix .ensures)
 
 part-returns-5 : (t : ℕ) → part-lts.Need-returns-5 (part-claims t) (part-at t) part.Post
-part-returns-5 t c = prefix-inner-over _ _ _ _ _ _ (prefix-here _ _ _ (c .before .before .before .before .before .before .before .before .before .before .peek .ensures) _ (sym (c .before .before .before .before .before .before .before .before .before .prefix-of .ensures) ∙ c .before .before .before .before .before .before .before .p .given .1)) _ (c .before .before .before .before .before .prefix-need .ensures) _ (c .before .before .taken .ensures) (c .before .before .before .if2 .left) _ (c .before .part .ensures) (c .if3 .left)
+part-returns-5 t c = prefix-inner-over _ _ _ _ _ _ (prefix-here _ _ _ (c .before .before .before .before .before .before .before .before .before .before .before .peek .ensures) _ (sym (c .before .before .before .before .before .before .before .before .before .before .prefix-of .ensures) ∙ c .before .before .before .before .before .before .before .before .p .given .1)) _ (c .before .before .before .before .before .before .prefix-need .ensures) _ (c .before .before .before .taken .ensures _) (c .before .before .before .before .if2 .left) _ (c .before .part .ensures) (c .if3 .left)
 
 sequence-part-requires : (t : ℕ) → sequence-lts.Need-part-requires (sequence-claims t) (sequence-at t) sequence.Post
-sequence-part-requires t c κs = (omega (arith, c .before .pre .0), c .before .pre .1)
+sequence-part-requires t c κs = (omega (arith, c .before .before .pre .0), c .before .before .pre .1)
 
 sequence-returns : (t : ℕ) → sequence-lts.Need-returns (sequence-claims t) (sequence-at t) sequence.Post
 sequence-returns t c = joined-over _ (sequencing _) _ _ _ _ (c .before .before .part .ensures) (not-true _ (c .if1 .taken))
@@ -270,27 +271,27 @@ sequence-returns-2 : (t : ℕ) → sequence-lts.Need-returns-2 (sequence-claims 
 sequence-returns-2 t c = joined-alone _ (sequencing _) _ _ _ _ (c .before .before .before .before .before .part .ensures) (not-false _ (c .before .before .before .if1 .left)) _ (c .before .before .peek .ensures) (sym (c .before .starts .ensures) ∙ not-true _ (c .if2 .taken))
 
 sequence-begun-requires : (t : ℕ) → sequence-lts.Need-begun-requires (sequence-claims t) (sequence-at t) sequence.Post
-sequence-begun-requires t c κs = spent-room _ _ _ (c .before .before .before .before .before .before .before .pre .1) (c .before .before .before .before .before .part .ensures .spent (not-false _ (c .before .before .before .if1 .left)))
+sequence-begun-requires t c κs = spent-room _ _ _ (c .before .before .before .before .before .before .before .before .before .pre .1) (c .before .before .before .before .before .before .part .ensures .spent (not-false _ (c .before .before .before .before .if1 .left)))
 
 sequence-over-requires : (t : ℕ) → sequence-lts.Need-over-requires (sequence-claims t) (sequence-at t) sequence.Post
 sequence-over-requires t c κs = search needs
 
 sequence-returns-3 : (t : ℕ) → sequence-lts.Need-returns-3 (sequence-claims t) (sequence-at t) sequence.Post
-sequence-returns-3 t c = joined-none _ (sequencing _) _ _ _ _ (c .before .before .before .before .before .before .before .before .before .before .part .ensures) (not-false _ (c .before .before .before .before .before .before .before .before .if1 .left)) _ (c .before .before .before .before .before .before .before .peek .ensures) (sym (c .before .before .before .before .before .before .starts .ensures) ∙ not-false _ (c .before .before .before .before .before .if2 .left)) _ (c .before .before .before .before .begun .ensures) (not-true _ (c .before .if3 .taken)) _ (c .over .ensures)
+sequence-returns-3 t c = joined-none _ (sequencing _) _ _ _ _ (c .before .before .before .before .before .before .before .before .before .before .before .part .ensures) (not-false _ (c .before .before .before .before .before .before .before .before .before .if1 .left)) _ (c .before .before .before .before .before .before .before .before .peek .ensures) (sym (c .before .before .before .before .before .before .before .starts .ensures) ∙ not-false _ (c .before .before .before .before .before .before .if2 .left)) _ (c .before .before .before .before .begun .ensures) (not-true _ (c .before .if3 .taken)) _ (c .over .ensures _)
 
 sequence-sequence-requires : (t : ℕ) → sequence-lts.Need-sequence-requires (sequence-claims t) (sequence-at t) sequence.Post
 sequence-sequence-requires t c κs =
-    let (room, less) = rest-room _ (sequencing _) _ _ _ _ (c .before .before .before .before .before .before .before .before .before .part .ensures) (not-false _ (c .before .before .before .before .before .before .before .if1 .left)) _ (c .before .before .before .before .before .before .peek .ensures) (sym (c .before .before .before .before .before .starts .ensures) ∙ not-false _ (c .before .before .before .before .if2 .left)) _ (c .before .before .before .begun .ensures) (c .before .before .before .before .before .before .before .before .before .before .before .pre .1) (not-false _ (c .if3 .left)) in
-    (omega (arith, less, c .before .before .before .before .before .before .before .before .before .before .before .pre .0), room)
+    let (room, less) = rest-room _ (sequencing _) _ _ _ _ (c .before .before .before .before .before .before .before .before .before .before .before .part .ensures) (not-false _ (c .before .before .before .before .before .before .before .before .before .if1 .left)) _ (c .before .before .before .before .before .before .before .before .peek .ensures) (sym (c .before .before .before .before .before .before .before .starts .ensures) ∙ not-false _ (c .before .before .before .before .before .before .if2 .left)) _ (c .before .before .before .before .begun .ensures) (c .before .before .before .before .before .before .before .before .before .before .before .before .before .before .pre .1) (not-false _ (c .before .if3 .left)) in
+    (omega (arith, less, c .before .before .before .before .before .before .before .before .before .before .before .before .before .before .pre .0), room)
 
 sequence-returns-4 : (t : ℕ) → sequence-lts.Need-returns-4 (sequence-claims t) (sequence-at t) sequence.Post
-sequence-returns-4 t c = joined-rest-over _ (sequencing _) _ _ _ _ (c .before .before .before .before .before .before .before .before .before .before .before .before .part .ensures) (not-false _ (c .before .before .before .before .before .before .before .before .before .before .if1 .left)) _ (c .before .before .before .before .before .before .before .before .before .peek .ensures) (sym (c .before .before .before .before .before .before .before .before .starts .ensures) ∙ not-false _ (c .before .before .before .before .before .before .before .if2 .left)) _ (c .before .before .before .before .before .before .begun .ensures) (c .before .before .before .before .before .before .before .before .before .before .before .before .before .before .pre .1) (not-false _ (c .before .before .before .if3 .left)) _ (c .before .before .sequence .ensures) (not-true _ (c .if4 .taken))
+sequence-returns-4 t c = joined-rest-over _ (sequencing _) _ _ _ _ (c .before .before .before .before .before .before .before .before .before .before .before .before .before .before .part .ensures) (not-false _ (c .before .before .before .before .before .before .before .before .before .before .before .before .if1 .left)) _ (c .before .before .before .before .before .before .before .before .before .before .before .peek .ensures) (sym (c .before .before .before .before .before .before .before .before .before .before .starts .ensures) ∙ not-false _ (c .before .before .before .before .before .before .before .before .before .if2 .left)) _ (c .before .before .before .before .before .before .before .begun .ensures) (c .before .before .before .before .before .before .before .before .before .before .before .before .before .before .before .before .before .pre .1) (not-false _ (c .before .before .before .before .if3 .left)) _ (c .before .before .sequence .ensures) (not-true _ (c .if4 .taken))
 
 sequence-numbered-requires : (t : ℕ) → sequence-lts.Need-numbered-requires (sequence-claims t) (sequence-at t) sequence.Post
-sequence-numbered-requires t c κs = last-fits _ (sequencing _) _ _ _ _ (c .before .before .before .before .before .before .before .before .before .before .before .before .part .ensures) (not-false _ (c .before .before .before .before .before .before .before .before .before .before .if1 .left)) _ (c .before .before .before .before .before .before .before .before .before .peek .ensures) (sym (c .before .before .before .before .before .before .before .before .starts .ensures) ∙ not-false _ (c .before .before .before .before .before .before .before .if2 .left)) _ (c .before .before .before .before .before .before .begun .ensures) (c .before .before .before .before .before .before .before .before .before .before .before .before .before .before .pre .1) (not-false _ (c .before .before .before .if3 .left)) _ (c .before .before .sequence .ensures) (not-false _ (c .if4 .left))
+sequence-numbered-requires t c κs = last-fits _ (sequencing _) _ _ _ _ (c .before .before .before .before .before .before .before .before .before .before .before .before .before .before .before .part .ensures) (not-false _ (c .before .before .before .before .before .before .before .before .before .before .before .before .before .if1 .left)) _ (c .before .before .before .before .before .before .before .before .before .before .before .before .peek .ensures) (sym (c .before .before .before .before .before .before .before .before .before .before .before .starts .ensures) ∙ not-false _ (c .before .before .before .before .before .before .before .before .before .before .if2 .left)) _ (c .before .before .before .before .before .before .before .before .begun .ensures) (c .before .before .before .before .before .before .before .before .before .before .before .before .before .before .before .before .before .before .pre .1) (not-false _ (c .before .before .before .before .before .if3 .left)) _ (c .before .before .before .sequence .ensures) (not-false _ (c .before .if4 .left))
 
 sequence-returns-5 : (t : ℕ) → sequence-lts.Need-returns-5 (sequence-claims t) (sequence-at t) sequence.Post
-sequence-returns-5 t c = joined-both _ (sequencing _) _ _ _ _ (c .before .before .before .before .before .before .before .before .before .before .before .before .before .before .part .ensures) (not-false _ (c .before .before .before .before .before .before .before .before .before .before .before .before .if1 .left)) _ (c .before .before .before .before .before .before .before .before .before .before .before .peek .ensures) (sym (c .before .before .before .before .before .before .before .before .before .before .starts .ensures) ∙ not-false _ (c .before .before .before .before .before .before .before .before .before .if2 .left)) _ (c .before .before .before .before .before .before .before .before .begun .ensures) (c .before .before .before .before .before .before .before .before .before .before .before .before .before .before .before .before .pre .1) (not-false _ (c .before .before .before .before .before .if3 .left)) _ (c .before .before .before .before .sequence .ensures) (not-false _ (c .before .before .if4 .left)) _ _ (c .before .numbered .ensures .0) (c .before .numbered .ensures .1)
+sequence-returns-5 t c = joined-both _ (sequencing _) _ _ _ _ (c .before .before .before .before .before .before .before .before .before .before .before .before .before .before .before .before .before .part .ensures) (not-false _ (c .before .before .before .before .before .before .before .before .before .before .before .before .before .before .before .if1 .left)) _ (c .before .before .before .before .before .before .before .before .before .before .before .before .before .before .peek .ensures) (sym (c .before .before .before .before .before .before .before .before .before .before .before .before .before .starts .ensures) ∙ not-false _ (c .before .before .before .before .before .before .before .before .before .before .before .before .if2 .left)) _ (c .before .before .before .before .before .before .before .before .before .before .begun .ensures) (c .before .before .before .before .before .before .before .before .before .before .before .before .before .before .before .before .before .before .before .before .pre .1) (not-false _ (c .before .before .before .before .before .before .before .if3 .left)) _ (c .before .before .before .before .before .sequence .ensures) (not-false _ (c .before .before .before .if4 .left)) _ _ (c .before .numbered .ensures .0) (c .before .numbered .ensures .1)
 
 sign-operand-enum-known-s : (t : ℕ) → sign-operand-lts.Need-enum-known-s (sign-operand-claims t) (sign-operand-at t) sign-operand.Post
 sign-operand-enum-known-s t c = search needs
@@ -308,13 +309,13 @@ sign-operand-over-requires : (t : ℕ) → sign-operand-lts.Need-over-requires (
 sign-operand-over-requires t c κs = search needs
 
 sign-operand-returns : (t : ℕ) → sign-operand-lts.Need-returns (sign-operand-claims t) (sign-operand-at t) sign-operand.Post
-sign-operand-returns t c = bracket-over _ _ _ _ _ _ (c .before .before .enum-told .given .1) (c .before .if1 .taken) (c .over .ensures)
+sign-operand-returns t c = bracket-over _ _ _ _ _ _ (c .before .before .enum-told .given .1) (c .before .if1 .taken) (c .over .ensures _)
 
 sign-operand-sub-expression : (t : ℕ) → sign-operand-lts.Need-sub-expression (sign-operand-claims t) (sign-operand-at t) sign-operand.Post
 sign-operand-sub-expression t c = search needs
 
 sign-operand-expression-requires : (t : ℕ) → sign-operand-lts.Need-expression-requires (sign-operand-claims t) (sign-operand-at t) sign-operand.Post
-sign-operand-expression-requires t c κs = (omega (arith, pos-of-ne-zero (c .if1 .left), c .before .before .before .before .pre .0), c .before .before .before .before .pre .1)
+sign-operand-expression-requires t c κs = (omega (arith, pos-of-ne-zero (c .before .if1 .left), c .before .before .before .before .before .pre .0), c .before .before .before .before .before .pre .1)
 
 sign-operand-after-requires : (t : ℕ) → sign-operand-lts.Need-after-requires (sign-operand-claims t) (sign-operand-at t) sign-operand.Post
 sign-operand-after-requires t c κs = search needs
@@ -356,28 +357,28 @@ sign-operand-over-requires-7 : (t : ℕ) → sign-operand-lts.Need-over-requires
 sign-operand-over-requires-7 t c κs = search needs
 
 sign-operand-returns-2 : (t : ℕ) → sign-operand-lts.Need-returns-2 (sign-operand-claims t) (sign-operand-at t) sign-operand.Post
-sign-operand-returns-2 t c = leaf-operand _ _ _ _ _ _ _ _ (c .before .before .before .s .given .1) (c .before .leaf-rule .ensures) (c .leaf .ensures)
+sign-operand-returns-2 t c = leaf-operand _ _ _ _ _ _ _ _ (c .before .before .before .s .given .1) (c .before .leaf-rule .ensures) (c .leaf .ensures _)
 
 sign-operand-returns-3 : (t : ℕ) → sign-operand-lts.Need-returns-3 (sign-operand-claims t) (sign-operand-at t) sign-operand.Post
-sign-operand-returns-3 t c = bracket-operand _ _ _ _ _ _ _ (c .before .before .before .before .enum-told .given .1) (c .before .before .before .if1 .left) (c .before .before .expression .ensures) (c .after .ensures)
+sign-operand-returns-3 t c = bracket-operand _ _ _ _ _ _ _ (c .before .before .before .before .before .enum-told .given .1) (c .before .before .before .before .if1 .left) (c .before .before .expression .ensures) (c .after .ensures)
 
 sign-operand-returns-4 : (t : ℕ) → sign-operand-lts.Need-returns-4 (sign-operand-claims t) (sign-operand-at t) sign-operand.Post
-sign-operand-returns-4 t c = other-sign _ _ _ _ _ _ (λ a e. clash (cc (c .before .enum-told2 .given .1))) (λ e. clash (cc (c .before .enum-told2 .given .1))) (c .over2 .ensures)
+sign-operand-returns-4 t c = other-sign _ _ _ _ _ _ (λ a e. clash (cc (c .before .enum-told2 .given .1))) (λ e. clash (cc (c .before .enum-told2 .given .1))) (c .over2 .ensures _)
 
 sign-operand-returns-5 : (t : ℕ) → sign-operand-lts.Need-returns-5 (sign-operand-claims t) (sign-operand-at t) sign-operand.Post
-sign-operand-returns-5 t c = other-sign _ _ _ _ _ _ (λ a e. clash (cc (c .before .enum-told3 .given .1))) (λ e. clash (cc (c .before .enum-told3 .given .1))) (c .over3 .ensures)
+sign-operand-returns-5 t c = other-sign _ _ _ _ _ _ (λ a e. clash (cc (c .before .enum-told3 .given .1))) (λ e. clash (cc (c .before .enum-told3 .given .1))) (c .over3 .ensures _)
 
 sign-operand-returns-6 : (t : ℕ) → sign-operand-lts.Need-returns-6 (sign-operand-claims t) (sign-operand-at t) sign-operand.Post
-sign-operand-returns-6 t c = other-sign _ _ _ _ _ _ (λ a e. clash (cc (c .before .enum-told4 .given .1))) (λ e. clash (cc (c .before .enum-told4 .given .1))) (c .over4 .ensures)
+sign-operand-returns-6 t c = other-sign _ _ _ _ _ _ (λ a e. clash (cc (c .before .enum-told4 .given .1))) (λ e. clash (cc (c .before .enum-told4 .given .1))) (c .over4 .ensures _)
 
 sign-operand-returns-7 : (t : ℕ) → sign-operand-lts.Need-returns-7 (sign-operand-claims t) (sign-operand-at t) sign-operand.Post
-sign-operand-returns-7 t c = other-sign _ _ _ _ _ _ (λ a e. clash (cc (c .before .enum-told5 .given .1))) (λ e. clash (cc (c .before .enum-told5 .given .1))) (c .over5 .ensures)
+sign-operand-returns-7 t c = other-sign _ _ _ _ _ _ (λ a e. clash (cc (c .before .enum-told5 .given .1))) (λ e. clash (cc (c .before .enum-told5 .given .1))) (c .over5 .ensures _)
 
 sign-operand-returns-8 : (t : ℕ) → sign-operand-lts.Need-returns-8 (sign-operand-claims t) (sign-operand-at t) sign-operand.Post
-sign-operand-returns-8 t c = other-sign _ _ _ _ _ _ (λ a e. clash (cc (c .before .enum-told6 .given .1))) (λ e. clash (cc (c .before .enum-told6 .given .1))) (c .over6 .ensures)
+sign-operand-returns-8 t c = other-sign _ _ _ _ _ _ (λ a e. clash (cc (c .before .enum-told6 .given .1))) (λ e. clash (cc (c .before .enum-told6 .given .1))) (c .over6 .ensures _)
 
 sign-operand-returns-9 : (t : ℕ) → sign-operand-lts.Need-returns-9 (sign-operand-claims t) (sign-operand-at t) sign-operand.Post
-sign-operand-returns-9 t c = other-sign _ _ _ _ _ _ (λ a e. clash (cc (c .before .enum-told7 .given .1))) (λ e. clash (cc (c .before .enum-told7 .given .1))) (c .over7 .ensures)
+sign-operand-returns-9 t c = other-sign _ _ _ _ _ _ (λ a e. clash (cc (c .before .enum-told7 .given .1))) (λ e. clash (cc (c .before .enum-told7 .given .1))) (c .over7 .ensures _)
 
 pub +expression+operand+part+sequence+sign-operand-spec : {M : Type 1} → statement M
 +expression+operand+part+sequence+sign-operand-spec =

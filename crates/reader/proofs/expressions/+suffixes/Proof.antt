@@ -1,6 +1,7 @@
 -- `reader::expressions::suffixes` meets its contract, and ends: each suffix takes rules from those that are left. Assumes nothing.
 use mathlib.Core.Path.{sym, subst, _∙_}
 use borrow.Author.Needs.{needs}
+use Rattle.reader.specs.code.Operators.{part-of}
 use Rattle.reader.proofs.Lookings.{suffix-here, suffix-not-here}
 use Rattle.reader.proofs.Operands.{suffix-spent, suffixes-spent, spent-itself, suffixes-none, suffixes-on, suffixes-over}
 use Rattle.reader.proofs.Leaves.{nothing-spent}
@@ -17,15 +18,15 @@ use Rattle.reader.proofs.operators.with_suffix.Reads as with-suffix-rea
 use Rattle.reader.proofs.expressions.+suffixes.{statement}
 use Rattle.reader.proofs.expressions.+suffixes.Tie.{close}
 
-abbrev μ-suffixes : Measures 1 suffixes-kinds.ps ℕ
-μ-suffixes κs a = a .1 .0 .rules .left
+abbrev μ-suffixes : Measures 2 suffixes-kinds.ps ℕ
+μ-suffixes κs a = a .1 .0 .numbering .left
 
-abbrev suffixes-at : ℕ → In 1 suffixes-kinds.ps
-suffixes-at t = and 1 suffixes-kinds.ps (is 1 suffixes-kinds.ps μ-suffixes t) suffixes.Pre
+abbrev suffixes-at : ℕ → In 2 suffixes-kinds.ps
+suffixes-at t = and 2 suffixes-kinds.ps (is 2 suffixes-kinds.ps μ-suffixes t) suffixes.Pre
 
-abbrev suffixes-below : ℕ → In 1 suffixes-kinds.ps
+abbrev suffixes-below : ℕ → In 2 suffixes-kinds.ps
 suffixes-below t =
-    and 1 suffixes-kinds.ps (falls 1 suffixes-kinds.ps _<_ μ-suffixes t) suffixes.Pre
+    and 2 suffixes-kinds.ps (falls 2 suffixes-kinds.ps _<_ μ-suffixes t) suffixes.Pre
 
 abbrev suffixes-claims : ℕ → suffixes-lts.Claims
 suffixes-claims t = (peek-reads.Asked, peek-reads.Learnt, suffix-of-reads.Asked, suffix-of-reads.Learnt, with-suffix-reads.Asked, with-suffix-reads.Learnt, suffixes-below t, suffixes.Post)
@@ -43,12 +44,12 @@ suffixes-enum-known-s : (t : ℕ) → suffixes-lts.Need-enum-known-s (suffixes-c
 suffixes-enum-known-s t c = search needs
 
 suffixes-with-suffix-requires : (t : ℕ) → suffixes-lts.Need-with-suffix-requires (suffixes-claims t) (suffixes-at t) suffixes.Post
-suffixes-with-suffix-requires t c κs = c .before .before .before .before .before .before .pre .1
+suffixes-with-suffix-requires t c κs = c .before .before .before .before .before .before .before .pre .1
 
 suffixes-suffixes-requires : (t : ℕ) → suffixes-lts.Need-suffixes-requires (suffixes-claims t) (suffixes-at t) suffixes.Post
 suffixes-suffixes-requires t c κs =
-    let (spent, less) = suffix-spent _ _ _ _ (c .before .with-suffix .ensures) (c .if1 .taken) in
-    (subst (λ (n : ℕ). c .before .with-suffix .result .rules .left < n) (c .before .before .before .before .before .before .before .before .pre .0) less, omega (arith, spent .room, c .before .before .before .before .before .before .before .before .pre .1))
+    let (spent, less) = suffix-spent _ _ _ _ (c .before .before .with-suffix .ensures) (c .before .if1 .taken) in
+    (subst (λ (n : ℕ). c .before .before .with-suffix .result .numbering .left < n) (c .before .before .before .before .before .before .before .before .before .before .pre .0) less, omega (arith, spent .room, c .before .before .before .before .before .before .before .before .before .before .pre .1))
 
 suffixes-returns : (t : ℕ) → suffixes-lts.Need-returns (suffixes-claims t) (suffixes-at t) suffixes.Post
 suffixes-returns t c =
@@ -56,11 +57,11 @@ suffixes-returns t c =
 
 suffixes-returns-2 : (t : ℕ) → suffixes-lts.Need-returns-2 (suffixes-claims t) (suffixes-at t) suffixes.Post
 suffixes-returns-2 t c =
-    record { right = suffixes-on _ _ _ _ (suffix-here _ _ _ (c .before .before .before .before .before .before .before .peek .ensures) _ (sym (c .before .before .before .before .before .before .suffix-of .ensures) ∙ c .before .before .before .before .s .given .1)) _ (c .before .before .with-suffix .ensures) (c .before .if1 .taken) _ (c .suffixes .ensures .right); spent = λ f. suffixes-spent (c .before .before .before .before .before .before .before .before .before .args .x) (c .before .before .with-suffix .result) _ (suffix-spent _ _ _ _ (c .before .before .with-suffix .ensures) (c .before .if1 .taken) .0) (c .suffixes .ensures .spent f) }
+    record { right = suffixes-on _ _ _ _ (suffix-here _ _ _ (c .before .before .before .before .before .before .before .before .before .peek .ensures) _ (sym (c .before .before .before .before .before .before .before .before .suffix-of .ensures) ∙ c .before .before .before .before .before .before .s .given .1)) _ (c .before .before .before .with-suffix .ensures) (c .before .before .if1 .taken) _ (c .suffixes .ensures .right); spent = λ f. suffixes-spent (part-of (c .before .before .before .before .before .before .before .before .before .before .before .args .x) (c .before .before .before .before .before .before .before .before .before .before .before .args .rules .now)) (part-of (c .before .before .before .with-suffix .result) _) _ (suffix-spent _ _ _ _ (c .before .before .before .with-suffix .ensures) (c .before .before .if1 .taken) .0) (c .suffixes .ensures .spent f) }
 
 suffixes-returns-3 : (t : ℕ) → suffixes-lts.Need-returns-3 (suffixes-claims t) (suffixes-at t) suffixes.Post
 suffixes-returns-3 t c =
-    record { right = suffixes-over _ _ _ _ (suffix-here _ _ _ (c .before .before .before .before .before .before .peek .ensures) _ (sym (c .before .before .before .before .before .suffix-of .ensures) ∙ c .before .before .before .s .given .1)) _ (c .before .with-suffix .ensures) (c .if1 .left); spent = nothing-spent _ _ _ (c .if1 .left) }
+    record { right = suffixes-over _ _ _ _ (suffix-here _ _ _ (c .before .before .before .before .before .before .before .peek .ensures) _ (sym (c .before .before .before .before .before .before .suffix-of .ensures) ∙ c .before .before .before .before .s .given .1)) _ (c .before .with-suffix .ensures) (c .if1 .left); spent = nothing-spent _ _ _ (c .if1 .left) }
 
 pub +suffixes-spec : {M : Type 1} → statement M
 +suffixes-spec = close μ-suffixes λ t. suffixes-lts.spec (suffixes-claims t)

@@ -1,8 +1,8 @@
 -- `reader::operators::suffix_over` meets its contract: a case for each suffix. Assumes nothing.
-use native.Mathlib.Omega.{arith}
-use Rattle.syntax.specs.Needs.{suffix-need}
-use Rattle.reader.specs.code.Operators.{suffix-done}
 use Rattle.reader.proofs.Operating.{part-with}
+use Rattle.reader.specs.code.Operators.{suffix-done}
+use Rattle.syntax.specs.Needs.{suffix-need}
+use native.Mathlib.Omega.{arith}
 use borrow.Author.Needs.{needs}
 use Rattle.reader.proofs.operators.suffix_over.Statement.{statement}
 use Rattle.reader.proofs.operators.suffix_over.Tie as tie
@@ -23,7 +23,7 @@ cast-loops c = search needs
 
 repeated-requires : tie.Need-repeated-requires
 unfolding suffix-need
-repeated-requires c κs = omega (arith, simp (c .before .enum-told2 .given .1) at (c .before .before .before .pre))
+repeated-requires c κs = omega (arith, simp (c .before .before .enum-told2 .given .1) at (c .before .before .before .before .pre))
 
 operator-requires : tie.Need-operator-requires
 operator-requires c κs = search needs
@@ -36,7 +36,7 @@ cast-empty c = search needs
 
 added-requires : tie.Need-added-requires
 unfolding suffix-need
-added-requires c κs = omega (arith, simp (c .before .enum-told3 .given .1) at (c .before .before .before .pre))
+added-requires c κs = omega (arith, simp (c .before .before .enum-told3 .given .1) at (c .before .before .before .before .pre))
 
 operator-requires-2 : tie.Need-operator-requires-2
 operator-requires-2 c κs = search needs
@@ -47,11 +47,11 @@ returns c = simp (c .enum-told .given .1)
 
 returns-2 : tie.Need-returns-2
 unfolding suffix-done
-returns-2 c = simp (c .before .before .before .enum-told2 .given .1) (part-with _ _ _ _ _ (c .operator .ensures) (c .before .repeated .ensures))
+returns-2 c = simp (c .before .before .before .before .enum-told2 .given .1) (part-with _ _ _ _ _ (c .operator .ensures _) (c .before .repeated .ensures))
 
 returns-3 : tie.Need-returns-3
 unfolding suffix-done
-returns-3 c = simp (c .before .before .before .enum-told3 .given .1) (part-with _ _ _ _ _ (c .operator2 .ensures) (c .before .added .ensures))
+returns-3 c = simp (c .before .before .before .before .enum-told3 .given .1) (part-with _ _ _ _ _ (c .operator2 .ensures _) (c .before .added .ensures))
 
 pub suffix-over-spec : {M : Type 1} → statement M
 suffix-over-spec =

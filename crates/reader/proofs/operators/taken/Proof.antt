@@ -6,11 +6,11 @@ use Rattle.reader.proofs.operators.taken.Tie as tie
 use Rattle.reader.proofs.operators.taken.Reads as reads
 use Rattle.reader.proofs.operators.taken.Lts as lts
 
-sub-less : tie.Need-sub-less
-sub-less c = search needs
+sub-t4 : tie.Need-sub-t4
+sub-t4 c = search needs
 
 returns : tie.Need-returns
-returns c = fewer-left _ _
+returns c = λ bytes. fewer-left _ _
 
 pub taken-spec : {M : Type 1} → statement M
-taken-spec = tie.close (tie.spec sub-less returns)
+taken-spec = tie.close (tie.spec sub-t4 returns)
