@@ -14,10 +14,11 @@ use Rattle.grammar.specs.declared.ByteRange.{ByteRange}
 use Rattle.grammar.specs.declared.ByteRange.the-variants.{Between, Nothing}
 use Rattle.grammar.specs.Grammar.{max-rules, kind-sequence, kind-choice, kind-not, kind-empty, rules, expression, expression-by, range-of, Parts-below, kind-of, b-of, c-of, grammar-refusal}
 use Rattle.builder.specs.Classes.{class-count, class-in}
-use Rattle.builder.specs.Table.{state-work, state-ok, state-fail, no-rule, class-inside, Row, Rows, rows, rows-at, unruled, by-state, select, row-zero, made}
+use Rattle.builder.specs.Table.{state-work, state-ok, state-fail, no-rule, class-inside, Row, row, rows, rows-at, unruled, by-state, select, row-zero, made}
 use Rattle.builder.specs.Image.{symbols-of}
 use Rattle.builder.specs.code.Writing.{Few, class-between, inside-by, Rows-ready}
 use Rattle.grammar.proofs.GrammarGood.{good-grammar}
+use Rattle.builder.proofs.EachRow.{each-state}
 
 -- THE RULES THAT A RULE NAMES
 below-few : (m n : ℕ) (e : Expression) → m ≤ n → Parts-below m e → Parts-below n e
@@ -68,17 +69,22 @@ unfolding Ends-bytes inside-by class-inside class-between class-in
 inside-is gs bs n w Nothing h k = refl
 inside-is gs bs n w (Between b c) h k = simp (w .classes-are, w .map b (h .0), w .map c (h .1))
 
--- THE SIX RULES of rule k, from what was found of it
-pub rows-are :
-    (gs bs : List ℕ) (n k x : ℕ) (r : Rows) (e : Expression) (y : ByteRange) (inside : Bool) → Rows-ready gs bs n → ((i : ℕ) → byte gs i < 256) →
-    e ≡ expression gs k → y ≡ range-of e → inside ≡ inside-by bs n y x → r ≡ rows e k inside → r ≡ rows-at gs k x
+-- a symbol that has no rule in work, ok and fail has none in any state
+pub never : (p : ℕ) → no-rule ≡ by-state p (row no-rule no-rule no-rule)
+never = each-state (λ (r : Rule). no-rule ≡ r) refl (row no-rule no-rule no-rule) (record { work = refl; ok = refl; fail = refl })
+
+-- THE RULE OF RULE K that a symbol and a state select, from what was found of rule k
+pub rule-is :
+    (gs bs : List ℕ) (n k x : ℕ) (s : Bool) (p : ℕ) (r : Rule) (e : Expression) (y : ByteRange) (inside : Bool) → Rows-ready gs bs n →
+    ((i : ℕ) → byte gs i < 256) → e ≡ expression gs k → y ≡ range-of e → inside ≡ inside-by bs n y x → r ≡ select (rows e k inside) s p →
+    r ≡ select (rows-at gs k x) s p
 unfolding rows-at
-rows-are gs bs n k x r e y inside w bytes is range tells are =
+rule-is gs bs n k x s p r e y inside w bytes is range tells picks =
     let here : range-of (expression gs k) ≡ y = ap range-of (sym is) ∙ sym range in
     let same : inside ≡ class-inside gs (range-of (expression gs k)) x =
     tells ∙ ap (λ (z : ByteRange). inside-by bs n z x) (sym here) ∙ inside-is gs bs n w (range-of (expression gs k)) (ends-bytes gs k bytes) x
     in
-    are ∙ ap (λ (z : Expression). rows z k inside) is ∙ ap (rows (expression gs k) k) same
+    picks ∙ ap (λ (z : Expression). select (rows z k inside) s p) is ∙ ap (λ (t : Bool). select (rows (expression gs k) k t) s p) same
 
 -- THE RULE, by its symbol
 pub zero-is : (gs : List ℕ) (n p x a : ℕ) (r : Rule) → n ≡ class-count gs → a ≡ 0 → r ≡ row-zero n p x → r ≡ made gs p x a
@@ -107,10 +113,8 @@ unruled-is gs p x zero r t some is h q = absurd (some refl)
 unruled-is gs p x (suc a) r t some is h q = q ∙ sym (none-there p _ (sym is ∙ h))
 
 pub symbol-is :
-    (gs : List ℕ) (p x a : ℕ) (r : Rule) (rs : Rows) → (a ≡ 0 → ⊥) → rs ≡ rows-at gs ((a - 1) / 2) x →
-    r ≡ select rs (eqb ((a - 1) % 2) 1) p → r ≡ made gs p x a
-symbol-is gs p x a r rs some are q =
-    q ∙ ap (λ (y : Rows). select y (eqb ((a - 1) % 2) 1) p) are ∙ made-suc gs p x (a - 1) ∙ ap (made gs p x) (after a some)
+    (gs : List ℕ) (p x a : ℕ) (r : Rule) → (a ≡ 0 → ⊥) → r ≡ select (rows-at gs ((a - 1) / 2) x) (eqb ((a - 1) % 2) 1) p → r ≡ made gs p x a
+symbol-is gs p x a r some q = q ∙ made-suc gs p x (a - 1) ∙ ap (made gs p x) (after a some)
   where
     after : (a : ℕ) → (a ≡ 0 → ⊥) → suc (a - 1) ≡ a
     after a h = omega arith

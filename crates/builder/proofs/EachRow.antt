@@ -18,7 +18,7 @@ pub record Each (P : Rule → Type 0) (r : Rows) : Type 0 where
 pub each : {P : Rule → Type 0} {a b c x y z : Rule} → P a → P b → P c → P x → P y → P z → Each P (six a b c x y z)
 each a b c x y z = record { first = record { work = a; ok = b; fail = c }; second = record { work = x; ok = y; fail = z } }
 
-each-state : (P : Rule → Type 0) → P no-rule → (r : Row) → Each-of P r → (p : ℕ) → P (by-state p r)
+pub each-state : (P : Rule → Type 0) → P no-rule → (r : Row) → Each-of P r → (p : ℕ) → P (by-state p r)
 unfolding by-state
 each-state P n r e p = go (eqb p state-work) (eqb p state-ok) (eqb p state-fail)
   where

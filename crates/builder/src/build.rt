@@ -1,7 +1,6 @@
 // Building: the image of a grammar, written into a lent buffer from its first byte on.
 use crate::Built;
 use crate::Plan;
-use crate::RowsBytes;
 use crate::RuleBytes;
 use crate::byte_classes::write_map;
 use crate::planning::plan_of;
@@ -10,8 +9,7 @@ use crate::rows::FINALS;
 use crate::rows::NO_RULE;
 use crate::rows::STATES;
 use crate::rows::row_zero;
-use crate::rows::rows_by;
-use crate::rows::select;
+use crate::rows::rule_by;
 use crate::rows::unruled;
 use codec::Pair;
 use codec::write_four;
@@ -46,11 +44,11 @@ ghost use Rattle.image.specs.Format.{map-offset, rules-offset, rule-length};
 ghost use Rattle.image.specs.Encoding.{header};
 ghost use Rattle.grammar.specs.Grammar.{grammar-refusal};
 ghost use Rattle.builder.specs.Classes.{class-count as class-count-of};
-ghost use Rattle.builder.specs.Table.{state-count, finals, rows-at as rows-at-of, made as made-of};
+ghost use Rattle.builder.specs.Table.{state-count, finals, rows-at, select, made as made-of};
 ghost use Rattle.builder.specs.Image.{symbols-of, built-rules, built};
 ghost use Rattle.builder.specs.Calls.{build-refusal, Build-says, room-refusal as room-refusal-of};
 ghost use Rattle.builder.specs.code.Building.{Planned, Buffer-ready};
-ghost use Rattle.builder.specs.code.Writing.{rule-of, rows-of, class-between, inside-by, Rows-ready, Rule-ready, Symbol-ready, Write-ready, with-rules};
+ghost use Rattle.builder.specs.code.Writing.{rule-of, class-between, inside-by, Rows-ready, Rule-ready, Symbol-ready, Write-ready, with-rules};
 
 // The directory, the counts and the finals, of an image with so many rules.
 fn write_header(image: &mut [u8], classes: u8, symbols: u8, count: u32)
@@ -107,14 +105,22 @@ fn class_inside(image: &[u8], classes: u32, r: ByteRange, class: u32) -> bool
     }
 }
 
-// The six rules of rule k for a class; the image has its class map.
-fn rows_at(grammar: &[u8], image: &[u8], classes: u32, k: u32, class: u32) -> RowsBytes
+// The rule of rule k's first or second symbol in a state, for a class; the image has its class map.
+fn rule_at(
+    grammar: &[u8],
+    image: &[u8],
+    classes: u32,
+    k: u32,
+    class: u32,
+    second: bool,
+    state: u32,
+) -> RuleBytes
     requires { ⌜ Rule-ready (now grammar) (now image) classes k ⌝ }
-    ensures { λ r. ⌜ rows-of r ≡ rows-at-of (now (grammar .entry)) k class ⌝ }
+    ensures { λ r. ⌜ rule-of r ≡ select (rows-at (now (grammar .entry)) k class) second state ⌝ }
 {
     let e = expression_of(grammar, k as usize);
     let inside = class_inside(image, classes, range_of(e), class);
-    rows_by(e, k as u8, inside)
+    rule_by(e, k as u8, inside, second, state)
 }
 
 // The rule that state, class and symbol select; the image has its class map.
@@ -132,8 +138,7 @@ fn made(grammar: &[u8], image: &[u8], classes: u32, s: Selector) -> RuleBytes
     }
     let a = symbol - 1;
     let side = a % 2;
-    let rows = rows_at(grammar, image, classes, a / 2, s.class);
-    select(rows, side == 1, state)
+    rule_at(grammar, image, classes, a / 2, s.class, side == 1, state)
 }
 
 // The rules, in the order of their indices, after the class map.

@@ -26,16 +26,3 @@ pub struct RuleBytes {
     pub symbol: u8,
     pub direction: u8,
 }
-
-// The rules of one symbol in states work, ok and fail.
-pub struct RowBytes {
-    pub work: RuleBytes,
-    pub ok: RuleBytes,
-    pub fail: RuleBytes,
-}
-
-// The six rules of a grammar rule, by its first and second symbol.
-pub struct RowsBytes {
-    pub first: RowBytes,
-    pub second: RowBytes,
-}

@@ -1,6 +1,4 @@
-// The table: the six rules of a grammar rule, and which of them a symbol and a state select.
-use crate::RowBytes;
-use crate::RowsBytes;
+// The table: the rule of a grammar rule's first or second symbol in a state, and the rules of symbol 0.
 use crate::RuleBytes;
 use grammar::Expression;
 use image::format::DIRECTION_RIGHT;
@@ -12,12 +10,12 @@ use image::format::KIND_PUSH;
 use image::format::POP_RETURN;
 use image::format::POP_STAY;
 ghost use mathlib.Core.Path.{_≡_};
-ghost use mathlib.Core.Bool.{_&&_, cond};
-ghost use Prim.Native.Nat.{_+_, _*_, _<_};
+ghost use mathlib.Core.Bool.{Bool, true, false, _&&_, cond};
+ghost use Prim.Native.Nat.{ℕ, _+_, _*_, _<_};
 ghost use lib.Dec.{eqb};
-ghost use Rattle.grammar.specs.Grammar.{max-rules};
-ghost use Rattle.builder.specs.Table.{push-first, to-second, pass-byte, pop-fail, six as six-of, rows, by-state, unruled as unruled-of, select as select-of, row-zero};
-ghost use Rattle.builder.specs.code.Writing.{rule-of, row-of, rows-of, Few};
+ghost use Rattle.grammar.specs.Grammar.{max-rules, Parts-below};
+ghost use Rattle.builder.specs.Table.{push-first, to-second, pass-byte, pop-fail, row, rows, by-state, unruled as unruled-of, select as select-of, row-zero};
+ghost use Rattle.builder.specs.code.Writing.{rule-of, Few};
 
 // The states.
 const START: u8 = 0;
@@ -116,59 +114,6 @@ fn one_byte(k: u8, inside: bool) -> RuleBytes
     POP_FAIL
 }
 
-// Six rules side by side, as the scope's table has them: a, b and c of the first symbol in work, ok and fail, then x, y and z of the second.
-fn six(
-    a: RuleBytes,
-    b: RuleBytes,
-    c: RuleBytes,
-    x: RuleBytes,
-    y: RuleBytes,
-    z: RuleBytes,
-) -> RowsBytes
-    ensures { λ r. ⌜ rows-of r ≡ six-of (rule-of a) (rule-of b) (rule-of c) (rule-of x) (rule-of y) (rule-of z) ⌝ }
-{
-    RowsBytes {
-        first: RowBytes {
-            work: a,
-            ok: b,
-            fail: c,
-        },
-        second: RowBytes {
-            work: x,
-            ok: y,
-            fail: z,
-        },
-    }
-}
-
-// The six rules of rule k; inside says of a range whether the class is in it.
-pub fn rows_by(e: Expression, k: u8, inside: bool) -> RowsBytes
-    requires { ⌜ Few k e ⌝ }
-    ensures { λ r. ⌜ rows-of r ≡ rows e k inside ⌝ }
-{
-    match e {
-        Expression::Sequence(b, c) => six(
-            push(b),
-            change(k),
-            BACK_FAIL,
-            push(c),
-            POP_OK,
-            BACK_FAIL, // back to before b
-        ),
-        Expression::Choice(b, c) => six(push(b), POP_OK, change(k), push(c), POP_OK, POP_FAIL),
-        Expression::Not(b) => six(push(b), BACK_FAIL, BACK_OK, NO_RULE, NO_RULE, NO_RULE),
-        Expression::Empty => six(POP_OK, NO_RULE, NO_RULE, NO_RULE, NO_RULE, NO_RULE),
-        Expression::Range(_, _) => six(
-            one_byte(k, inside),
-            POP_OK,
-            NO_RULE,
-            NO_RULE,
-            NO_RULE,
-            NO_RULE,
-        ),
-    }
-}
-
 // Whether a grammar rule's symbols have no rule in a state: start and done.
 pub fn unruled(state: u32) -> bool
     ensures { λ r. ⌜ r ≡ unruled-of state ⌝ }
@@ -180,30 +125,58 @@ pub fn unruled(state: u32) -> bool
 }
 
 // The rule of a state, of those for work, ok and fail.
-fn by_state(state: u32, r: RowBytes) -> RuleBytes
-    ensures { λ answer. ⌜ rule-of answer ≡ by-state state (row-of r) ⌝ }
+fn by_state(state: u32, work: RuleBytes, ok: RuleBytes, fail: RuleBytes) -> RuleBytes
+    ensures { λ r. ⌜ rule-of r ≡ by-state state (row (rule-of work) (rule-of ok) (rule-of fail)) ⌝ }
 {
     if state == WORK as u32 {
-        return r.work;
+        return work;
     }
     if state == OK as u32 {
-        return r.ok;
+        return ok;
     }
     if state == FAIL as u32 {
-        return r.fail;
+        return fail;
     }
     NO_RULE
 }
 
-// The rule of a grammar rule's first or second symbol in a state.
-pub fn select(r: RowsBytes, second: bool, state: u32) -> RuleBytes
-    ensures { λ answer. ⌜ rule-of answer ≡ select-of (rows-of r) second state ⌝ }
+// The rule of rule k's first symbol in a state; inside says of a range whether the class is in it.
+fn first_rule(e: Expression, k: u8, inside: bool, state: u32) -> RuleBytes
+    requires { ⌜ Few k e ⌝ }
+    ensures { λ r. ⌜ rule-of r ≡ select-of (rows e k inside) false state ⌝ }
+{
+    match e {
+        Expression::Sequence(b, _) => by_state(state, push(b), change(k), BACK_FAIL),
+        Expression::Choice(b, _) => by_state(state, push(b), POP_OK, change(k)),
+        Expression::Not(b) => by_state(state, push(b), BACK_FAIL, BACK_OK),
+        Expression::Empty => by_state(state, POP_OK, NO_RULE, NO_RULE),
+        Expression::Range(_, _) => by_state(state, one_byte(k, inside), POP_OK, NO_RULE),
+    }
+}
+
+// The rule of a rule's second symbol in a state: neither the rule's number nor the class matters.
+fn second_rule(e: Expression, state: u32) -> RuleBytes
+    requires { ⌜ Parts-below max-rules e ⌝ }
+    ensures { λ r. ⌜ ((k : ℕ) (inside : Bool) → rule-of r ≡ select-of (rows e k inside) true state) ⌝ }
+{
+    match e {
+        Expression::Sequence(_, c) => by_state(state, push(c), POP_OK, BACK_FAIL), // back to before b
+        Expression::Choice(_, c) => by_state(state, push(c), POP_OK, POP_FAIL),
+        Expression::Not(_) => NO_RULE,
+        Expression::Empty => NO_RULE,
+        Expression::Range(_, _) => NO_RULE,
+    }
+}
+
+// The rule of rule k's first or second symbol in a state. It is picked by value: to write all six to memory and read one back is slow.
+pub fn rule_by(e: Expression, k: u8, inside: bool, second: bool, state: u32) -> RuleBytes
+    requires { ⌜ Few k e ⌝ }
+    ensures { λ r. ⌜ rule-of r ≡ select-of (rows e k inside) second state ⌝ }
 {
     if second {
-        by_state(state, r.second)
-    } else {
-        by_state(state, r.first)
+        return second_rule(e, state);
     }
+    first_rule(e, k, inside, state)
 }
 
 fn stands(state: u32, class: u32, at: u32, on: u32) -> bool

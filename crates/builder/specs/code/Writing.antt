@@ -13,22 +13,13 @@ use Rattle.grammar.specs.declared.Expression.{Expression}
 use Rattle.grammar.specs.declared.ByteRange.{ByteRange}
 use Rattle.grammar.specs.declared.ByteRange.the-variants.{Between, Nothing}
 use Rattle.builder.specs.declared.RuleBytes.{RuleBytes}
-use Rattle.builder.specs.declared.RowBytes.{RowBytes}
-use Rattle.builder.specs.declared.RowsBytes.{RowsBytes}
 use Rattle.grammar.specs.Grammar.{max-rules, rules, Parts-below, grammar-refusal}
 use Rattle.builder.specs.Classes.{class-of, class-count}
 use Rattle.builder.specs.Image.{built-rules, built-length, symbols-of, rules-made}
-use Rattle.builder.specs.Table.{rule, Row, Rows, row}
+use Rattle.builder.specs.Table.{rule}
 
 abbrev pub rule-of : RuleBytes → Rule
 rule-of r = rule (r .kind) (r .state) (r .symbol) (r .direction)
-
--- the rules of a symbol, and the six of a grammar rule
-abbrev pub row-of : RowBytes → Row
-row-of r = row (rule-of (r .work)) (rule-of (r .ok)) (rule-of (r .fail))
-
-abbrev pub rows-of : RowsBytes → Rows
-rows-of r = record { first = row-of (r .first); second = row-of (r .second) }
 
 -- rule k and what it is: k and the rules that it names have symbols that are bytes
 pub record Few (k : ℕ) (e : Expression) : Type 0 where

@@ -22,17 +22,14 @@ returns-2 c = unruled-is _ _ _ _ _ _ (c .before .before .if1 .left) (c .before .
 sub-a : tie.Need-sub-a
 sub-a c = search needs
 
-rows-at-requires : tie.Need-rows-at-requires
-rows-at-requires c κs =
+rule-at-requires : tie.Need-rule-at-requires
+rule-at-requires c κs =
     let test = c .before .before in
     let start = test .before .before .before in
     record { rows = start .pre .rows; rule-there = rule-there _ _ (test .if1 .left) (start .pre .symbol-there) }
 
-select-requires : tie.Need-select-requires
-select-requires c κs = search needs
-
 returns-3 : tie.Need-returns-3
-returns-3 c = symbol-is _ _ _ _ _ _ (c .before .before .before .before .if1 .left) (c .before .rows-at .ensures) (c .select .ensures)
+returns-3 c = symbol-is _ _ _ _ _ (c .before .before .before .if1 .left) (c .rule-at .ensures)
 
 pub made-spec : {M : Type 1} → statement M
 made-spec =
@@ -43,6 +40,5 @@ made-spec =
     unruled-requires
     returns-2
     sub-a
-    rows-at-requires
-    select-requires
+    rule-at-requires
     returns-3)
