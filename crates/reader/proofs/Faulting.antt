@@ -14,18 +14,18 @@ use Rattle.refusal.specs.declared.Refusal.{Refusal}
 use Rattle.refusal.specs.First.{refusal}
 use Rattle.syntax.specs.declared.Sign.{Sign}
 use Rattle.syntax.specs.declared.Sign.the-variants.{Operand, Before, After, Slash, Opening, Closing, Equals, Semicolon}
-use Rattle.syntax.specs.Tokens.{Token, name, sign, range, unknown, Lexeme, same, lexemes}
+use Rattle.syntax.specs.Tokens.{Token, name, sign, range, unknown, Lexeme, same, token-at, lexemes, tokens}
 use Rattle.syntax.specs.Faults.{Spot, at-line, at-equals, inside, Next, to, wrong, to-if, by-sign, is-equals, not-in, next, name-of, defined-after, at-end, first-wrong, fault}
 use Rattle.syntax.specs.Compile.{index-of}
 use Rattle.syntax.specs.code.Heads.{is-semicolon, ends-line, head-of, heads-from, heads}
-use Rattle.reader.specs.declared.Lexeme as Scanner
 use Rattle.reader.specs.declared.Spot as Code
-use Rattle.reader.specs.declared.Step.{Step}
 use Rattle.reader.specs.declared.Step.the-variants.{To, Wrong}
-use Rattle.reader.specs.code.Scanning.{lexemes-at, token-of, Scans-to}
-use Rattle.reader.specs.code.Stepping.{spot-of, next-of, begins, lines-begun, Text-checked}
+use Rattle.reader.specs.declared.faults.Moved.{Moved}
+use Rattle.reader.specs.code.Scanning.{lexemes-at, Skips}
+use Rattle.reader.specs.code.Stepping.{spot-of, next-of, begins, lines-begun, Moves, Text-checked}
 use Rattle.reader.specs.code.Levels.{tokens-at}
-use Rattle.reader.proofs.Searching.{tokens-start, tokens-end, tokens-next}
+use Rattle.reader.proofs.Lexing.{lexemes-token, width-there, width-within}
+use Rattle.reader.proofs.Searching.{tokens-start, tokens-end}
 
 -- A NAME IS NEW where none of the first k lines has it
 pub new-name : (n : List ℕ) (k : ℕ) (hs : List (List ℕ)) → k ≤ length hs → not-in n (take k hs) ≡ not (ltb (index-of n hs) k)
@@ -190,30 +190,34 @@ module _ (text : List ℕ) where
           counted = λ z. omega (arith, come .there);
         }
 
-    module _
-        (l : Scanner.Lexeme) (scans : Scans-to text at l) (r : Step)
-        (is : next-of r ≡ next (take lines (heads text)) s (token-of text (l .offset) (l .token)))
-      where
-        pub check-wrong : (m : ℕ) → r ≡ Wrong m → Text-checked text (record { refusal = refusal m (l .offset); lines = lines })
-        unfolding next-of
-        check-wrong m q =
-            let e : next (take lines (heads text)) s (token-of text (l .offset) (l .token)) ≡ wrong m = sym is ∙ ap next-of q in
-            record {
-              first = sym (come .first ∙ rw (scans .first) (fault-here _ s _ _ (length text) m e));
-              counted = λ z. absurd (wrong-some _ s _ m e z);
-            }
+    module _ (o : ℕ) (skips : Skips text at o) (more : o < length text) (m : Moved) (moves : Moves text lines s o m) where
+      first-token : lexemes-at text at ≡ record { offset = o; token = token-at (drop o text) } ∷ lexemes-at text (m .next)
+      first-token = skips .rest ∙ lexemes-token text o more (skips .stops more) ∙ rw (moves .wide)
 
-        pub check-next : (u : Code.Spot) → r ≡ To u → (b : ℕ) → b ≡ lines-begun s → Checking text (l .next) (spot-of u) (lines + b)
-        unfolding next-of
-        check-next u p b q =
-            let e : next (take lines (heads text)) s (token-of text (l .offset) (l .token)) ≡ to (spot-of u) = sym is ∙ ap next-of p in
-            let passed : drop lines (heads text) ≡ heads-from (begins s) (token-of text (l .offset) (l .token) ∷ tokens-at text (l .next)) =
-            come .left ∙ ap (heads-from (begins s)) (tokens-next text at l scans)
-            in
-            let a = advance (heads text) lines s _ _ (spot-of u) e (come .there) passed in
-            rw q (record {
-              there = a .there;
-              left = a .after ∙ ap (λ (t : Bool). heads-from t (tokens-at text (l .next))) (begins-next _ s _ (spot-of u) e);
-              first = come .first ∙ rw (scans .first, a .taken) (fault-later _ s _ _ (length text) (spot-of u) e);
-              few = omega (arith, come .few, scans .from, scans .some, few-begun s);
-            })
+      pub check-further : (at < m .next) × (m .next ≤ length text)
+      check-further =
+          (omega (arith, skips .from, width-there text o more, moves .wide), omega (arith, width-within text o more, moves .wide))
+
+      pub check-wrong : (n : ℕ) → m .step ≡ Wrong n → Text-checked text (record { refusal = refusal n o; lines = lines })
+      unfolding next-of
+      check-wrong n q =
+          let e : next (take lines (heads text)) s (token-at (drop o text)) ≡ wrong n = sym (moves .led) ∙ ap next-of q in
+          record {
+            first = sym (come .first ∙ rw first-token (fault-here _ s _ _ (length text) n e));
+            counted = λ z. absurd (wrong-some _ s _ n e z);
+          }
+
+      pub check-next : (u : Code.Spot) → m .step ≡ To u → (b : ℕ) → b ≡ lines-begun s → Checking text (m .next) (spot-of u) (lines + b)
+      unfolding next-of tokens
+      check-next u p b q =
+          let e : next (take lines (heads text)) s (token-at (drop o text)) ≡ to (spot-of u) = sym (moves .led) ∙ ap next-of p in
+          let passed : drop lines (heads text) ≡ heads-from (begins s) (token-at (drop o text) ∷ tokens-at text (m .next)) =
+          come .left ∙ rw first-token
+          in
+          let a = advance (heads text) lines s _ _ (spot-of u) e (come .there) passed in
+          rw q (record {
+            there = a .there;
+            left = a .after ∙ ap (λ (t : Bool). heads-from t (tokens-at text (m .next))) (begins-next _ s _ (spot-of u) e);
+            first = come .first ∙ rw (first-token, a .taken) (fault-later _ s _ _ (length text) (spot-of u) e);
+            few = omega (arith, come .few, check-further .0, few-begun s);
+          })

@@ -10,6 +10,7 @@ pub mod Passing
 pub mod Lookings
 pub mod Placing
 pub mod Deriving
+pub mod Moving
 pub mod Faulting
 pub mod Undefined
 pub mod Descending

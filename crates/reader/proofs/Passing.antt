@@ -1,23 +1,21 @@
--- The heads of a text from inside a line on: a semicolon ends the line, a range is passed as a whole, any other byte alone. Assumes nothing.
+-- The heads of a text from inside a line on: a semicolon ends the line, a range is passed as a whole, any other byte alone; and from a line's start on, where letters may be its head. Assumes nothing.
 use mathlib.Core.Path.{_≡_, refl, sym, ap, _∙_}
 use mathlib.Core.Bool.{Bool, true, false, cond}
 use mathlib.Core.List.{List}
-use Prim.Native.Nat.{ℕ, suc, _+_, _<_, _≤_}
+use Prim.Native.Nat.{ℕ, suc, _+_, _-_, _<_, _≤_}
 use native.Mathlib.Nat.{add-zero}
 use native.Mathlib.Numerals.{add-one}
 use native.Mathlib.Decide.{decLt}
 use native.Mathlib.Omega.{arith}
-use lib.Dec.{leb}
 use lib.ListN.{length, drop}
-use borrow.Author.Tests.{leb-true, ne-eqb}
+use borrow.Author.Tests.{ne-eqb}
 use Rattle.codec.specs.Bytes.{byte}
 use Rattle.syntax.specs.Tokens.{Token, letter, letters, word, sign-of, range-there, token-at, width-at, skipped, tokens}
 use Rattle.syntax.specs.code.Heads.{is-semicolon, ends-line, head-of, heads-from}
-use Rattle.grammar.proofs.Bools.{both-true}
 use Rattle.reader.specs.code.Levels.{tokens-at}
 use Rattle.reader.specs.code.Naming.{Passes-heads}
-use Rattle.reader.proofs.Lexing.{front, no-letters, letters-more, letters-stop, lexemes-end, lexemes-skipped, lexemes-token}
-use Rattle.reader.proofs.Tokenizing.{range-first}
+use Rattle.reader.proofs.Lexing.{front, no-letters, letters-more, letters-stop, lexemes-end, lexemes-skipped, lexemes-token, width-there}
+use Rattle.reader.proofs.Tokenizing.{No-name, a-sign, a-range, no-token, no-name-there, letter-kept, range-first, range-token, sign-token}
 
 -- WHICH TOKENS END NO LINE
 ends-cond : (c : Bool) (t u : Token) → ends-line (cond c t u) ≡ cond c (ends-line t) (ends-line u)
@@ -35,13 +33,6 @@ word-goes-on ls = simp (ends-cond, cond-false)
 sign-goes-on : (b : ℕ) → (b ≡ 59 → ⊥) → ends-line (sign-of b) ≡ false
 unfolding sign-of ends-line is-semicolon
 sign-goes-on b d = simp (ne-eqb b 59 d, ends-cond, cond-false)
-
--- no letter is skipped
-letter-kept : (b : ℕ) → letter b ≡ true → skipped b ≡ false
-unfolding letter skipped
-letter-kept b e =
-    let low : 97 ≤ b = leb-true 97 b (both-true (leb 97 b) _ e .0) in
-    rw (ne-eqb b 32 (λ q. omega arith), ne-eqb b 10 (λ q. omega arith))
 
 -- THE HEADS FROM INSIDE A LINE ON
 abbrev left-from : (text : List ℕ) → (i : ℕ) → List (List ℕ)
@@ -99,34 +90,59 @@ module _ (text : List ℕ) (i : ℕ) (more : i < length text) where
       go false true p q = rw add-one (left-letter q)
       go false false p q = left-sign text i more p q e ∙ rw (sign-goes-on (byte text i) d)
 
+  -- a quote is passed with the range that it begins, or alone
+  left-quote : byte text i ≡ 39 → left-from text i ≡ left-from text (i + width-at (drop i text))
+  unfolding skipped letter
+  left-quote e = go (range-there (drop i text)) refl
+    where
+      go : (t : Bool) → range-there (drop i text) ≡ t → left-from text i ≡ left-from text (i + width-at (drop i text))
+      go true q = left-range text i more (rw e) (rw e) q ∙ ap (λ (n : ℕ). left-from text (i + n)) (sym (range-token text i (rw e) (sym q) .1))
+      go false q = left-byte (λ s. omega arith) q ∙ ap (λ (n : ℕ). left-from text (i + n)) (sym (sign-token text i (rw e) (sym q) .1))
+
   left-semicolon : byte text i ≡ 59 → left-from text i ≡ heads-from true (tokens-at text (i + 1))
   unfolding skipped letter range-there sign-of ends-line is-semicolon
   left-semicolon e = left-sign text i more (rw e) (rw e) (rw (front text i, e)) ∙ rw e
 
 -- PASSING, from one place inside a line to another, and to where the next line begins
 module _ (text : List ℕ) (at : ℕ) where
-  pub pass-quote-range :
-      at < length text → byte text at ≡ 39 → true ≡ range-there (drop at text) → Passes-heads text false at false (at + 5) × (at < at + 5)
-  unfolding skipped letter
-  pass-quote-range more e q = (record { left = left-range text at more (rw e) (rw e) (sym q); from = omega arith }, omega arith)
-
-  pub pass-quote-alone :
-      at < length text → byte text at ≡ 39 → false ≡ range-there (drop at text) → Passes-heads text false at false (at + 1) × (at < at + 1)
-  pass-quote-alone more e q = (record { left = left-byte text at more (λ s. omega arith) (sym q); from = omega arith }, omega arith)
-
   pub pass-none : (begins : Bool) → Passes-heads text begins at begins at
   pass-none b = record { left = refl; from = omega arith }
 
   module _ (i : ℕ) (come : Passes-heads text false at false i) where
-    pub pass-on : (begins : Bool) (to : ℕ) → Passes-heads text false i begins to → Passes-heads text false at begins to
-    pass-on b to p = record { left = come .left ∙ p .left; from = omega arith }
-
-    pub pass-end : length text ≤ i → Passes-heads text false at true i
-    pass-end h = record { left = come .left ∙ left-end text i h; from = come .from }
+    pub pass-end : length text ≤ i → Passes-heads text false at true i × (at < length text → at < i)
+    pass-end h = (record { left = come .left ∙ left-end text i h; from = come .from }, λ l. omega arith)
 
     module _ (more : i < length text) where
-      pub pass-semicolon : byte text i ≡ 59 → Passes-heads text false at true (i + 1)
-      pass-semicolon e = record { left = come .left ∙ left-semicolon text i more e; from = omega arith }
+      pub pass-semicolon : byte text i ≡ 59 → Passes-heads text false at true (i + 1) × (at < length text → at < i + 1)
+      pass-semicolon e = (record { left = come .left ∙ left-semicolon text i more e; from = omega (arith, come .from) }, λ l. omega (arith, come .from))
+
+      pub pass-quote : byte text i ≡ 39 → (to : ℕ) → to ≡ i + width-at (drop i text) → Passes-heads text false at false to
+      pass-quote e to q = record { left = come .left ∙ left-quote text i more e ∙ ap (left-from text) (sym q); from = omega (arith, come .from) }
+
+      pub pass-less : (to : ℕ) → to ≡ i + width-at (drop i text) → length text - to < length text - i
+      pass-less to q = omega (arith, width-there text i more)
 
       pub pass-byte : (byte text i ≡ 59 → ⊥) → (byte text i ≡ 39 → ⊥) → Passes-heads text false at false (i + 1)
       pass-byte d q = record { left = come .left ∙ left-byte text i more d (sym (range-first text i q)); from = omega arith }
+
+-- FROM A LINE'S START ON: letters there are its head, or a reserved word; with anything else it has none
+no-head : {t : Token} → No-name t → (hs : List (List ℕ)) → head-of true t hs ≡ hs
+unfolding head-of
+no-head a-sign hs = refl
+no-head a-range hs = refl
+no-head no-token hs = refl
+
+module _ (text : List ℕ) (i : ℕ) (more : i < length text) where
+  pub start-word :
+      letter (byte text i) ≡ true →
+      heads-from true (tokens-at text i) ≡ head-of true (word (letters (drop i text))) (heads-from false (tokens-at text (i + length (letters (drop i text)))))
+  unfolding heads-from tokens token-at width-at
+  start-word e = rw (lexemes-token text i more (letter-kept _ e), front text i, e, word-goes-on)
+
+  pub start-other :
+      skipped (byte text i) ≡ false → letter (byte text i) ≡ false → heads-from true (tokens-at text i) ≡ heads-from false (tokens-at text i)
+  unfolding heads-from tokens head-of
+  start-other kept other = rw (lexemes-token text i more kept) (no-head (no-name-there text i other) _)
+
+pub start-end : (text : List ℕ) (i : ℕ) → length text ≤ i → heads-from true (tokens-at text i) ≡ heads-from false (tokens-at text i)
+start-end text i h = sym (left-end text i h)

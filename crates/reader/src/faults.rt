@@ -1,33 +1,45 @@
 // The check of a text: its earliest fault, token by token, and the first name that no line defines.
 use crate::MAX_DEPTH;
-use crate::Scanned;
 use crate::Spot;
 use crate::Step;
 use crate::TextCheck;
 use crate::names::line_of;
-use crate::scanner::scan;
+use crate::names::next_word;
+use crate::scanner::RANGE_BYTES;
+use crate::scanner::is_letter;
+use crate::scanner::is_reserved;
+use crate::scanner::letters_from;
+use crate::scanner::range_at;
+use crate::scanner::sign_of;
+use crate::scanner::skip;
 use refusal::Refusal;
 use syntax::Sign;
 use syntax::Token;
 ghost use mathlib.Core.Path.{_≡_};
 ghost use mathlib.Core.Bool.{true, false, _&&_, cond};
 ghost use mathlib.Core.List.{List};
-ghost use Prim.Native.Nat.{ℕ, suc, _+_, _-_, _≤_};
+ghost use Prim.Native.Nat.{ℕ, suc, _+_, _-_, _<_, _≤_};
 ghost use lib.Dec.{eqb, ltb};
 ghost use lib.ListN.{length, take};
 ghost use Rattle.codec.specs.Bytes.{section};
-ghost use Rattle.syntax.specs.Tokens.{lexemes};
+ghost use Rattle.syntax.specs.Tokens.{range, word, lexemes};
 ghost use Rattle.syntax.specs.Faults as faults;
 ghost use Rattle.syntax.specs.Trees.{max-depth};
 ghost use Rattle.syntax.specs.code.Heads.{heads};
 ghost use Rattle.syntax.specs.declared.Token.the-variants.{Name};
 ghost use Rattle.reader.specs.code.Scanning.{token-of};
-ghost use Rattle.reader.specs.code.Stepping.{spot-of, next-of, lines-begun, Text-checked};
+ghost use Rattle.reader.specs.code.Stepping.{spot-of, next-of, lines-begun, Moves, Text-checked};
 
 // Refusal 15: the text is no grammar. Refusal 17: too many brackets are open.
 const UNGRAMMATICAL: u32 = 15;
 
 const TOO_DEEP: u32 = 17;
+
+// What a token leads to, and the place after it.
+pub struct Moved {
+    pub step: Step,
+    pub next: usize,
+}
 
 // A spot where something holds, and else refusal 15.
 fn to_if(holds: bool, spot: Spot) -> Step
@@ -123,17 +135,15 @@ fn by_name(text: &[u8], lines: usize, name: usize, long: usize) -> Step
     Step::To(Spot::AtEquals)
 }
 
-// What a token leads to where a line begins.
-fn from_line(text: &[u8], lines: usize, offset: usize, token: Token) -> Step
-    requires { ⌜ (lines ≤ length (heads (now text))) × ((k : ℕ) → token ≡ Name k → offset + k ≤ length (now text)) ⌝ }
-    ensures { λ r. ⌜ next-of r ≡ faults.next (take lines (heads (now (text .entry)))) faults.at-line (token-of (now (text .entry)) offset token) ⌝ }
+// A word where a line begins: it must be a name.
+fn from_line(text: &[u8], lines: usize, offset: usize, long: usize) -> Step
+    requires { ⌜ (lines ≤ length (heads (now text))) × (offset + long ≤ length (now text)) ⌝ }
+    ensures { λ r. ⌜ next-of r ≡ faults.next (take lines (heads (now (text .entry)))) faults.at-line (word (section (now (text .entry)) offset long)) ⌝ }
 {
-    match token {
-        Token::Name(long) => by_name(text, lines, offset, long),
-        Token::Sign(_) => Step::Wrong(UNGRAMMATICAL),
-        Token::Range(_) => Step::Wrong(UNGRAMMATICAL),
-        Token::Unknown => Step::Wrong(UNGRAMMATICAL),
+    if is_reserved(text, offset, long) {
+        return Step::Wrong(UNGRAMMATICAL);
     }
+    by_name(text, lines, offset, long)
 }
 
 // What a token leads to where = must come.
@@ -161,15 +171,67 @@ fn from_inside(complete: bool, opened: usize, token: Token) -> Step
     }
 }
 
-// What a token leads to, after so many lines.
-fn next(text: &[u8], lines: usize, spot: Spot, offset: usize, token: Token) -> Step
-    requires { ⌜ (lines ≤ length (heads (now text))) × ((k : ℕ) → token ≡ Name k → offset + k ≤ length (now text)) ⌝ }
-    ensures { λ r. ⌜ next-of r ≡ faults.next (take lines (heads (now (text .entry)))) (spot-of spot) (token-of (now (text .entry)) offset token) ⌝ }
+// What a word leads to, after so many lines. Inside an expression a name and a reserved word are operands alike.
+fn by_word(text: &[u8], lines: usize, spot: Spot, offset: usize, long: usize) -> Step
+    requires { ⌜ (lines ≤ length (heads (now text))) × (offset + long ≤ length (now text)) ⌝ }
+    ensures { λ r. ⌜ next-of r ≡ faults.next (take lines (heads (now (text .entry)))) (spot-of spot) (word (section (now (text .entry)) offset long)) ⌝ }
 {
     match spot {
-        Spot::AtLine => from_line(text, lines, offset, token),
+        Spot::AtLine => from_line(text, lines, offset, long),
+        Spot::AtEquals => Step::Wrong(UNGRAMMATICAL),
+        Spot::Inside(_, opened) => Step::To(Spot::Inside(true, opened)),
+    }
+}
+
+// What a range leads to, whatever its ends are.
+fn by_range(spot: Spot) -> Step
+    ensures { λ r. ⌜ ((ns : List (List ℕ)) (low high : ℕ) → next-of r ≡ faults.next ns (spot-of spot) (range low high)) ⌝ }
+{
+    match spot {
+        Spot::AtLine => Step::Wrong(UNGRAMMATICAL),
+        Spot::AtEquals => Step::Wrong(UNGRAMMATICAL),
+        Spot::Inside(_, opened) => Step::To(Spot::Inside(true, opened)),
+    }
+}
+
+// What a token that is no name leads to.
+fn next(spot: Spot, token: Token) -> Step
+    requires { ⌜ ((k : ℕ) → token ≡ Name k → ⊥) ⌝ }
+    ensures { λ r. ⌜ ((ns : List (List ℕ)) (text : List ℕ) (o : ℕ) → next-of r ≡ faults.next ns (spot-of spot) (token-of text o token)) ⌝ }
+{
+    match spot {
+        Spot::AtLine => Step::Wrong(UNGRAMMATICAL),
         Spot::AtEquals => from_equals(token),
         Spot::Inside(complete, opened) => from_inside(complete, opened, token),
+    }
+}
+
+// What the token at a place leads to, after so many lines, and the place after it.
+fn step_at(text: &[u8], lines: usize, spot: Spot, offset: usize) -> Moved
+    requires { ⌜ (lines ≤ length (heads (now text))) × (offset < length (now text)) ⌝ }
+    ensures { λ r. ⌜ Moves (now (text .entry)) lines (spot-of spot) offset r ⌝ }
+{
+    let byte = text[offset];
+    if is_letter(byte) {
+        let long = letters_from(text, offset);
+        let step = by_word(text, lines, spot, offset, long);
+        return Moved {
+            step,
+            next: offset + long,
+        };
+    }
+    if range_at(text, offset) {
+        let step = by_range(spot);
+        return Moved {
+            step,
+            next: offset + RANGE_BYTES,
+        };
+    }
+    let token = sign_of(byte);
+    let step = next(spot, token);
+    Moved {
+        step,
+        next: offset + 1,
     }
 }
 
@@ -214,6 +276,7 @@ fn at_end(spot: Spot, lines: usize, long: usize) -> Refusal
 }
 
 // The earliest fault of a text, or number 0 with the count of its lines.
+// It looks at the bytes itself: `scan` is too big to be inlined, and its answer would go through memory.
 pub fn check_text(text: &[u8]) -> TextCheck
     ensures { λ r. ⌜ Text-checked (now (text .entry)) r ⌝ }
 {
@@ -221,28 +284,24 @@ pub fn check_text(text: &[u8]) -> TextCheck
     let mut lines: usize = 0;
     let mut spot = Spot::AtLine;
     while at < text.len() {
-        let scanned = scan(text, at);
-        match scanned {
-            Scanned::Found(lexeme) => {
-                let token = lexeme.token;
-                let step = next(text, lines, spot, lexeme.offset, token);
-                match step {
-                    Step::To(after) => {
-                        lines += begun(spot);
-                        spot = after;
-                        at = lexeme.next;
-                    }
-                    Step::Wrong(number) => {
-                        let refusal = Refusal {
-                            number,
-                            place: lexeme.offset,
-                        };
-                        return TextCheck { refusal, lines };
-                    }
-                }
+        let offset = skip(text, at);
+        if text.len() <= offset {
+            let refusal = at_end(spot, lines, text.len());
+            return TextCheck { refusal, lines };
+        }
+        let moved = step_at(text, lines, spot, offset);
+        let step = moved.step;
+        match step {
+            Step::To(after) => {
+                lines += begun(spot);
+                spot = after;
+                at = moved.next;
             }
-            Scanned::End => {
-                let refusal = at_end(spot, lines, text.len());
+            Step::Wrong(number) => {
+                let refusal = Refusal {
+                    number,
+                    place: offset,
+                };
                 return TextCheck { refusal, lines };
             }
         }
@@ -251,48 +310,33 @@ pub fn check_text(text: &[u8]) -> TextCheck
     TextCheck { refusal, lines }
 }
 
-// Whether a token is a name that none of the lines has.
-fn is_undefined(text: &[u8], lines: usize, offset: usize, token: Token) -> bool
-    requires { ⌜ (lines ≡ length (heads (now text))) × ((k : ℕ) → token ≡ Name k → offset + k ≤ length (now text)) ⌝ }
-    ensures { λ r. ⌜ r ≡ faults.undefined-in (heads (now (text .entry))) (token-of (now (text .entry)) offset token) ⌝ }
+// Whether a word is a name that none of the lines has.
+fn is_undefined(text: &[u8], lines: usize, offset: usize, long: usize) -> bool
+    requires { ⌜ (lines ≡ length (heads (now text))) × (offset + long ≤ length (now text)) ⌝ }
+    ensures { λ r. ⌜ r ≡ faults.undefined-in (heads (now (text .entry))) (word (section (now (text .entry)) offset long)) ⌝ }
 {
-    match token {
-        Token::Name(long) => {
-            let line = line_of(text, offset, long);
-            line == lines
-        }
-        Token::Sign(_) => false,
-        Token::Range(_) => false,
-        Token::Unknown => false,
+    if is_reserved(text, offset, long) {
+        return false;
     }
+    let line = line_of(text, offset, long);
+    line == lines
 }
 
-// The first name that no line defines, in a text of so many lines, as refusal 15; or number 0.
+// The first name that no line defines, in a text of so many lines, as refusal 15; or number 0. Only the words are looked at.
 pub fn undefined_of(text: &[u8], lines: usize) -> Refusal
     requires { ⌜ lines ≡ length (heads (now text)) ⌝ }
     ensures { λ r. ⌜ r ≡ faults.first-undefined (heads (now (text .entry))) (lexemes (now (text .entry))) ⌝ }
 {
-    let mut at: usize = 0;
+    let mut at = next_word(text, 0);
     while at < text.len() {
-        let scanned = scan(text, at);
-        match scanned {
-            Scanned::Found(lexeme) => {
-                let token = lexeme.token;
-                if is_undefined(text, lines, lexeme.offset, token) {
-                    return Refusal {
-                        number: UNGRAMMATICAL,
-                        place: lexeme.offset,
-                    };
-                }
-                at = lexeme.next;
-            }
-            Scanned::End => {
-                return Refusal {
-                    number: 0,
-                    place: 0,
-                };
-            }
+        let long = letters_from(text, at);
+        if is_undefined(text, lines, at, long) {
+            return Refusal {
+                number: UNGRAMMATICAL,
+                place: at,
+            };
         }
+        at = next_word(text, at + long);
     }
     Refusal {
         number: 0,

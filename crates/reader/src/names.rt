@@ -1,24 +1,21 @@
-// The lines of a text by name: the number of the line that a name names.
+// The names of a text: the number of the line that a name names, and where the next word is.
 use crate::Head;
-use crate::Scanned;
 use crate::scanner::RANGE_BYTES;
+use crate::scanner::is_letter;
+use crate::scanner::is_reserved;
+use crate::scanner::letters_from;
 use crate::scanner::range_at;
 use crate::scanner::same_at;
-use crate::scanner::scan;
-use syntax::Sign;
-use syntax::Token;
+use crate::scanner::skip;
 ghost use mathlib.Core.Path.{_≡_};
-ghost use mathlib.Core.List.{List};
 ghost use mathlib.Core.Bool.{true, false};
-ghost use Prim.Native.Nat.{ℕ, _+_, _<_, _≤_};
-ghost use lib.ListN.{length};
+ghost use Prim.Native.Nat.{_+_, _<_, _≤_};
+ghost use lib.ListN.{length, drop};
 ghost use Rattle.codec.specs.Bytes.{byte, section};
-ghost use Rattle.syntax.specs.Tokens.{same};
+ghost use Rattle.syntax.specs.Tokens.{letter, letters, same, width-at};
 ghost use Rattle.syntax.specs.Compile.{index-of};
-ghost use Rattle.syntax.specs.code.Heads.{is-semicolon, ends-line, heads};
-ghost use Rattle.syntax.specs.declared.Token.the-variants.{Name};
-ghost use Rattle.reader.specs.code.Scanning.{token-of};
-ghost use Rattle.reader.specs.code.Naming.{head-by, Passes-heads};
+ghost use Rattle.syntax.specs.code.Heads.{heads};
+ghost use Rattle.reader.specs.code.Naming.{head-in, Passes-heads, Passes-names};
 
 // Whether the `long` letters from `name` on are the `wide` ones from `other` on.
 fn same_letters(text: &[u8], name: usize, long: usize, other: usize, wide: usize) -> bool
@@ -29,37 +26,10 @@ fn same_letters(text: &[u8], name: usize, long: usize, other: usize, wide: usize
     same_at(text, name, long, &text[other..end])
 }
 
-fn is_semicolon(sign: Sign) -> bool
-    ensures { λ r. ⌜ r ≡ is-semicolon sign ⌝ }
-{
-    match sign {
-        Sign::Operand(_) => false,
-        Sign::Before(_) => false,
-        Sign::After(_) => false,
-        Sign::Slash => false,
-        Sign::Opening => false,
-        Sign::Closing => false,
-        Sign::Equals => false,
-        Sign::Semicolon => true,
-    }
-}
-
-// Whether a line begins after a token.
-pub fn ends_line(token: Token) -> bool
-    ensures { λ r. ⌜ ((text : List ℕ) (o : ℕ) → r ≡ ends-line (token-of text o token)) ⌝ }
-{
-    match token {
-        Token::Name(_) => false,
-        Token::Sign(sign) => is_semicolon(sign),
-        Token::Range(_) => false,
-        Token::Unknown => false,
-    }
-}
-
 // The place after a quote, or after the range that begins with it.
 fn after_quote(text: &[u8], at: usize) -> usize
     requires { ⌜ (at < length (now text)) × (byte (now text) at ≡ 39) ⌝ }
-    ensures { λ r. ⌜ Passes-heads (now (text .entry)) false at false r × (at < r) ⌝ }
+    ensures { λ r. ⌜ r ≡ at + width-at (drop at (now (text .entry))) ⌝ }
 {
     if range_at(text, at) {
         return at + RANGE_BYTES;
@@ -69,7 +39,7 @@ fn after_quote(text: &[u8], at: usize) -> usize
 
 // The place after the next semicolon from a place on, or the text's end; a semicolon inside a range is none.
 fn after_line(text: &[u8], at: usize) -> usize
-    ensures { λ r. ⌜ Passes-heads (now (text .entry)) false at true r ⌝ }
+    ensures { λ r. ⌜ Passes-heads (now (text .entry)) false at true r × (at < length (now (text .entry)) → at < r) ⌝ }
 {
     let mut i = at;
     while i < text.len() {
@@ -86,33 +56,40 @@ fn after_line(text: &[u8], at: usize) -> usize
     i
 }
 
-// The place where the next line begins, for a token and the place after it.
-fn next_line(text: &[u8], token: Token, next: usize) -> usize
-    ensures { λ r. ⌜ ((o : ℕ) → Passes-heads (now (text .entry)) (ends-line (token-of (now (text .entry)) o token)) next true r) ⌝ }
+// The place of the next letter that is in no range, or the text's end.
+pub fn next_word(text: &[u8], at: usize) -> usize
+    ensures { λ r. ⌜ Passes-names (now (text .entry)) at r × (r < length (now (text .entry)) → letter (byte (now (text .entry)) r) ≡ true) ⌝ }
 {
-    if ends_line(token) {
-        return next;
+    let mut i = at;
+    while i < text.len() {
+        let byte = text[i];
+        if is_letter(byte) {
+            return i;
+        }
+        if byte == b'\'' {
+            i = after_quote(text, i);
+        } else {
+            i += 1;
+        }
     }
-    after_line(text, next)
+    i
 }
 
-// What a line's first token is to the search for a name: a name there is the line's head.
-fn head_of(text: &[u8], name: usize, long: usize, offset: usize, token: Token) -> Head
-    requires { ⌜ (name + long ≤ length (now text)) × ((k : ℕ) → token ≡ Name k → offset + k ≤ length (now text)) ⌝ }
-    ensures { λ r. ⌜ r ≡ head-by (section (now (text .entry)) name long) (token-of (now (text .entry)) offset token) ⌝ }
+// What the `wide` letters where a line begins are to the search for a name: a name there is the line's head.
+fn head_of(text: &[u8], name: usize, long: usize, offset: usize, wide: usize) -> Head
+    requires { ⌜ (name + long ≤ length (now text)) × (wide ≡ length (letters (drop offset (now text)))) ⌝ }
+    ensures { λ r. ⌜ r ≡ head-in (section (now (text .entry)) name long) (letters (drop offset (now (text .entry)))) ⌝ }
 {
-    match token {
-        Token::Name(wide) => {
-            if same_letters(text, name, long, offset, wide) {
-                Head::Sought
-            } else {
-                Head::Other
-            }
-        }
-        Token::Sign(_) => Head::Nothing,
-        Token::Range(_) => Head::Nothing,
-        Token::Unknown => Head::Nothing,
+    if wide == 0 {
+        return Head::Nothing;
     }
+    if is_reserved(text, offset, wide) {
+        return Head::Nothing;
+    }
+    if same_letters(text, name, long, offset, wide) {
+        return Head::Sought;
+    }
+    Head::Other
 }
 
 // The number of the line that the `long` letters from `name` on name, or the count of lines where they name none.
@@ -123,20 +100,16 @@ pub fn line_of(text: &[u8], name: usize, long: usize) -> usize
     let mut at: usize = 0;
     let mut line: usize = 0;
     while at < text.len() {
-        let scanned = scan(text, at);
-        match scanned {
-            Scanned::Found(lexeme) => {
-                let token = lexeme.token;
-                let head = head_of(text, name, long, lexeme.offset, token);
-                match head {
-                    Head::Sought => return line,
-                    Head::Other => line += 1,
-                    Head::Nothing => {}
-                }
-                at = next_line(text, token, lexeme.next);
-            }
-            Scanned::End => return line,
+        let offset = skip(text, at);
+        let wide = letters_from(text, offset);
+        let head = head_of(text, name, long, offset, wide);
+        match head {
+            Head::Sought => return line,
+            Head::Other => line += 1,
+            Head::Nothing => {}
         }
+        // A line whose first token is no word is passed from that token on: it may be the semicolon.
+        at = after_line(text, offset + wide);
     }
     line
 }

@@ -13,13 +13,13 @@ ghost use Prim.Native.Nat.{ℕ, _+_, _<_, _≤_};
 ghost use lib.ListN.{length, drop};
 ghost use Rattle.codec.specs.Bytes.{section};
 ghost use Rattle.syntax.specs.Tokens.{letter, letters, same, sign-of, range-there, skipped};
-ghost use Rattle.reader.specs.code.Scanning.{token-of, Scans, Skips, Scans-word, Scans-token};
+ghost use Rattle.reader.specs.code.Scanning.{token-of, reserved, Scans, Skips, Scans-word, Scans-token};
 
 // The bytes of a range: quote, low, minus, high, quote.
 pub const RANGE_BYTES: usize = 5;
 
 // Whether a byte is a letter, a to z.
-fn is_letter(byte: u8) -> bool
+pub fn is_letter(byte: u8) -> bool
     ensures { λ r. ⌜ r ≡ letter byte ⌝ }
 {
     if byte < b'a' {
@@ -39,7 +39,7 @@ fn is_skipped(byte: u8) -> bool
 }
 
 // The first place from `at` on that is not skipped.
-fn skip(text: &[u8], at: usize) -> usize
+pub fn skip(text: &[u8], at: usize) -> usize
     ensures { λ r. ⌜ Skips (now (text .entry)) at r ⌝ }
 {
     let mut i = at;
@@ -53,7 +53,7 @@ fn skip(text: &[u8], at: usize) -> usize
 }
 
 // How many letters stand from `at` on.
-fn letters_from(text: &[u8], at: usize) -> usize
+pub fn letters_from(text: &[u8], at: usize) -> usize
     ensures { λ r. ⌜ r ≡ length (letters (drop at (now (text .entry)))) ⌝ }
 {
     let mut i = at;
@@ -83,6 +83,17 @@ pub fn same_at(text: &[u8], at: usize, long: usize, word: &[u8]) -> bool
         i += 1;
     }
     true
+}
+
+// Whether the `long` letters from `at` on are a reserved word.
+pub fn is_reserved(text: &[u8], at: usize, long: usize) -> bool
+    requires { ⌜ at + long ≤ length (now text) ⌝ }
+    ensures { λ r. ⌜ r ≡ reserved (section (now (text .entry)) at long) ⌝ }
+{
+    if same_at(text, at, long, b"empty") {
+        return true;
+    }
+    same_at(text, at, long, b"fail")
 }
 
 // The token of a run of letters: a reserved word or a name.
@@ -120,7 +131,7 @@ pub fn range_at(text: &[u8], at: usize) -> bool
 }
 
 // The token that is a sign's byte, or the unknown one.
-fn sign_of(byte: u8) -> Token
+pub fn sign_of(byte: u8) -> Token
     ensures { λ r. ⌜ ((text : List ℕ) (o : ℕ) → token-of text o r ≡ sign-of byte) ⌝ }
 {
     if byte == b'=' {

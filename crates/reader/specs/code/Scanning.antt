@@ -1,6 +1,6 @@
 -- What the scanner finds from a place of a text on. Assumes nothing: these are definitions.
 use mathlib.Core.Path.{_≡_}
-use mathlib.Core.Bool.{false}
+use mathlib.Core.Bool.{Bool, false, _||_}
 use mathlib.Core.List.{List, [], _∷_}
 use mathlib.Core.Logic.{_⊎_}
 use Prim.Native.Nat.{ℕ, _+_, _<_, _≤_}
@@ -8,7 +8,7 @@ use lib.ListN.{length, drop}
 use Rattle.codec.specs.Bytes.{byte, section}
 use Rattle.syntax.specs.declared.Token as Code
 use Rattle.syntax.specs.declared.Token.the-variants.{Name, Sign, Range, Unknown}
-use Rattle.syntax.specs.Tokens.{Token, Lexeme, name, sign, range, unknown, lexemes-from, skipped, word, token-at, width-at}
+use Rattle.syntax.specs.Tokens.{Token, Lexeme, name, sign, range, unknown, lexemes-from, skipped, same, empty-word, fail-word, word, token-at, width-at}
 use Rattle.reader.specs.declared.Lexeme as Scanner
 use Rattle.reader.specs.declared.Scanned.{Scanned}
 use Rattle.reader.specs.declared.Scanned.the-variants.{Found, End}
@@ -23,6 +23,10 @@ token-of text o (Name k) = name (section text o k)
 token-of text o (Sign s) = sign s
 token-of text o (Range r) = range (r .low) (r .high)
 token-of text o Unknown = unknown
+
+-- whether letters are a reserved word
+unfoldable pub reserved : (letters : List ℕ) → Bool
+reserved ls = same ls empty-word || same ls fail-word
 
 -- a lexeme is the first from the place on, and the others follow after it
 pub record Scans-to (text : List ℕ) (at : ℕ) (l : Scanner.Lexeme) : Type 0 where

@@ -1,52 +1,22 @@
--- `reader::faults::from_line` meets its contract: only a name may begin a line. Assumes nothing.
-use borrow.Author.Needs.{needs}
-use Rattle.syntax.specs.Faults.{next}
-use Rattle.reader.specs.code.Scanning.{token-of}
+-- `reader::faults::from_line` meets its contract: a reserved word is refused, and a name must be new. Assumes nothing.
+use mathlib.Core.Path.{sym, _∙_}
 use Rattle.reader.specs.code.Stepping.{next-of}
+use Rattle.reader.proofs.Moving.{line-reserved, line-named}
 use Rattle.reader.proofs.faults.from_line.Statement.{statement}
 use Rattle.reader.proofs.faults.from_line.Tie as tie
 
-enum-known-token : tie.Need-enum-known-token
-enum-known-token c = search needs
-
-by-name-requires : tie.Need-by-name-requires
-by-name-requires c κs = (c .before .before .before .before .pre .0, c .before .before .before .before .pre .1 _ (c .before .token .given .1))
-
-enum-told : tie.Need-enum-told
-enum-told c = search needs
-
-enum-told-2 : tie.Need-enum-told-2
-enum-told-2 c = search needs
-
-enum-told-3 : tie.Need-enum-told-3
-enum-told-3 c = search needs
+is-reserved-requires : tie.Need-is-reserved-requires
+is-reserved-requires c κs = c .before .pre .1
 
 returns : tie.Need-returns
-unfolding next token-of
-returns c = simp (c .before .before .token .given .1) (c .by-name .ensures)
+unfolding next-of
+returns c = sym (line-reserved _ _ (sym (c .if1 .taken) ∙ c .before .is-reserved .ensures))
+
+by-name-requires : tie.Need-by-name-requires
+by-name-requires c κs = c .before .before .before .pre
 
 returns-2 : tie.Need-returns-2
-unfolding next-of next token-of
-returns-2 c = simp (c .enum-told .given .1)
-
-returns-3 : tie.Need-returns-3
-unfolding next-of next token-of
-returns-3 c = simp (c .enum-told2 .given .1)
-
-returns-4 : tie.Need-returns-4
-unfolding next-of next token-of
-returns-4 c = simp (c .enum-told3 .given .1)
+returns-2 c = c .by-name .ensures ∙ sym (line-named _ _ (sym (c .before .if1 .left) ∙ c .before .before .is-reserved .ensures))
 
 pub from-line-spec : {M : Type 1} → statement M
-from-line-spec =
-    tie.close
-    (tie.spec
-    enum-known-token
-    by-name-requires
-    enum-told
-    enum-told-2
-    enum-told-3
-    returns
-    returns-2
-    returns-3
-    returns-4)
+from-line-spec = tie.close (tie.spec is-reserved-requires returns by-name-requires returns-2)

@@ -1,54 +1,20 @@
--- `reader::faults::is_undefined` meets its contract: only a name can be. Assumes nothing.
-use borrow.Author.Needs.{needs}
-use Rattle.syntax.specs.Faults.{undefined-in}
-use Rattle.reader.specs.code.Scanning.{token-of}
-use Rattle.reader.proofs.Undefined.{undefined-name}
+-- `reader::faults::is_undefined` meets its contract: a reserved word never is, and a name where its line is the count of lines. Assumes nothing.
+use mathlib.Core.Path.{sym, _∙_}
+use Rattle.reader.proofs.Undefined.{reserved-defined, named-undefined}
 use Rattle.reader.proofs.faults.is_undefined.Statement.{statement}
 use Rattle.reader.proofs.faults.is_undefined.Tie as tie
 
-enum-known-token : tie.Need-enum-known-token
-enum-known-token c = search needs
-
-line-of-requires : tie.Need-line-of-requires
-line-of-requires c κs = c .before .before .before .before .pre .1 _ (c .before .token .given .1)
-
-enum-told : tie.Need-enum-told
-enum-told c = search needs
-
-enum-told-2 : tie.Need-enum-told-2
-enum-told-2 c = search needs
-
-enum-told-3 : tie.Need-enum-told-3
-enum-told-3 c = search needs
+is-reserved-requires : tie.Need-is-reserved-requires
+is-reserved-requires c κs = c .before .pre .1
 
 returns : tie.Need-returns
-unfolding undefined-in token-of
-returns c =
-    let start = c .before .before .before .before .before in
-    simp (c .before .before .token .given .1) (simp (c .line-of .ensures, start .pre .0) (undefined-name _ _))
+returns c = reserved-defined _ _ (sym (c .if1 .taken) ∙ c .before .is-reserved .ensures)
+
+line-of-requires : tie.Need-line-of-requires
+line-of-requires c κs = c .before .before .before .pre .1
 
 returns-2 : tie.Need-returns-2
-unfolding undefined-in token-of
-returns-2 c = simp (c .enum-told .given .1)
-
-returns-3 : tie.Need-returns-3
-unfolding undefined-in token-of
-returns-3 c = simp (c .enum-told2 .given .1)
-
-returns-4 : tie.Need-returns-4
-unfolding undefined-in token-of
-returns-4 c = simp (c .enum-told3 .given .1)
+returns-2 c = named-undefined _ _ (sym (c .before .if1 .left) ∙ c .before .before .is-reserved .ensures) _ _ (c .line-of .ensures) (c .before .before .before .before .pre .0)
 
 pub is-undefined-spec : {M : Type 1} → statement M
-is-undefined-spec =
-    tie.close
-    (tie.spec
-    enum-known-token
-    line-of-requires
-    enum-told
-    enum-told-2
-    enum-told-3
-    returns
-    returns-2
-    returns-3
-    returns-4)
+is-undefined-spec = tie.close (tie.spec is-reserved-requires returns line-of-requires returns-2)

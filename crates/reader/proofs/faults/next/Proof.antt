@@ -1,14 +1,13 @@
 -- `reader::faults::next` meets its contract: one case for each spot. Assumes nothing.
+use mathlib.Core.Path.{sym}
 use borrow.Author.Needs.{needs}
-use Rattle.reader.specs.code.Stepping.{spot-of}
+use Rattle.reader.specs.code.Stepping.{spot-of, next-of}
+use Rattle.reader.proofs.Moving.{line-other}
 use Rattle.reader.proofs.faults.next.Statement.{statement}
 use Rattle.reader.proofs.faults.next.Tie as tie
 
 enum-told : tie.Need-enum-told
 enum-told c = search needs
-
-from-line-requires : tie.Need-from-line-requires
-from-line-requires c κs = c .before .before .before .pre
 
 enum-told-2 : tie.Need-enum-told-2
 enum-told-2 c = search needs
@@ -23,23 +22,22 @@ from-inside-requires : tie.Need-from-inside-requires
 from-inside-requires c κs = search needs
 
 returns : tie.Need-returns
-unfolding spot-of
-returns c = simp (c .before .enum-told .given .1) (c .from-line .ensures)
+unfolding spot-of next-of
+returns c = λ ns text o. simp (c .enum-told .given .1) (sym (line-other ns text o _ (c .before .before .pre)))
 
 returns-2 : tie.Need-returns-2
 unfolding spot-of
-returns-2 c = simp (c .before .enum-told2 .given .1) (c .from-equals .ensures _ _ _)
+returns-2 c = λ ns text o. simp (c .before .enum-told2 .given .1) (c .from-equals .ensures ns text o)
 
 returns-3 : tie.Need-returns-3
 unfolding spot-of
-returns-3 c = simp (c .before .before .spot .given .1) (c .from-inside .ensures _ _ _)
+returns-3 c = λ ns text o. simp (c .before .before .spot .given .1) (c .from-inside .ensures ns text o)
 
 pub next-spec : {M : Type 1} → statement M
 next-spec =
     tie.close
     (tie.spec
     enum-told
-    from-line-requires
     enum-told-2
     from-equals-requires
     enum-known-spot

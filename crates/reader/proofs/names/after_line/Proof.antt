@@ -1,11 +1,10 @@
 -- `reader::names::after_line` meets its contract: the loop's invariant says that no line's head was passed. Assumes nothing.
 use mathlib.Core.Bool.{false}
 use Prim.Native.Nat.{_-_}
-use native.Mathlib.Omega.{arith}
 use lib.ListN.{length}
 use borrow.Author.Needs.{needs}
 use Rattle.reader.specs.code.Naming.{Passes-heads}
-use Rattle.reader.proofs.Passing.{pass-none, pass-on, pass-end, pass-semicolon, pass-byte}
+use Rattle.reader.proofs.Passing.{pass-none, pass-end, pass-semicolon, pass-quote, pass-less, pass-byte}
 use Rattle.reader.proofs.names.after_line.Statement.{statement}
 use Rattle.reader.proofs.names.after_line.Tie as tie
 
@@ -33,10 +32,14 @@ after-quote-requires : tie.Need-after-quote-requires Inv-loop μ-loop
 after-quote-requires c κs = (c .before .before .before .loop-test .taken, c .if2 .taken)
 
 loop-less : tie.Need-loop-less Inv-loop μ-loop
-loop-less c = omega (arith, c .after-quote .ensures .1)
+loop-less c =
+    let test = c .before .before .before .before in
+    pass-less _ _ _ (test .before .loop .inv) (test .loop-test .taken) _ (c .after-quote .ensures)
 
 loop-again : tie.Need-loop-again Inv-loop μ-loop
-loop-again c = pass-on _ _ _ (c .before .before .before .before .before .loop .inv) _ _ (c .after-quote .ensures .0)
+loop-again c =
+    let test = c .before .before .before .before in
+    pass-quote _ _ _ (test .before .loop .inv) (test .loop-test .taken) (c .before .if2 .taken) _ (c .after-quote .ensures)
 
 add-i : tie.Need-add-i Inv-loop μ-loop
 add-i c = search needs

@@ -6,7 +6,8 @@ use lib.ListN.{length}
 use borrow.Author.Needs.{needs}
 use Rattle.codec.specs.Bytes.{section}
 use Rattle.reader.proofs.Lexing.{lexemes-end}
-use Rattle.reader.proofs.Searching.{Searching, scan-found, scan-ended, search-start, search-end, search-found, search-other, search-nothing}
+use Rattle.reader.proofs.Tokenizing.{letters-room}
+use Rattle.reader.proofs.Searching.{Searching, search-start, search-end, search-found, search-other, search-nothing, line-further}
 use Rattle.reader.proofs.names.line_of.Statement.{statement}
 use Rattle.reader.proofs.names.line_of.Tie as tie
 
@@ -19,26 +20,24 @@ abbrev μ-loop : tie.MeasureT-loop
 loop-holds : tie.Need-loop-holds Inv-loop μ-loop
 loop-holds c = search-start _ _
 
-scan-requires : tie.Need-scan-requires Inv-loop μ-loop
-scan-requires c κs = search needs
+skip-requires : tie.Need-skip-requires Inv-loop μ-loop
+skip-requires c κs = search needs
 
-enum-known-scanned : tie.Need-enum-known-scanned Inv-loop μ-loop
-enum-known-scanned c = search needs
+letters-from-requires : tie.Need-letters-from-requires Inv-loop μ-loop
+letters-from-requires c κs = search needs
 
 head-of-requires : tie.Need-head-of-requires Inv-loop μ-loop
-head-of-requires c κs =
-    let scanned = c .before .before .before in
-    let s = scan-found _ _ _ _ (scanned .scan .ensures) (c .before .scanned .given .1) in
-    (scanned .before .before .before .before .pre, λ k e. omega (arith, s .named k e, s .within))
+head-of-requires c κs = (c .before .before .before .before .before .pre, c .letters-from .ensures)
 
 enum-told : tie.Need-enum-told Inv-loop μ-loop
 enum-told c = search needs
 
 returns : tie.Need-returns Inv-loop μ-loop
 returns c =
-    let scanned = c .before .before .before .before .before .before in
-    let s = scan-found _ _ _ _ (scanned .scan .ensures) (c .before .before .before .before .scanned .given .1) in
-    search-found _ _ _ _ (scanned .before .before .loop .inv) _ s _ (c .before .before .head-of .ensures) (c .enum-told .given .1)
+    let told = c .before .before in
+    let skipped = told .before .before in
+    search-found _ _ _ _ (skipped .before .before .loop .inv) _ (skipped .skip .ensures) _ (told .before .letters-from .ensures) _ (told .head-of .ensures)
+    (c .enum-told .given .1)
 
 enum-told-2 : tie.Need-enum-told-2 Inv-loop μ-loop
 enum-told-2 c = search needs
@@ -49,37 +48,37 @@ add-line c = search needs
 enum-told-3 : tie.Need-enum-told-3 Inv-loop μ-loop
 enum-told-3 c = search needs
 
-next-line-requires : tie.Need-next-line-requires Inv-loop μ-loop
-next-line-requires c κs = search needs
+add-after-line : tie.Need-add-after-line Inv-loop μ-loop
+add-after-line c =
+    let skipped = c .before .before .before in
+    let start = skipped .before .before .before .before in
+    omega (arith, letters-room (start .args .text .now) (skipped .skip .result) _ (c .before .before .letters-from .ensures), skipped .skip .ok)
+
+after-line-requires : tie.Need-after-line-requires Inv-loop μ-loop
+after-line-requires c κs = search needs
 
 loop-less : tie.Need-loop-less Inv-loop μ-loop
 loop-less c =
-    let found = c .before .before .before .before in
-    let s = scan-found _ _ _ _ (found .before .before .scan .ensures) (found .scanned .given .1) in
-    omega (arith, s .from, s .some, (c .next-line .ensures 0) .from)
+    let skipped = c .before .before .before .before in
+    let test = skipped .before in
+    omega (arith, test .loop-test .taken, line-further _ _ _ _ _ (test .loop-test .taken) (skipped .skip .ensures) (c .after-line .ensures))
 
 loop-again : tie.Need-loop-again Inv-loop μ-loop
 loop-again c =
     let told = c .before .before in
-    let scanned = told .before .before .before .before in
-    let turn = scanned .before .before in
-    let s = scan-found _ _ _ _ (scanned .scan .ensures) (told .before .before .scanned .given .1) in
-    let after = c .next-line .ensures _ in
+    let skipped = told .before .before in
+    let turn = skipped .before .before in
+    let s = skipped .skip .ensures in
+    let letters = told .before .letters-from .ensures in
+    let after = c .after-line .ensures in
+    let further = line-further _ _ _ _ _ (skipped .before .loop-test .taken) s after in
     ⊎-elim
-    (λ w. search-other _ _ _ _ (turn .loop .inv) _ s _ (told .head-of .ensures) _ after (w .1 .given .1) _ (w .2))
-    (λ w. search-nothing _ _ _ _ (turn .loop .inv) _ s _ (told .head-of .ensures) _ after (w .1 .given .1) _ (w .2))
-    (c .before .match2 .came)
-
-enum-told-4 : tie.Need-enum-told-4 Inv-loop μ-loop
-enum-told-4 c = search needs
+    (λ w. search-other _ _ _ _ (turn .loop .inv) _ s _ letters _ (told .head-of .ensures) _ (after .0) further (w .1 .given .1) _ (w .2))
+    (λ w. search-nothing _ _ _ _ (turn .loop .inv) _ s _ letters _ (told .head-of .ensures) _ (after .0) further (w .1 .given .1) _ (w .2))
+    (c .before .match .came)
 
 returns-2 : tie.Need-returns-2 Inv-loop μ-loop
-returns-2 c =
-    let scanned = c .before .before in
-    search-end _ _ _ _ (scanned .before .before .loop .inv) (scan-ended _ _ _ (scanned .scan .ensures) (c .enum-told4 .given .1))
-
-returns-3 : tie.Need-returns-3 Inv-loop μ-loop
-returns-3 c = search-end _ _ _ _ (c .before .loop .inv) (lexemes-end _ _ (c .loop-test .left))
+returns-2 c = search-end _ _ _ _ (c .before .loop .inv) (lexemes-end _ _ (c .loop-test .left))
 
 pub line-of-spec : {M : Type 1} → statement M
 line-of-spec =
@@ -88,17 +87,16 @@ line-of-spec =
     Inv-loop
     μ-loop
     loop-holds
-    scan-requires
-    enum-known-scanned
+    skip-requires
+    letters-from-requires
     head-of-requires
     enum-told
     returns
     enum-told-2
     add-line
     enum-told-3
-    next-line-requires
+    add-after-line
+    after-line-requires
     loop-less
     loop-again
-    enum-told-4
-    returns-2
-    returns-3)
+    returns-2)

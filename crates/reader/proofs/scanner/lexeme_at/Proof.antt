@@ -2,7 +2,7 @@
 use mathlib.Core.Path.{sym, _∙_}
 use native.Mathlib.Omega.{arith}
 use borrow.Author.Needs.{needs}
-use Rattle.reader.proofs.Tokenizing.{letters-within, range-within, word-scanned, range-scanned, sign-scanned}
+use Rattle.reader.proofs.Tokenizing.{letters-room, range-within, word-scanned, range-scanned, sign-scanned}
 use Rattle.reader.proofs.scanner.lexeme_at.Statement.{statement}
 use Rattle.reader.proofs.scanner.lexeme_at.Tie as tie
 
@@ -18,12 +18,12 @@ letters-from-requires c κs = search needs
 word-at-requires : tie.Need-word-at-requires
 word-at-requires c κs =
     let start = c .before .before .before .before .before in
-    letters-within (start .args .text .now) (start .args .at) _ (start .pre) (c .letters-from .ensures)
+    omega (arith, start .pre, letters-room (start .args .text .now) (start .args .at) _ (c .letters-from .ensures))
 
 add-t11 : tie.Need-add-t11
 add-t11 c =
     let start = c .before .before .before .before .before .before in
-    omega (arith, letters-within (start .args .text .now) (start .args .at) _ (start .pre) (c .before .letters-from .ensures))
+    omega (arith, start .pre, letters-room (start .args .text .now) (start .args .at) _ (c .before .letters-from .ensures))
 
 returns : tie.Need-returns
 returns c =
