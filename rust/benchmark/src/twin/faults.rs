@@ -45,7 +45,7 @@ fn inside(complete: bool, opened: u32, token: Token) -> Result<Spot, Reason> {
 pub(super) fn line_of(text: &[u8], name: &[u8]) -> Option<u32> {
     let mut reader = Reader::new(text);
     let mut line = 0;
-    while let Some((_, Token::Name(head))) = reader.next() {
+    while let Some(head) = reader.line_name() {
         if head == name {
             return Some(line);
         }
@@ -75,11 +75,10 @@ pub(super) fn check_text(text: &[u8]) -> Result<u32, Error> {
 }
 
 fn check_names(text: &[u8]) -> Result<(), Error> {
-    for (offset, token) in Reader::new(text) {
-        if let Token::Name(name) = token {
-            if line_of(text, name).is_none() {
-                return Err(refused(Reason::TextSyntax, offset));
-            }
+    let mut reader = Reader::new(text);
+    while let Some((offset, name)) = reader.next_name() {
+        if line_of(text, name).is_none() {
+            return Err(refused(Reason::TextSyntax, offset));
         }
     }
     Ok(())

@@ -46,9 +46,40 @@ impl<'a> Reader<'a> {
         Reader { ..*self }.next().map(|(_, token)| token)
     }
 
+    /// The name that a line begins with: no other token is read.
+    pub fn line_name(&mut self) -> Option<&'a [u8]> {
+        self.skip();
+        let name = letters(self.text.get(self.at..)?);
+        self.at += name.len();
+        is_name(name).then_some(name)
+    }
+
     /// Passes the rest of a line, its semicolon included.
     pub fn pass_line(&mut self) {
         self.at = after_line(self.text, self.at);
+    }
+
+    /// The next name with its offset: no other token is read.
+    pub fn next_name(&mut self) -> Option<(usize, &'a [u8])> {
+        loop {
+            self.at = next_letter(self.text, self.at);
+            let offset = self.at;
+            let word = letters(self.text.get(offset..)?);
+            if word.is_empty() {
+                return None;
+            }
+            self.at += word.len();
+            if is_name(word) {
+                return Some((offset, word));
+            }
+        }
+    }
+
+    #[inline]
+    fn skip(&mut self) {
+        while let Some(b' ' | b'\n') = self.text.get(self.at) {
+            self.at += 1;
+        }
     }
 }
 
@@ -57,9 +88,7 @@ impl<'a> Iterator for Reader<'a> {
 
     #[inline]
     fn next(&mut self) -> Option<(usize, Token<'a>)> {
-        while let Some(b' ' | b'\n') = self.text.get(self.at) {
-            self.at += 1;
-        }
+        self.skip();
         let offset = self.at;
         let (token, width) = token_of(self.text.get(offset..)?)?;
         self.at += width;
@@ -80,6 +109,32 @@ fn after_line(text: &[u8], mut at: usize) -> usize {
     at
 }
 
+/// The place of the next letter that is in no range, or the text's end.
+#[inline]
+fn next_letter(text: &[u8], mut at: usize) -> usize {
+    while let Some(&byte) = text.get(at) {
+        at += match byte {
+            b'a'..=b'z' => return at,
+            b'\'' if range_of(&text[at..]).is_some() => RANGE_BYTES,
+            _ => 1,
+        };
+    }
+    at
+}
+
+/// The letters at the front.
+#[inline]
+fn letters(text: &[u8]) -> &[u8] {
+    let end = text.iter().position(|byte| !byte.is_ascii_lowercase()).unwrap_or(text.len());
+    &text[..end]
+}
+
+/// Whether letters are a name: some, and no reserved word.
+#[inline]
+fn is_name(letters: &[u8]) -> bool {
+    !letters.is_empty() && letters != b"empty" && letters != b"fail"
+}
+
 /// The low and the high byte of a range at the front.
 #[inline]
 fn range_of(text: &[u8]) -> Option<(u8, u8)> {
@@ -94,8 +149,8 @@ fn range_of(text: &[u8]) -> Option<(u8, u8)> {
 fn token_of(text: &[u8]) -> Option<(Token<'_>, usize)> {
     let &byte = text.first()?;
     if byte.is_ascii_lowercase() {
-        let end = text.iter().position(|byte| !byte.is_ascii_lowercase()).unwrap_or(text.len());
-        return Some((word(&text[..end]), end));
+        let letters = letters(text);
+        return Some((word(letters), letters.len()));
     }
     if let Some((low, high)) = range_of(text) {
         return Some((Token::Range(low, high), RANGE_BYTES));
