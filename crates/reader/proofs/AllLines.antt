@@ -18,7 +18,7 @@ use Rattle.syntax.proofs.Counting.{line-counted, helpers-counted}
 use Rattle.reader.specs.declared.Rules.{Rules}
 use Rattle.reader.specs.Calls.{padded}
 use Rattle.reader.specs.code.Building.{rule-put, put-rules}
-use Rattle.reader.specs.code.Levels.{tokens-at}
+use Rattle.scanner.specs.code.Scanning.{tokens-at}
 use Rattle.reader.specs.code.Lines.{LineRead, Line-room, Line-read, Lines-room, Lines-right, Lines-read}
 use Rattle.reader.proofs.Tables.{table, named-written, helpers-written, table-first, table-last}
 use Rattle.reader.proofs.Lookings.{clash}

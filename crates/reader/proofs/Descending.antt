@@ -19,7 +19,8 @@ use Rattle.syntax.proofs.Counting.{compiled-need, placed-need}
 use Rattle.reader.specs.declared.Rules.{Rules}
 use Rattle.reader.specs.code.Building.{advanced}
 use Rattle.reader.specs.code.Operators.{Begun, Part, part, placed-rules, placed-number, begun-of}
-use Rattle.reader.specs.code.Levels.{tokens-at, Room, Stops, Reads-to, Part-right, Spent}
+use Rattle.scanner.specs.code.Scanning.{tokens-at}
+use Rattle.reader.specs.code.Levels.{Room, Stops, Reads-to, Part-right, Spent}
 use Rattle.reader.proofs.Emitting.{advanced-next, advanced-left}
 use Rattle.reader.proofs.Operating.{next-placed}
 use Rattle.reader.proofs.Placing.{Joins, pair-reads, placed-rules-is}

@@ -13,12 +13,12 @@ use Rattle.syntax.specs.Trees.{Tree, sequence, choice, Level, choices, parts, p
 use Rattle.syntax.specs.Compile.{own-rules, own-number, owed}
 use Rattle.syntax.specs.code.Heads.{heads}
 use Rattle.reader.specs.declared.Rules.{Rules}
-use Rattle.reader.specs.declared.Lexeme.{Lexeme}
-use Rattle.reader.specs.code.Scanning.{Peeks}
+use Rattle.scanner.specs.declared.Lexeme.{Lexeme}
+use Rattle.scanner.specs.code.Scanning.{Peeks, tokens-at}
 use Rattle.reader.specs.code.Lookahead.{starts-part, slash-found}
 use Rattle.reader.specs.code.Building.{advanced}
 use Rattle.reader.specs.code.Operators.{Begun, Part, part, over, Part-room, placed-rules, placed-number, begun-of}
-use Rattle.reader.specs.code.Levels.{tokens-at, Room, Stops, Spent, Level-read}
+use Rattle.reader.specs.code.Levels.{Room, Stops, Spent, Level-read}
 use Rattle.reader.proofs.Lookings.{slash-here, slash-not-here, start-here, start-there}
 use Rattle.reader.proofs.Placing.{Joins, sequence-joins, choice-joins}
 use Rattle.reader.proofs.Deriving.{Begins, After-slash, After-part, Parted, choices-parted, parts-parted}

@@ -25,11 +25,11 @@ use Rattle.syntax.specs.Needs.{need}
 use Rattle.syntax.specs.Compile.{index-of, owed, Compiled, compile-leaf, compile}
 use Rattle.syntax.specs.code.Heads.{heads}
 use Rattle.reader.specs.declared.Rules.{Rules}
-use Rattle.reader.specs.declared.Lexeme.{Lexeme}
+use Rattle.scanner.specs.declared.Lexeme.{Lexeme}
 use Rattle.reader.specs.code.Building.{advanced}
 use Rattle.reader.specs.code.Operators.{Part, over, part}
-use Rattle.reader.specs.code.Scanning.{token-of, Peeks}
-use Rattle.reader.specs.code.Levels.{Spent, tokens-at, leaf-made, name-made, Reads-to, Part-right, Level-right, Passes, Sign-right}
+use Rattle.scanner.specs.code.Scanning.{token-of, Peeks, tokens-at}
+use Rattle.reader.specs.code.Levels.{Spent, leaf-made, name-made, Reads-to, Part-right, Level-right, Passes, Sign-right}
 use Rattle.reader.proofs.Emitting.{advanced-none, advanced-next, advanced-left}
 use Rattle.reader.proofs.Lookings.{clash, peeked}
 use Rattle.reader.proofs.Deriving.{closing-stops}

@@ -2,17 +2,9 @@
 pub mod Emitting
 pub mod Peeking
 pub mod Operating
-pub mod Lexing
-pub mod Comparing
-pub mod Tokenizing
-pub mod Searching
-pub mod Passing
 pub mod Lookings
 pub mod Placing
 pub mod Deriving
-pub mod Moving
-pub mod Faulting
-pub mod Undefined
 pub mod Descending
 pub mod Operands
 pub mod Leaves

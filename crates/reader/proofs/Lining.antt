@@ -22,7 +22,8 @@ use Rattle.syntax.proofs.Counting.{compiled-need, line-counted}
 use Rattle.reader.specs.declared.Rules.{Rules}
 use Rattle.reader.specs.code.Building.{rule-put, put-rules, advanced, placed-at}
 use Rattle.reader.specs.code.Operators.{Part, Part-room}
-use Rattle.reader.specs.code.Levels.{tokens-at, Room, Passes, Part-right, Spent, Level-read, Reads-to}
+use Rattle.scanner.specs.code.Scanning.{tokens-at}
+use Rattle.reader.specs.code.Levels.{Room, Passes, Part-right, Spent, Level-read, Reads-to}
 use Rattle.reader.specs.code.Lines.{LineRead, with-left, line-with, topped-by, topped, Line-room, Line-done, Line-read}
 use Rattle.reader.proofs.Emitting.{advanced-on, advanced-none, advanced-next}
 use Rattle.reader.proofs.Deriving.{semicolon-stops}

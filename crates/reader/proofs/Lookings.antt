@@ -13,13 +13,13 @@ use Rattle.syntax.specs.declared.Token.{Token}
 use Rattle.syntax.specs.declared.Token.the-variants.{Name, Sign, Range, Unknown}
 use Rattle.syntax.specs.Tokens as Tokens
 use Rattle.syntax.specs.Tokens.{sign}
-use Rattle.reader.specs.declared.Lexeme.{Lexeme}
+use Rattle.scanner.specs.declared.Lexeme.{Lexeme}
 use Rattle.reader.specs.declared.lookahead.FoundPrefix.the-variants as Prefixes
 use Rattle.reader.specs.declared.lookahead.FoundSuffix.the-variants as Suffixes
-use Rattle.reader.specs.code.Scanning.{token-of, Peeks}
+use Rattle.scanner.specs.code.Scanning.{token-of, Peeks, tokens-at}
 use Rattle.reader.specs.code.Lookahead.{prefix-found, suffix-found, starts-part, slash-found}
-use Rattle.reader.proofs.Searching.{tokens-next, tokens-end}
-use Rattle.reader.specs.code.Levels.{tokens-at, suffix-sign, start-sign, by-sign, is-suffix, is-start}
+use Rattle.scanner.proofs.Searching.{tokens-next, tokens-end}
+use Rattle.reader.specs.code.Levels.{suffix-sign, start-sign, by-sign, is-suffix, is-start}
 
 -- two constructors that are equal
 pub clash : {A : Type 0} → _≡_ {A = ℕ} 0 1 → A

@@ -20,7 +20,8 @@ use Rattle.syntax.specs.Compile.{repetition-rules, own-rules, owed}
 use Rattle.reader.specs.declared.Rules.{Rules}
 use Rattle.reader.specs.code.Building.{advanced}
 use Rattle.reader.specs.code.Operators.{Part, over, part, Prefix-room, placed-rules, placed-number, prefix-by, prefix-made, suffix-made, suffix-done}
-use Rattle.reader.specs.code.Levels.{tokens-at, by-sign, suffix-sign, is-suffix, Stops, Reads-to, Part-right, Level-right, suffixed-all, suffix-tokens, Suffixes-right, Room, Spent}
+use Rattle.scanner.specs.code.Scanning.{tokens-at}
+use Rattle.reader.specs.code.Levels.{by-sign, suffix-sign, is-suffix, Stops, Reads-to, Part-right, Level-right, suffixed-all, suffix-tokens, Suffixes-right, Room, Spent}
 use Rattle.reader.proofs.Lookings.{clash}
 use Rattle.reader.proofs.Emitting.{advanced-next, advanced-left}
 use Rattle.reader.proofs.Operating.{next-placed, suffix-some}

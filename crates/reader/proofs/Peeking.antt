@@ -4,10 +4,10 @@ use mathlib.Core.List.{List}
 use mathlib.Core.Logic.{inl, inr}
 use Prim.Native.Nat.{ℕ}
 use Rattle.syntax.specs.declared.Token.the-variants.{Unknown}
-use Rattle.reader.specs.declared.Lexeme.{Lexeme}
-use Rattle.reader.specs.declared.Scanned.{Scanned}
-use Rattle.reader.specs.declared.Scanned.the-variants.{Found, End}
-use Rattle.reader.specs.code.Scanning.{Scans, Peeks}
+use Rattle.scanner.specs.declared.Lexeme.{Lexeme}
+use Rattle.scanner.specs.declared.Scanned.{Scanned}
+use Rattle.scanner.specs.declared.Scanned.the-variants.{Found, End}
+use Rattle.scanner.specs.code.Scanning.{Scans, Peeks}
 
 pub found-peeks : (text : List ℕ) (at : ℕ) (s : Scanned) (l : Lexeme) → s ≡ Found l → Scans text at s → Peeks text at l
 found-peeks text at s l e h = inl (subst (λ (x : Scanned). Scans text at x) e h)

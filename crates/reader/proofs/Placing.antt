@@ -21,7 +21,8 @@ use Rattle.syntax.specs.code.Heads.{heads}
 use Rattle.reader.specs.declared.Rules.{Rules}
 use Rattle.reader.specs.code.Building.{advanced}
 use Rattle.reader.specs.code.Operators.{Part, part, placed-rules, placed-number, prefix-by, prefix-made, suffix-done}
-use Rattle.reader.specs.code.Levels.{tokens-at, Reads-to}
+use Rattle.scanner.specs.code.Scanning.{tokens-at}
+use Rattle.reader.specs.code.Levels.{Reads-to}
 use Rattle.reader.proofs.Emitting.{advanced-on, advanced-next, advanced-none}
 
 -- AN EXPRESSION'S OWN RULE, after so many were taken

@@ -21,13 +21,13 @@ use Rattle.syntax.proofs.Heads.{heads-are}
 use Rattle.syntax.proofs.FaultsRight.{faults-right}
 use Rattle.syntax.proofs.Counting.{lines-needed, all-counted}
 use Rattle.syntax.proofs.Encoding.{length-encode}
-use Rattle.reader.specs.declared.TextCheck.{TextCheck}
+use Rattle.scanner.specs.declared.TextCheck.{TextCheck}
 use Rattle.reader.specs.declared.Lines.{Lines}
 use Rattle.reader.specs.declared.ReadGrammar.{ReadGrammar}
 use Rattle.reader.specs.Calls.{padded, grammar-answer, Read-tells}
-use Rattle.reader.specs.code.Stepping.{Text-checked}
+use Rattle.scanner.specs.code.Stepping.{Text-checked}
 use Rattle.reader.specs.code.Lines.{Lines-room, Lines-right, Lines-read}
-use Rattle.reader.proofs.Searching.{tokens-start}
+use Rattle.scanner.proofs.Searching.{tokens-start}
 
 length-map : (ds : List Definition) → length (names ds) ≡ length ds
 length-map [] = refl

@@ -17,11 +17,11 @@ use Rattle.syntax.specs.Trees.{Tree, choices, prefixes, operand, Derives}
 use Rattle.syntax.specs.Needs.{prefix-need}
 use Rattle.syntax.specs.Compile.{compile-leaf}
 use Rattle.reader.specs.declared.Rules.{Rules}
-use Rattle.reader.specs.declared.Lexeme.{Lexeme}
-use Rattle.reader.specs.code.Scanning.{Peeks}
+use Rattle.scanner.specs.declared.Lexeme.{Lexeme}
+use Rattle.scanner.specs.code.Scanning.{Peeks, tokens-at}
 use Rattle.reader.specs.code.Building.{advanced}
 use Rattle.reader.specs.code.Operators.{Part, over, Prefix-room, prefix-made}
-use Rattle.reader.specs.code.Levels.{tokens-at, leaf-made, name-made, Room, Part-right, Spent, Passes, Level-read, Sign-read}
+use Rattle.reader.specs.code.Levels.{leaf-made, name-made, Room, Part-right, Spent, Passes, Level-read, Sign-read}
 use Rattle.reader.proofs.Operating.{prefix-some}
 use Rattle.reader.proofs.Operands.{prefix-over, prefixed-over, prefixed-fits, prefix-spent, prefix-room, less-room}
 use Rattle.reader.proofs.Leaves.{name-read, range-read, leaf-read, no-operand, brackets-read, name-there, sign-there, range-here, nothing-read, nothing-spent, leaf-spent, name-spent}

@@ -1,7 +1,6 @@
 // Reading the lines of a legal text: each line's expression, its top rule at the line's own number, and the helper rules after those of the lines before.
 use crate::LineRead;
 use crate::Lines;
-use crate::MAX_DEPTH;
 use crate::MAX_RULES;
 use crate::Numbering;
 use crate::Part;
@@ -11,6 +10,7 @@ use crate::emitter::put;
 use crate::expressions::after;
 use crate::expressions::expression;
 use grammar::Expression;
+use scanner::MAX_DEPTH;
 use syntax::Node;
 ghost use mathlib.Core.Path.{_≡_};
 ghost use mathlib.Core.Bool.{true, false};

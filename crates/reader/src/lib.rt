@@ -1,63 +1,17 @@
-// The reader of grammars as text: scanning, faults, names, and the grammar built while an expression is read.
+// The reader of grammars as text: the grammar of a legal text is built while its expressions are read.
 pub mod cursor;
 pub mod definitions;
 pub mod emitter;
 pub mod expressions;
-pub mod faults;
 pub mod lookahead;
-pub mod names;
 pub mod operators;
 pub mod reading;
-pub mod scanner;
 
 use refusal::Refusal;
 use syntax::Node;
-use syntax::Token;
 
 // The most rules that a grammar has.
 pub const MAX_RULES: usize = 31;
-
-// The brackets that may be open at once.
-pub const MAX_DEPTH: usize = 16;
-
-// A token with its offset, and the offset after it.
-pub struct Lexeme {
-    pub token: Token,
-    pub offset: usize,
-    pub next: usize,
-}
-
-// What is found from a place on: a lexeme, or no more.
-pub enum Scanned {
-    Found(Lexeme),
-    End,
-}
-
-// What a token is to the search for a line's name: the name sought where a line begins, another name there, or anything else.
-pub enum Head {
-    Sought,
-    Other,
-    Nothing,
-}
-
-// Where in a text: a line begins, its = must come, or an expression goes on, whose last operand is complete or not, with so many brackets open.
-pub enum Spot {
-    AtLine,
-    AtEquals,
-    Inside(bool, usize),
-}
-
-// What a token leads to: another spot, or a refusal of this number.
-pub enum Step {
-    To(Spot),
-    Wrong(u32),
-}
-
-// The first refusal of a text, or number 0, and the count of lines begun before it.
-pub struct TextCheck {
-    pub refusal: Refusal,
-    pub lines: usize,
-}
 
 // The rules made so far, four bytes each: the number of the next helper rule, and how many more rules the line may need.
 pub struct Rules {

@@ -1,13 +1,13 @@
 // Looking ahead: the token from a place on, and what it can begin or go on with.
-use crate::Lexeme;
-use crate::Scanned;
-use crate::scanner::scan;
+use scanner::Lexeme;
+use scanner::Scanned;
+use scanner::tokens::scan;
 use syntax::Prefix;
 use syntax::Sign;
 use syntax::Suffix;
 use syntax::Token;
 ghost use mathlib.Core.Path.{_≡_};
-ghost use Rattle.reader.specs.code.Scanning.{Peeks};
+ghost use Rattle.scanner.specs.code.Scanning.{Peeks};
 ghost use Rattle.reader.specs.code.Lookahead.{prefix-found, suffix-found, starts-part, slash-found};
 
 // A prefix, where the token is one.

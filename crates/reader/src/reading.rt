@@ -2,10 +2,10 @@
 use crate::MAX_RULES;
 use crate::ReadGrammar;
 use crate::cursor::lines_of;
-use crate::faults::check_text;
-use crate::faults::undefined_of;
 use grammar::check::RULE_BYTES;
 use refusal::Refusal;
+use scanner::faults::check_text;
+use scanner::undefined::undefined_of;
 ghost use mathlib.Core.Path.{_≡_};
 ghost use Rattle.refusal.specs.First.{refusal};
 ghost use Rattle.syntax.specs.Reading.{Refused};

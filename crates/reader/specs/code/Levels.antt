@@ -12,19 +12,15 @@ use Rattle.syntax.specs.declared.Node.the-variants.{Numbered, Operator}
 use Rattle.syntax.specs.declared.Suffix.{Suffix}
 use Rattle.syntax.specs.declared.Sign.{Sign}
 use Rattle.syntax.specs.declared.Sign.the-variants.{Operand, Before, After, Slash, Opening, Closing, Equals, Semicolon}
-use Rattle.syntax.specs.Tokens.{Token, name, sign, range, unknown, tokens}
+use Rattle.syntax.specs.Tokens.{Token, name, sign, range, unknown}
 use Rattle.syntax.specs.Trees.{Tree, suffixed, Level, choices, parts, prefixes, suffixes, operand, Derives}
 use Rattle.syntax.specs.Needs.{need}
 use Rattle.syntax.specs.Compile.{index-of, compile, owed}
 use Rattle.syntax.specs.code.Heads.{heads}
 use Rattle.reader.specs.declared.Rules.{Rules}
-use Rattle.reader.specs.code.Scanning.{lexemes-at}
+use Rattle.scanner.specs.code.Scanning.{tokens-at}
 use Rattle.reader.specs.code.Building.{advanced}
 use Rattle.reader.specs.code.Operators.{Part, over, part}
-
--- the tokens from a place on
-abbrev pub tokens-at : (text : List ℕ) → (at : ℕ) → List Token
-tokens-at text i = tokens (lexemes-at text i)
 
 -- a line's number fits where there are as few lines as rules
 abbrev pub Name-room : (text : List ℕ) → Type 0

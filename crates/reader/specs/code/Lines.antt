@@ -21,7 +21,8 @@ use Rattle.reader.specs.declared.Lines.{Lines}
 use Rattle.reader.specs.code.Building.{rules-of, rule-put, put-rules, advanced, placed-at}
 use Rattle.reader.specs.code.Operators.{Part}
 use Rattle.reader.specs.Calls.{padded}
-use Rattle.reader.specs.code.Levels.{tokens-at, Name-room}
+use Rattle.scanner.specs.code.Scanning.{tokens-at}
+use Rattle.reader.specs.code.Levels.{Name-room}
 
 -- a line that was read, and the rules with its own
 pub record LineRead : Type 0 where

@@ -8,7 +8,7 @@ use Rattle.reader.proofs.expressions.named.Statement.{statement}
 use Rattle.reader.proofs.expressions.named.Tie as tie
 use Rattle.reader.proofs.expressions.named.Reads as reads
 use Rattle.reader.proofs.expressions.named.Lts as lts
-use Rattle.reader.proofs.names.line_of.Reads as line-of-reads
+use Rattle.scanner.proofs.names.line_of.Reads as line-of-reads
 
 line-of-requires : tie.Need-line-of-requires
 line-of-requires c κs = search needs

@@ -8,8 +8,8 @@ use Rattle.reader.proofs.reading.read.Tie as tie
 use Rattle.reader.proofs.reading.read.Reads as reads
 use Rattle.reader.proofs.reading.read.Lts as lts
 use Rattle.reader.proofs.cursor.lines_of.Reads as lines-of-reads
-use Rattle.reader.proofs.faults.check_text.Reads as check-text-reads
-use Rattle.reader.proofs.faults.undefined_of.Reads as undefined-of-reads
+use Rattle.scanner.proofs.faults.check_text.Reads as check-text-reads
+use Rattle.scanner.proofs.undefined.undefined_of.Reads as undefined-of-reads
 use Rattle.reader.proofs.reading.refused.Reads as refused-reads
 
 check-text-requires : tie.Need-check-text-requires

@@ -1,0 +1,52 @@
+-- `scanner::faults::from_equals` meets its contract: only a sign may come. Assumes nothing.
+use borrow.Author.Needs.{needs}
+use Rattle.syntax.specs.Faults.{next}
+use Rattle.scanner.specs.code.Scanning.{token-of}
+use Rattle.scanner.specs.code.Stepping.{next-of}
+use Rattle.scanner.proofs.faults.from_equals.Statement.{statement}
+use Rattle.scanner.proofs.faults.from_equals.Tie as tie
+
+enum-told : tie.Need-enum-told
+enum-told c = search needs
+
+enum-known-token : tie.Need-enum-known-token
+enum-known-token c = search needs
+
+by-equals-requires : tie.Need-by-equals-requires
+by-equals-requires c κs = search needs
+
+enum-told-2 : tie.Need-enum-told-2
+enum-told-2 c = search needs
+
+enum-told-3 : tie.Need-enum-told-3
+enum-told-3 c = search needs
+
+returns : tie.Need-returns
+unfolding next-of next token-of
+returns c = λ ns text o. simp (c .enum-told .given .1)
+
+returns-2 : tie.Need-returns-2
+unfolding next token-of
+returns-2 c = λ ns text o. simp (c .before .before .token .given .1) (c .by-equals .ensures)
+
+returns-3 : tie.Need-returns-3
+unfolding next-of next token-of
+returns-3 c = λ ns text o. simp (c .enum-told2 .given .1)
+
+returns-4 : tie.Need-returns-4
+unfolding next-of next token-of
+returns-4 c = λ ns text o. simp (c .enum-told3 .given .1)
+
+pub from-equals-spec : {M : Type 1} → statement M
+from-equals-spec =
+    tie.close
+    (tie.spec
+    enum-told
+    enum-known-token
+    by-equals-requires
+    enum-told-2
+    enum-told-3
+    returns
+    returns-2
+    returns-3
+    returns-4)

@@ -1,0 +1,92 @@
+-- `scanner::faults::step_at` meets its contract: a word, a range, or one byte. Assumes nothing.
+use mathlib.Core.Path.{sym, _∙_}
+use native.Mathlib.Omega.{arith}
+use borrow.Author.Needs.{needs}
+use Rattle.scanner.proofs.Tokenizing.{letters-room, range-within, never-named}
+use Rattle.scanner.proofs.Moving.{move-word, move-range, move-sign}
+use Rattle.scanner.proofs.faults.step_at.Statement.{statement}
+use Rattle.scanner.proofs.faults.step_at.Tie as tie
+
+shared-slice-read-byte : tie.Need-shared-slice-read-byte
+shared-slice-read-byte c = search needs
+
+is-letter-requires : tie.Need-is-letter-requires
+is-letter-requires c κs = search needs
+
+letters-from-requires : tie.Need-letters-from-requires
+letters-from-requires c κs = search needs
+
+by-word-requires : tie.Need-by-word-requires
+by-word-requires c κs =
+    let start = c .before .before .before .before .before in
+    (start .pre .0, omega (arith, start .pre .1, letters-room (start .args .text .now) (start .args .offset) _ (c .letters-from .ensures)))
+
+add-t14 : tie.Need-add-t14
+add-t14 c =
+    let start = c .before .before .before .before .before .before in
+    omega (arith, start .pre .1, letters-room (start .args .text .now) (start .args .offset) _ (c .before .letters-from .ensures))
+
+returns : tie.Need-returns
+returns c =
+    let letter = c .before .before .before in
+    let start = letter .before .before .before in
+    move-word (start .args .text .now) (start .args .lines) _ (start .args .offset) _ (sym (c .before .before .if1 .taken) ∙ letter .is-letter .ensures) _
+    (c .before .letters-from .ensures) (c .by-word .ensures)
+
+range-at-requires : tie.Need-range-at-requires
+range-at-requires c κs = search needs
+
+by-range-requires : tie.Need-by-range-requires
+by-range-requires c κs = search needs
+
+add-t16 : tie.Need-add-t16
+add-t16 c =
+    let range = c .before .before in
+    let start = range .before .before .before .before .before in
+    omega (arith, range-within (start .args .text .now) (start .args .offset) (sym (c .before .if2 .taken) ∙ range .range-at .ensures))
+
+returns-2 : tie.Need-returns-2
+returns-2 c =
+    let range = c .before .before in
+    let letter = range .before .before in
+    let start = letter .before .before .before in
+    move-range (start .args .text .now) (start .args .lines) _ (start .args .offset) _ (sym (range .before .if1 .left) ∙ letter .is-letter .ensures)
+    (sym (c .before .if2 .taken) ∙ range .range-at .ensures) (c .by-range .ensures)
+
+sign-of-requires : tie.Need-sign-of-requires
+sign-of-requires c κs = search needs
+
+next-requires : tie.Need-next-requires
+next-requires c κs =
+    let start = c .before .before .before .before .before .before .before in
+    never-named (start .args .text .now) (start .args .offset) _ _ (c .sign-of .ensures _ _)
+
+add-t17 : tie.Need-add-t17
+add-t17 c = search needs
+
+returns-3 : tie.Need-returns-3
+returns-3 c =
+    let range = c .before .before .before in
+    let letter = range .before .before in
+    let start = letter .before .before .before in
+    move-sign (start .args .text .now) (start .args .lines) _ (start .args .offset) _ (sym (range .before .if1 .left) ∙ letter .is-letter .ensures)
+    (sym (c .before .before .if2 .left) ∙ range .range-at .ensures) _ (c .before .sign-of .ensures _ _) (c .next .ensures)
+
+pub step-at-spec : {M : Type 1} → statement M
+step-at-spec =
+    tie.close
+    (tie.spec
+    shared-slice-read-byte
+    is-letter-requires
+    letters-from-requires
+    by-word-requires
+    add-t14
+    returns
+    range-at-requires
+    by-range-requires
+    add-t16
+    returns-2
+    sign-of-requires
+    next-requires
+    add-t17
+    returns-3)
