@@ -2,6 +2,7 @@
 pub mod backtracking_parser;
 pub mod clock;
 pub mod judging;
+pub mod layouts;
 pub mod measure;
 pub mod others;
 pub mod reading;

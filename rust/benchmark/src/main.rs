@@ -2,7 +2,8 @@
 //! the two do not agree; what it measures is for a reader to judge.
 use benchmark::judging::{Cells, Line};
 use benchmark::workloads::{self, SIZES};
-use benchmark::{others, reading, report};
+use benchmark::{layouts, others, reading, report};
+use std::env;
 
 /// Rounds over all lines, so that what else the machine does for a while falls on no line alone.
 const ROUNDS: usize = 4;
@@ -14,11 +15,29 @@ Judge and twin take turns on the same cells, which are allocated and touched bef
 judge clears, twin clears: the time of a call with the same image and length on a capture whose first byte ends the run
   at once (checks, clearing, under 100 readings), over the time of the call. fill(0): both slices cleared by fill(0) and
   nothing else, over the time of the twin's call.
-Reading: blanks is the ring's text and then spaces, which is read; operators is one line of every operator, with no name but
-  its own, which needs too many rules; names is texts of one length with more and more lines, each with a use of another.
+Checking, building, and the calls on a text are measured in several layouts (below). Reading: blanks is the ring's text and
+  then spaces, which is read; operators is one line of every operator, with no name but its own, which needs too many
+  rules; names is texts of one length with more and more lines, each with a use of another.
 ";
 
 fn main() {
+    let words: Vec<String> = env::args().skip(1).collect();
+    match words.split_first() {
+        None => long_calls(),
+        Some((word, [])) if word == "short" => short_calls(),
+        Some((word, files)) if word == "layouts" => layouts::print(files).expect("the runs' tables can be read"),
+        _ => panic!("nothing, `short`, or `layouts` and files"),
+    }
+}
+
+/// The calls that take microseconds: `rust/measure` runs them in several layouts.
+fn short_calls() {
+    others::images();
+    reading::texts();
+    reading::ring();
+}
+
+fn long_calls() {
     let workloads = workloads::all();
     println!("{METHOD}");
     for workload in &workloads {
@@ -44,8 +63,5 @@ fn main() {
     report::print_without_memory();
     let [on_lines, _, _, on_two_way] = &workloads;
     others::plain_runs(&[on_lines, on_two_way]);
-    others::images();
-    reading::texts();
-    reading::ring();
     report::print_targets(&workloads, &lines);
 }
