@@ -15,7 +15,6 @@ use Rattle.grammar.specs.declared.ByteRange.the-variants.{Between, Nothing}
 use Rattle.grammar.specs.Grammar.{max-rules, kind-sequence, kind-choice, kind-not, kind-empty, rules, expression, expression-by, range-of, Parts-below, kind-of, b-of, c-of, grammar-refusal}
 use Rattle.builder.specs.Classes.{class-count, class-in}
 use Rattle.builder.specs.Table.{state-work, state-ok, state-fail, no-rule, class-inside, Row, row, rows, rows-at, unruled, by-state, select, row-zero, made}
-use Rattle.builder.specs.Image.{symbols-of}
 use Rattle.builder.specs.code.Writing.{Few, class-between, inside-by, Rows-ready}
 use Rattle.grammar.proofs.GrammarGood.{good-grammar}
 use Rattle.builder.proofs.EachRow.{each-state}
@@ -118,7 +117,3 @@ symbol-is gs p x a r some q = q ∙ made-suc gs p x (a - 1) ∙ ap (made gs p x)
   where
     after : (a : ℕ) → (a ≡ 0 → ⊥) → suc (a - 1) ≡ a
     after a h = omega arith
-
-pub rule-there : (gs : List ℕ) (a : ℕ) → (a ≡ 0 → ⊥) → a < symbols-of gs → (a - 1) / 2 < rules gs
-unfolding symbols-of
-rule-there gs a some h = omega arith

@@ -13,6 +13,7 @@ pub mod BuildingMet
 pub mod CodeClasses
 pub mod CodeWriting
 pub mod CodeRows
+pub mod CodePairs
 pub mod CodeRules
 pub mod CodeBuild
 pub mod LongestImage

@@ -2,14 +2,15 @@
 use crate::Built;
 use crate::Plan;
 use crate::RuleBytes;
+use crate::RulePair;
 use crate::byte_classes::write_map;
 use crate::planning::plan_of;
 use crate::planning::symbol_count;
 use crate::rows::FINALS;
 use crate::rows::NO_RULE;
 use crate::rows::STATES;
+use crate::rows::pair_by;
 use crate::rows::row_zero;
-use crate::rows::rule_by;
 use crate::rows::unruled;
 use codec::Pair;
 use codec::write_four;
@@ -44,11 +45,11 @@ ghost use Rattle.image.specs.Format.{map-offset, rules-offset, rule-length};
 ghost use Rattle.image.specs.Encoding.{header};
 ghost use Rattle.grammar.specs.Grammar.{grammar-refusal};
 ghost use Rattle.builder.specs.Classes.{class-count as class-count-of};
-ghost use Rattle.builder.specs.Table.{state-count, finals, rows-at, select, made as made-of};
+ghost use Rattle.builder.specs.Table.{state-count, finals, rows-at};
 ghost use Rattle.builder.specs.Image.{symbols-of, built-rules, built};
 ghost use Rattle.builder.specs.Calls.{build-refusal, Build-says, room-refusal as room-refusal-of};
 ghost use Rattle.builder.specs.code.Building.{Planned, Buffer-ready};
-ghost use Rattle.builder.specs.code.Writing.{rule-of, class-between, inside-by, Rows-ready, Rule-ready, Symbol-ready, Write-ready, with-rules};
+ghost use Rattle.builder.specs.code.Writing.{class-between, inside-by, Rows-ready, Rule-ready, Pair-ready, Picks, Made-pair, Write-ready, with-rule, with-rules};
 
 // The directory, the counts and the finals, of an image with so many rules.
 fn write_header(image: &mut [u8], classes: u8, symbols: u8, count: u32)
@@ -105,43 +106,41 @@ fn class_inside(image: &[u8], classes: u32, r: ByteRange, class: u32) -> bool
     }
 }
 
-// The rule of rule k's first or second symbol in a state, for a class; the image has its class map.
-fn rule_at(
-    grammar: &[u8],
-    image: &[u8],
-    classes: u32,
-    k: u32,
-    class: u32,
-    second: bool,
-    state: u32,
-) -> RuleBytes
+// The rules of rule k's two symbols in a state, for a class; the image has its class map.
+fn rules_at(grammar: &[u8], image: &[u8], classes: u32, k: u32, class: u32, state: u32) -> RulePair
     requires { ⌜ Rule-ready (now grammar) (now image) classes k ⌝ }
-    ensures { λ r. ⌜ rule-of r ≡ select (rows-at (now (grammar .entry)) k class) second state ⌝ }
+    ensures { λ r. ⌜ Picks (rows-at (now (grammar .entry)) k class) state r ⌝ }
 {
     let e = expression_of(grammar, k as usize);
     let inside = class_inside(image, classes, range_of(e), class);
-    rule_by(e, k as u8, inside, second, state)
+    pair_by(e, k as u8, inside, state)
 }
 
-// The rule that state, class and symbol select; the image has its class map.
-fn made(grammar: &[u8], image: &[u8], classes: u32, s: Selector) -> RuleBytes
-    requires { ⌜ Symbol-ready (now grammar) (now image) classes (s .symbol) ⌝ }
-    ensures { λ r. ⌜ rule-of r ≡ made-of (now (grammar .entry)) (s .state) (s .class) (s .symbol) ⌝ }
+// The rules that state and class select with a rule's first symbol, and with its second; the image has its class map.
+fn made_pair(grammar: &[u8], image: &[u8], classes: u32, s: Selector) -> RulePair
+    requires { ⌜ Pair-ready (now grammar) (now image) classes (s .symbol) ⌝ }
+    ensures { λ r. ⌜ Made-pair (now (grammar .entry)) s r ⌝ }
 {
     let state = s.state;
-    let symbol = s.symbol;
-    if symbol == 0 {
-        return row_zero(classes, state, s.class);
-    }
     if unruled(state) {
-        return NO_RULE;
+        return RulePair {
+            first: NO_RULE,
+            second: NO_RULE,
+        };
     }
-    let a = symbol - 1;
-    let side = a % 2;
-    rule_at(grammar, image, classes, a / 2, s.class, side == 1, state)
+    rules_at(grammar, image, classes, s.symbol / 2, s.class, state)
 }
 
-// The rules, in the order of their indices, after the class map.
+// The rule with an index.
+fn write_rule(image: &mut [u8], i: u32, r: RuleBytes)
+    requires { ⌜ rules-offset + rule-length * i + rule-length ≤ length (now image) ⌝ }
+    ensures { λ answer. ⌜ now (image .exit) ≡ with-rule (now (image .entry)) i r ⌝ }
+{
+    let at = RULES_OFFSET + RULE_LENGTH * (i as usize);
+    write_four(image, at, r.kind, r.state, r.symbol, r.direction);
+}
+
+// The rules, in the order of their indices, after the class map: symbol 0 by itself, then the two of a grammar rule at once, which is looked at once for them.
 fn write_rules(grammar: &[u8], image: &mut [u8], classes: u32, count: u32)
     requires { ⌜ Rows-ready (now grammar) (now image) classes × Write-ready (now grammar) (now image) classes count ⌝ }
     ensures { λ r. ⌜ now (image .exit) ≡ with-rules (now (grammar .entry)) (now (image .entry)) ⌝ }
@@ -151,11 +150,19 @@ fn write_rules(grammar: &[u8], image: &mut [u8], classes: u32, count: u32)
     let mut s = counting::first();
     let mut i: u32 = 0;
     while i < count {
-        let r = made(grammar, image, classes, s);
-        let at = RULES_OFFSET + RULE_LENGTH * (i as usize);
-        write_four(image, at, r.kind, r.state, r.symbol, r.direction);
-        s = counting::next(s, columns, symbols);
-        i += 1;
+        if s.symbol == 0 {
+            let r = row_zero(classes, s.state, s.class);
+            write_rule(image, i, r);
+            s = counting::next(s, columns, symbols);
+            i += 1;
+        } else {
+            let pair = made_pair(grammar, image, classes, s);
+            write_rule(image, i, pair.first);
+            write_rule(image, i + 1, pair.second);
+            let t = counting::next(s, columns, symbols);
+            s = counting::next(t, columns, symbols);
+            i += 2;
+        }
     }
 }
 

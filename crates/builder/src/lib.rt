@@ -26,3 +26,9 @@ pub struct RuleBytes {
     pub symbol: u8,
     pub direction: u8,
 }
+
+// The rules of a grammar rule's first and second symbol, in one state.
+pub struct RulePair {
+    pub first: RuleBytes,
+    pub second: RuleBytes,
+}

@@ -1,5 +1,6 @@
 // The table: the rule of a grammar rule's first or second symbol in a state, and the rules of symbol 0.
 use crate::RuleBytes;
+use crate::RulePair;
 use grammar::Expression;
 use image::format::DIRECTION_RIGHT;
 use image::format::DIRECTION_STAY;
@@ -15,7 +16,7 @@ ghost use Prim.Native.Nat.{ℕ, _+_, _*_, _<_};
 ghost use lib.Dec.{eqb};
 ghost use Rattle.grammar.specs.Grammar.{max-rules, Parts-below};
 ghost use Rattle.builder.specs.Table.{push-first, to-second, pass-byte, pop-fail, row, rows, by-state, unruled as unruled-of, select as select-of, row-zero};
-ghost use Rattle.builder.specs.code.Writing.{rule-of, Few};
+ghost use Rattle.builder.specs.code.Writing.{rule-of, Few, Picks};
 
 // The states.
 const START: u8 = 0;
@@ -168,15 +169,14 @@ fn second_rule(e: Expression, state: u32) -> RuleBytes
     }
 }
 
-// The rule of rule k's first or second symbol in a state. It is picked by value: to write all six to memory and read one back is slow.
-pub fn rule_by(e: Expression, k: u8, inside: bool, second: bool, state: u32) -> RuleBytes
+// The rules of rule k's two symbols in a state. They are picked by value: to write all six to memory and read two back is slow.
+pub fn pair_by(e: Expression, k: u8, inside: bool, state: u32) -> RulePair
     requires { ⌜ Few k e ⌝ }
-    ensures { λ r. ⌜ rule-of r ≡ select-of (rows e k inside) second state ⌝ }
+    ensures { λ r. ⌜ Picks (rows e k inside) state r ⌝ }
 {
-    if second {
-        return second_rule(e, state);
-    }
-    first_rule(e, k, inside, state)
+    let first = first_rule(e, k, inside, state);
+    let second = second_rule(e, state);
+    RulePair { first, second }
 }
 
 fn stands(state: u32, class: u32, at: u32, on: u32) -> bool

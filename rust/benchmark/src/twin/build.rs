@@ -180,6 +180,10 @@ fn write_rules(rules: &[[u8; 4]], map: &[u8; 256], classes: u32, symbols: u32, i
         for class in 0..classes + 2 {
             let row = rows.next().expect("there is a row for each state and class");
             row[0] = start_rule(state, class, classes);
+            if state == START || state == u32::from(DONE) {
+                row[1..].fill(NO_RULE);
+                continue;
+            }
             for (k, (pair, &rule)) in row[1..].chunks_exact_mut(2).zip(rules).enumerate() {
                 let expression = Expression::of(rule);
                 let inside = is_inside(expression, map, class);

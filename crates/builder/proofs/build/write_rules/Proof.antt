@@ -1,18 +1,23 @@
--- `builder::build::write_rules` meets its contract. Assumes nothing.
-use Rattle.builder.proofs.CodeClasses.{grammar-short, classes-most, count-most, symbols-some}
-use Rattle.builder.proofs.CodeRules.{Rules-written, rules-start, rules-next, rules-end, selected, ready-kept, length-is}
-use Rattle.image.proofs.CountingOn.{selects-first, selects-next, counts-on, selects-as}
-use Rattle.image.specs.code.Counting.{Selects}
+-- `builder::build::write_rules` meets its contract: a turn writes the rule of symbol 0, or the two of a grammar rule. Assumes nothing.
+use mathlib.Core.Path.{_≡_, sym, ap, _∙_}
+use Prim.Native.Nat.{ℕ, _-_, _+_, _<_, _%_}
 use native.Mathlib.Omega.{arith}
-use Prim.Native.Nat.{_-_, _<_}
-use Rattle.builder.specs.Image.{symbols-of, built-rules}
-use mathlib.Core.Path.{sym, _∙_}
 use borrow.Author.Needs.{needs}
+use Rattle.image.specs.declared.Selector.{Selector}
+use Rattle.image.specs.code.Counting.{Selects}
+use Rattle.image.proofs.CountingOn.{selects-first, selects-next, counts-on, selects-as}
+use Rattle.builder.specs.Table.{made}
+use Rattle.builder.specs.Image.{symbols-of, built-rules}
+use Rattle.builder.specs.code.Writing.{rule-of}
+use Rattle.builder.proofs.CodeClasses.{grammar-short, classes-most, count-most, symbols-some}
+use Rattle.builder.proofs.CodeRows.{zero-is}
+use Rattle.builder.proofs.CodePairs.{Begins, begins-next, second-there, second-within, next-symbol}
+use Rattle.builder.proofs.CodeRules.{Rules-written, rules-start, rules-next, rules-end, selected, ready-kept, length-is}
 use Rattle.builder.proofs.build.write_rules.Statement.{statement}
 use Rattle.builder.proofs.build.write_rules.Tie as tie
 
 abbrev Inv-loop : tie.InvT-loop
-Inv-loop grammar image₀ classes count symbols columns s₀ i₀ image s i = Rules-written grammar image₀ image i × Selects s columns symbols i
+Inv-loop grammar image₀ classes count symbols columns s₀ i₀ image s i = Rules-written grammar image₀ image i × Selects s columns symbols i × Begins s
 
 abbrev μ-loop : tie.MeasureT-loop
 μ-loop grammar image₀ classes count symbols columns s₀ i₀ image s i = count - i
@@ -35,81 +40,151 @@ loop-holds c =
     let symbols : 0 < symbols-of gs = symbols-some gs in (
       rules-start gs (start .args .image .now) (start .pre .1 .long),
       selects-as (c .first .ensures) (selects-first _ _ (omega arith) (omega (arith, c .before .symbol-count .ensures))),
+      λ some. absurd (some (ap (λ (s : Selector). s .symbol) (c .first .ensures))),
     )
 
-made-requires : tie.Need-made-requires Inv-loop μ-loop
-made-requires c κs =
-    let turn = c .before .before in
-    let counted = turn .before .before in
-    let start = counted .before .before .before in
-    record {
-      rows = ready-kept (start .args .grammar .now) (start .args .image .now) (turn .loop .image) _ (turn .loop .i) (start .pre .0) (turn .loop .inv .0);
-      symbol-there = omega (arith, turn .loop .inv .1 .symbol-below, counted .symbol-count .ensures);
-    }
+row-zero-requires : tie.Need-row-zero-requires Inv-loop μ-loop
+row-zero-requires c κs =
+    let start = c .before .before .before .before .before .before .before .before in
+    omega (arith, start .pre .0 .classes-are, classes-most _ (start .pre .0 .good))
 
-cast-at : tie.Need-cast-at Inv-loop μ-loop
-cast-at c = omega arith
-
-mul-at : tie.Need-mul-at Inv-loop μ-loop
-mul-at c =
-    let turn = c .before .before .before in
-    let counted = turn .before .before in
-    let start = counted .before .before .before in
-    omega (arith, turn .loop .inv .0 .within, count-most (start .args .grammar .now) (start .pre .0 .good))
-
-add-at : tie.Need-add-at Inv-loop μ-loop
-add-at c =
-    let turn = c .before .before .before in
-    let counted = turn .before .before in
-    let start = counted .before .before .before in
-    omega (arith, turn .loop .inv .0 .within, count-most (start .args .grammar .now) (start .pre .0 .good))
-
-write-four-requires : tie.Need-write-four-requires Inv-loop μ-loop
-write-four-requires c κs =
-    let test = c .before .before .before in
-    let turn = test .before in
-    let start = turn .before .before .before .before in
-    omega (arith, turn .loop .inv .0 .long, test .loop-test .taken, start .before .pre .1 .count-is)
+write-rule-requires : tie.Need-write-rule-requires Inv-loop μ-loop
+write-rule-requires c κs =
+    let turn = c .before .before .before .before .before in
+    let start = c .before .before .before .before .before .before .before .before .before .before in
+    omega (arith, turn .loop .inv .0 .long, c .before .before .before .before .loop-test .taken, start .pre .1 .count-is)
 
 next-requires : tie.Need-next-requires Inv-loop μ-loop
 next-requires c κs =
-    let put = c .before .before in
-    let test = put .before .before .before .before in
-    let turn = test .before in
-    let counted = turn .before .before in
-    let start = counted .before .before .before in
+    let turn = c .before .before .before .before .before .before .before .before in
+    let start = c .before .before .before .before .before .before .before .before .before .before .before .before .before in
     counts-on _ _ _ _ (turn .loop .inv .1)
     (omega (arith, turn .loop .inv .0 .within, count-most (start .args .grammar .now) (start .pre .0 .good)))
 
 add-i : tie.Need-add-i Inv-loop μ-loop
 add-i c =
-    let put = c .before .before .before in
-    let test = put .before .before .before .before in
-    let turn = test .before in
-    let counted = turn .before .before in
-    let start = counted .before .before .before in
+    let turn = c .before .before .before .before .before .before .before .before .before in
+    let start = c .before .before .before .before .before .before .before .before .before .before .before .before .before .before in
     omega (arith, turn .loop .inv .0 .within, count-most (start .args .grammar .now) (start .pre .0 .good))
 
 loop-less : tie.Need-loop-less Inv-loop μ-loop
-loop-less c =
-    let put = c .before .before .before in
-    let test = put .before .before .before .before in
-    omega (arith, test .loop-test .taken)
+loop-less c = omega (arith, c .before .before .before .before .before .before .before .before .loop-test .taken)
 
 loop-again : tie.Need-loop-again Inv-loop μ-loop
 loop-again c =
     let put = c .before .before .before in
-    let made = put .before .before in
-    let test = made .before .before in
-    let turn = test .before in
+    let zero = put .before .before in
+    let turn = c .before .before .before .before .before .before .before .before .before in
     let counted = turn .before .before in
     let start = counted .before .before .before in
     let gs = start .args .grammar .now in
-    let more : turn .loop .i < built-rules gs = omega (arith, test .loop-test .taken, start .pre .1 .count-is) in (
-      rules-next gs (start .args .image .now) (turn .loop .image) (put .write-four .last .0) (turn .loop .i) _ _ (made .made .result) (turn .loop .inv .0)
-          more (start .pre .0 .classes-are) (counted .symbol-count .ensures) (put .write-four .kept .0) (put .write-four .ensures)
-          (selected _ _ _ _ _ _ (turn .loop .inv .1) (made .made .ensures)),
+    let more : turn .loop .i < built-rules gs = omega (arith, c .before .before .before .before .before .before .before .before .loop-test .taken, start .pre .1 .count-is) in
+    let even : turn .loop .s .symbol % 2 ≡ 0 = ap (λ (n : ℕ). n % 2) (zero .before .if1 .taken) in (
+      rules-next gs (start .args .image .now) (turn .loop .image) (put .write-rule .last .0) (turn .loop .i) _ _ (zero .row-zero .result) (turn .loop .inv .0)
+          more (start .pre .0 .classes-are) (counted .symbol-count .ensures) (put .write-rule .kept .0) (put .write-rule .ensures)
+          (selected _ _ _ _ _ _ (turn .loop .inv .1) (zero-is _ _ _ _ _ _ (start .pre .0 .classes-are) (zero .before .if1 .taken) (zero .row-zero .ensures))),
       selects-as (c .next .ensures) (selects-next _ _ _ _ (turn .loop .inv .1)),
+      begins-next _ _ _ _ (c .next .ensures) even,
+    )
+
+made-pair-requires : tie.Need-made-pair-requires Inv-loop μ-loop
+made-pair-requires c κs =
+    let turn = c .before .before .before .before in
+    let counted = turn .before .before in
+    let start = counted .before .before .before in
+    record {
+      rows = ready-kept (start .args .grammar .now) (start .args .image .now) (turn .loop .image) _ (turn .loop .i) (start .pre .0) (turn .loop .inv .0);
+      symbol-odd = turn .loop .inv .2 (c .before .if1 .left);
+      symbol-there = omega (arith, turn .loop .inv .1 .symbol-below, counted .symbol-count .ensures);
+    }
+
+write-rule-requires-2 : tie.Need-write-rule-requires-2 Inv-loop μ-loop
+write-rule-requires-2 c κs =
+    let turn = c .before .before .before .before .before .before in
+    let start = c .before .before .before .before .before .before .before .before .before .before .before in
+    omega (arith, turn .loop .inv .0 .long, c .before .before .before .before .before .loop-test .taken, start .pre .1 .count-is)
+
+add-write-rule : tie.Need-add-write-rule Inv-loop μ-loop
+add-write-rule c =
+    let turn = c .before .before .before .before .before .before .before .before .before .before in
+    let start = c .before .before .before .before .before .before .before .before .before .before .before .before .before .before .before in
+    omega (arith, turn .loop .inv .0 .within, count-most (start .args .grammar .now) (start .pre .0 .good))
+
+write-rule-requires-3 : tie.Need-write-rule-requires-3 Inv-loop μ-loop
+write-rule-requires-3 c κs =
+    let turn = c .before .before .before .before .before .before .before .before .before .before in
+    let counted = turn .before .before in
+    let start = counted .before .before .before in
+    let gs = start .args .grammar .now in
+    let more : turn .loop .i < built-rules gs = omega (arith, c .before .before .before .before .before .before .before .before .before .loop-test .taken, start .pre .1 .count-is) in
+    let odd : turn .loop .s .symbol % 2 ≡ 1 = turn .loop .inv .2 (c .before .before .before .before .before .before .before .if1 .left) in
+    let two = second-there gs _ _ (counted .symbol-count .ensures) odd (turn .loop .inv .1 .symbol-below) in
+    let later : turn .loop .i + 1 < built-rules gs = second-within gs (turn .loop .s) _ _ _ (turn .loop .inv .1) (start .pre .0 .classes-are) (counted .symbol-count .ensures) more two in
+    omega (arith, later, turn .loop .inv .0 .long, c .before .before .before .write-rule2 .kept .0)
+
+next-requires-2 : tie.Need-next-requires-2 Inv-loop μ-loop
+next-requires-2 c κs =
+    let turn = c .before .before .before .before .before .before .before .before .before .before .before .before .before in
+    let start = c .before .before .before .before .before .before .before .before .before .before .before .before .before .before .before .before .before .before in
+    counts-on _ _ _ _ (turn .loop .inv .1)
+    (omega (arith, turn .loop .inv .0 .within, count-most (start .args .grammar .now) (start .pre .0 .good)))
+
+next-requires-3 : tie.Need-next-requires-3 Inv-loop μ-loop
+next-requires-3 c κs =
+    let turn = c .before .before .before .before .before .before .before .before .before .before .before .before .before .before in
+    let counted = turn .before .before in
+    let start = counted .before .before .before in
+    let gs = start .args .grammar .now in
+    let more : turn .loop .i < built-rules gs = omega (arith, c .before .before .before .before .before .before .before .before .before .before .before .before .before .loop-test .taken, start .pre .1 .count-is) in
+    let odd : turn .loop .s .symbol % 2 ≡ 1 = turn .loop .inv .2 (c .before .before .before .before .before .before .before .before .before .before .before .if1 .left) in
+    let two = second-there gs _ _ (counted .symbol-count .ensures) odd (turn .loop .inv .1 .symbol-below) in
+    let later : turn .loop .i + 1 < built-rules gs = second-within gs (turn .loop .s) _ _ _ (turn .loop .inv .1) (start .pre .0 .classes-are) (counted .symbol-count .ensures) more two in
+    counts-on _ _ _ _ (selects-as (c .next2 .ensures) (selects-next _ _ _ _ (turn .loop .inv .1)))
+    (omega (arith, later, count-most gs (start .pre .0 .good)))
+
+add-i-2 : tie.Need-add-i-2 Inv-loop μ-loop
+add-i-2 c =
+    let turn = c .before .before .before .before .before .before .before .before .before .before .before .before .before .before .before in
+    let start = c .before .before .before .before .before .before .before .before .before .before .before .before .before .before .before .before .before .before .before .before in
+    omega (arith, turn .loop .inv .0 .within, count-most (start .args .grammar .now) (start .pre .0 .good))
+
+loop-less-2 : tie.Need-loop-less-2 Inv-loop μ-loop
+loop-less-2 c = omega (arith, c .before .before .before .before .before .before .before .before .before .before .before .before .before .before .loop-test .taken)
+
+loop-again-2 : tie.Need-loop-again-2 Inv-loop μ-loop
+loop-again-2 c =
+    let second = c .before .before .before .before in
+    let first = c .before .before .before .before .before .before .before .before in
+    let pair = c .before .before .before .before .before .before .before .before .before .before in
+    let turn = c .before .before .before .before .before .before .before .before .before .before .before .before .before .before .before in
+    let counted = turn .before .before in
+    let start = counted .before .before .before in
+    let gs = start .args .grammar .now in
+    let more : turn .loop .i < built-rules gs = omega (arith, c .before .before .before .before .before .before .before .before .before .before .before .before .before .before .loop-test .taken, start .pre .1 .count-is) in
+    let odd : turn .loop .s .symbol % 2 ≡ 1 = turn .loop .inv .2 (c .before .before .before .before .before .before .before .before .before .before .before .before .if1 .left) in
+    let two = second-there gs _ _ (counted .symbol-count .ensures) odd (turn .loop .inv .1 .symbol-below) in
+    let later : turn .loop .i + 1 < built-rules gs = second-within gs (turn .loop .s) _ _ _ (turn .loop .inv .1) (start .pre .0 .classes-are) (counted .symbol-count .ensures) more two in
+    let here = turn .loop .inv .1 in
+    let next = c .before .next2 .ensures ∙ next-symbol (turn .loop .s) _ _ two in
+    let there = selects-as (c .before .next2 .ensures) (selects-next _ _ _ _ here) in
+    let one =
+    rules-next gs (start .args .image .now) (turn .loop .image) (first .write-rule2 .last .0) (turn .loop .i) _ _ (pair .made-pair .result .first) (turn .loop .inv .0)
+    more (start .pre .0 .classes-are) (counted .symbol-count .ensures) (first .write-rule2 .kept .0) (first .write-rule2 .ensures)
+    (selected _ _ _ _ _ _ here (pair .made-pair .ensures .first))
+    in
+    let placed : rule-of (pair .made-pair .result .second) ≡ made gs (c .before .next2 .result .state) (c .before .next2 .result .class) (c .before .next2 .result .symbol) =
+    pair .made-pair .ensures .second ∙ ap (λ (s : Selector). made gs (s .state) (s .class) (s .symbol)) (sym next)
+    in
+    let both =
+    rules-next gs (start .args .image .now) (first .write-rule2 .last .0) (second .write-rule3 .last .0) (turn .loop .i + 1) _ _ (pair .made-pair .result .second) one
+    later (start .pre .0 .classes-are) (counted .symbol-count .ensures) (second .write-rule3 .kept .0) (second .write-rule3 .ensures)
+    (selected _ _ _ _ _ _ there placed)
+    in
+    let sum : turn .loop .i + 1 + 1 ≡ turn .loop .i + 2 = omega arith in
+    let even : c .before .next2 .result .symbol % 2 ≡ 0 = omega (arith, odd, ap (λ (s : Selector). s .symbol) next) in (
+      rw (sym sum) both,
+      rw (sym sum) (selects-as (c .next3 .ensures) (selects-next _ _ _ _ there)),
+      begins-next _ _ _ _ (c .next3 .ensures) even,
     )
 
 same-length : tie.Need-same-length Inv-loop μ-loop
@@ -137,14 +212,20 @@ write-rules-spec =
     add-columns
     first-requires
     loop-holds
-    made-requires
-    cast-at
-    mul-at
-    add-at
-    write-four-requires
+    row-zero-requires
+    write-rule-requires
     next-requires
     add-i
     loop-less
     loop-again
+    made-pair-requires
+    write-rule-requires-2
+    add-write-rule
+    write-rule-requires-3
+    next-requires-2
+    next-requires-3
+    add-i-2
+    loop-less-2
+    loop-again-2
     same-length
     returns)

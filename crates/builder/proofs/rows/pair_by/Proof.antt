@@ -1,0 +1,20 @@
+-- `builder::rows::pair_by` meets its contract: the first symbol's rule and the second's. Assumes nothing.
+use borrow.Author.Needs.{needs}
+use Rattle.builder.proofs.rows.pair_by.Statement.{statement}
+use Rattle.builder.proofs.rows.pair_by.Tie as tie
+use Rattle.builder.proofs.rows.pair_by.Reads as reads
+use Rattle.builder.proofs.rows.pair_by.Lts as lts
+use Rattle.builder.proofs.rows.first_rule.Reads as first-rule-reads
+use Rattle.builder.proofs.rows.second_rule.Reads as second-rule-reads
+
+first-rule-requires : tie.Need-first-rule-requires
+first-rule-requires c κs = search needs
+
+second-rule-requires : tie.Need-second-rule-requires
+second-rule-requires c κs = search needs
+
+returns : tie.Need-returns
+returns c = record { first = c .before .first-rule .ensures; second = c .second-rule .ensures _ _ }
+
+pub pair-by-spec : {M : Type 1} → statement M
+pair-by-spec = tie.close (tie.spec first-rule-requires second-rule-requires returns)
