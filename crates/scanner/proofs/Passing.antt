@@ -13,7 +13,7 @@ use Rattle.codec.specs.Bytes.{byte}
 use Rattle.syntax.specs.Tokens.{Token, letter, letters, word, sign-of, range-there, token-at, width-at, skipped, tokens}
 use Rattle.syntax.specs.code.Heads.{is-semicolon, ends-line, head-of, heads-from}
 use Rattle.scanner.specs.code.Scanning.{tokens-at}
-use Rattle.scanner.specs.code.Naming.{Passes-heads}
+use Rattle.scanner.specs.code.Naming.{stops, Passes-heads}
 use Rattle.scanner.proofs.Lexing.{front, no-letters, letters-more, letters-stop, lexemes-end, lexemes-skipped, lexemes-token, width-there}
 use Rattle.scanner.proofs.Tokenizing.{No-name, a-sign, a-range, no-token, no-name-there, letter-kept, range-first, range-token, sign-token}
 
@@ -112,6 +112,9 @@ module _ (text : List ℕ) (at : ℕ) where
     pub pass-end : length text ≤ i → Passes-heads text false at true i × (at < length text → at < i)
     pass-end h = (record { left = come .left ∙ left-end text i h; from = come .from }, λ l. omega arith)
 
+    pub pass-on : {to : ℕ} → Passes-heads text false i false to → Passes-heads text false at false to
+    pass-on go = record { left = come .left ∙ go .left; from = omega (arith, come .from, go .from) }
+
     module _ (more : i < length text) where
       pub pass-semicolon : byte text i ≡ 59 → Passes-heads text false at true (i + 1) × (at < length text → at < i + 1)
       pass-semicolon e = (record { left = come .left ∙ left-semicolon text i more e; from = omega (arith, come .from) }, λ l. omega (arith, come .from))
@@ -124,6 +127,30 @@ module _ (text : List ℕ) (at : ℕ) where
 
       pub pass-byte : (byte text i ≡ 59 → ⊥) → (byte text i ≡ 39 → ⊥) → Passes-heads text false at false (i + 1)
       pass-byte d q = record { left = come .left ∙ left-byte text i more d (sym (range-first text i q)); from = omega arith }
+
+-- FOUR BYTES inside a line, passed one after the other while none stops
+no-stop : (b s : ℕ) → stops b ≡ false → stops s ≡ true → b ≡ s → ⊥
+no-stop b s d e q = let z : _≡_ {A = ℕ} 0 1 = cc in omega arith
+
+module _ (text : List ℕ) (at : ℕ) where
+  pass-plain : (i to : ℕ) → Passes-heads text false at false i → i < length text → to ≡ i + 1 → stops (byte text i) ≡ false → Passes-heads text false at false to
+  unfolding stops
+  pass-plain i to come more q e = rw q (pass-byte text at i come more (no-stop _ 59 e refl) (no-stop _ 39 e refl))
+
+  module _ (i : ℕ) (come : Passes-heads text false at false i) (room : i + 3 < length text) (one : stops (byte text i) ≡ false) where
+    pub pass-one : Passes-heads text false at false (i + 1)
+    pass-one = pass-plain i (i + 1) come (omega arith) refl one
+
+    module _ (two : stops (byte text (i + 1)) ≡ false) where
+      pub pass-two : Passes-heads text false at false (i + 2)
+      pass-two = pass-plain (i + 1) (i + 2) pass-one (omega arith) (omega arith) two
+
+      module _ (three : stops (byte text (i + 2)) ≡ false) where
+        pub pass-three : Passes-heads text false at false (i + 3)
+        pass-three = pass-plain (i + 2) (i + 3) pass-two (omega arith) (omega arith) three
+
+        pub pass-four : stops (byte text (i + 3)) ≡ false → Passes-heads text false at false (i + 4)
+        pass-four = pass-plain (i + 3) (i + 4) pass-three room (omega arith)
 
 -- FROM A LINE'S START ON: letters there are its head, or a reserved word; with anything else it has none
 no-head : {t : Token} → No-name t → (hs : List (List ℕ)) → head-of true t hs ≡ hs

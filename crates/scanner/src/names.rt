@@ -15,7 +15,7 @@ ghost use Rattle.codec.specs.Bytes.{byte, section};
 ghost use Rattle.syntax.specs.Tokens.{letter, letters, same, width-at};
 ghost use Rattle.syntax.specs.Compile.{index-of};
 ghost use Rattle.syntax.specs.code.Heads.{heads};
-ghost use Rattle.scanner.specs.code.Naming.{head-in, Passes-heads, Passes-names};
+ghost use Rattle.scanner.specs.code.Naming.{head-in, stops, Passes-heads, Passes-names};
 
 // Whether the `long` letters from `name` on are the `wide` ones from `other` on.
 fn same_letters(text: &[u8], name: usize, long: usize, other: usize, wide: usize) -> bool
@@ -37,20 +37,59 @@ fn after_quote(text: &[u8], at: usize) -> usize
     at + 1
 }
 
+// Whether a byte inside a line cannot be passed alone whatever follows: a semicolon ends the line, a quote may begin a range.
+fn is_stop(byte: u8) -> bool
+    ensures { λ r. ⌜ r ≡ stops byte ⌝ }
+{
+    if byte == b';' {
+        return true;
+    }
+    byte == b'\''
+}
+
+// The next stop from a place on, or, with no stop before it, a place less than four bytes before the text's end.
+// Four bytes a turn: a turn costs more than a byte.
+fn next_stop(text: &[u8], at: usize) -> usize
+    requires { ⌜ at ≤ length (now text) ⌝ }
+    ensures { λ r. ⌜ Passes-heads (now (text .entry)) false at false r ⌝ }
+{
+    let mut i = at;
+    while i + 3 < text.len() {
+        if is_stop(text[i]) {
+            return i;
+        }
+        if is_stop(text[i + 1]) {
+            return i + 1;
+        }
+        if is_stop(text[i + 2]) {
+            return i + 2;
+        }
+        if is_stop(text[i + 3]) {
+            return i + 3;
+        }
+        i += 4;
+    }
+    i
+}
+
 // The place after the next semicolon from a place on, or the text's end; a semicolon inside a range is none.
 fn after_line(text: &[u8], at: usize) -> usize
     ensures { λ r. ⌜ Passes-heads (now (text .entry)) false at true r × (at < length (now (text .entry)) → at < r) ⌝ }
 {
     let mut i = at;
     while i < text.len() {
-        let byte = text[i];
-        if byte == b';' {
-            return i + 1;
-        }
-        if byte == b'\'' {
-            i = after_quote(text, i);
-        } else {
-            i += 1;
+        i = next_stop(text, i);
+        // Where no stop is left, this may be the text's end.
+        if i < text.len() {
+            let byte = text[i];
+            if byte == b';' {
+                return i + 1;
+            }
+            if byte == b'\'' {
+                i = after_quote(text, i);
+            } else {
+                i += 1;
+            }
         }
     }
     i

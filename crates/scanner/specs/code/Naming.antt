@@ -1,6 +1,6 @@
 -- The search for the line that a name names, and for names: what the letters where a line begins are to it, and what is passed. Assumes nothing: these are definitions.
 use mathlib.Core.Path.{_≡_}
-use mathlib.Core.Bool.{Bool, cond}
+use mathlib.Core.Bool.{Bool, _||_, cond}
 use mathlib.Core.List.{List}
 use Prim.Native.Nat.{ℕ, _≤_}
 use lib.Dec.{eqb}
@@ -23,6 +23,10 @@ head-by n unknown = Nothing
 -- the same of all the letters where a line begins; where there are none, no name is there
 unfoldable pub head-in : (sought letters : List ℕ) → Head
 head-in n ls = cond (eqb (length ls) 0) Nothing (head-by n (word ls))
+
+-- a byte inside a line that is not passed alone whatever follows it: a semicolon, or a quote, which may begin a range
+unfoldable pub stops : ℕ → Bool
+stops b = eqb b 59 || eqb b 39
 
 -- the heads from a place on, where a line begins or not, are those from a later place on, where a line begins or not
 pub record Passes-heads (text : List ℕ) (begins : Bool) (at : ℕ) (starts : Bool) (to : ℕ) : Type 0 where
