@@ -170,7 +170,16 @@ fn part(text: &[u8], at: usize, depth: usize, numbering: Numbering, rules: &mut 
     match prefix_of(token) {
         FoundPrefix::Nothing => {
             let x = operand(text, at, depth, numbering, rules);
-            if x.fits { suffixes(text, x, rules) } else { x }
+            if !x.fits {
+                return x;
+            }
+            // without a suffix the operand is not handed on, which would copy it
+            let after_x = peek(text, x.at);
+            let follows = after_x.token;
+            match suffix_of(follows) {
+                FoundSuffix::Nothing => x,
+                FoundSuffix::Operator(_) => suffixes(text, x, rules),
+            }
         }
         FoundPrefix::Operator(p) => {
             let cost = prefix_need(p);

@@ -6,8 +6,8 @@ use native.Mathlib.Omega.{arith}
 use borrow.Author.Needs.{needs}
 use borrow.Author.Tests.{not-true, not-false}
 use Rattle.reader.specs.code.Operators.{part-of}
-use Rattle.reader.proofs.Lookings.{clash, prefix-here, prefix-not-here}
-use Rattle.reader.proofs.Operands.{part-over, part-suffixed, part-spent}
+use Rattle.reader.proofs.Lookings.{clash, prefix-here, prefix-not-here, suffix-not-here}
+use Rattle.reader.proofs.Operands.{part-over, part-suffixed, part-spent, suffixes-none}
 use Rattle.reader.proofs.Leaves.{name-there, nothing-spent}
 use Rattle.reader.proofs.Joining.{choosing, sequencing, spent-room, joined-over, joined-alone, joined-none, rest-room, joined-rest-over, last-fits, joined-both}
 use Rattle.reader.proofs.Ways.{named-operand, signed-operand, ranged-operand, no-operand-there, prefix-over-read, prefix-taken, prefix-fits-room, prefix-read, prefix-inner-over, bracket-over, leaf-operand, bracket-operand, other-sign}
@@ -39,6 +39,7 @@ use Rattle.reader.proofs.lookahead.is_slash.Reads as is-slash-reads
 use Rattle.reader.proofs.lookahead.peek.Reads as peek-reads
 use Rattle.reader.proofs.lookahead.prefix_of.Reads as prefix-of-reads
 use Rattle.reader.proofs.lookahead.starts.Reads as starts-reads
+use Rattle.reader.proofs.lookahead.suffix_of.Reads as suffix-of-reads
 use Rattle.reader.proofs.operators.begun.Reads as begun-reads
 use Rattle.reader.proofs.operators.over.Reads as over-reads
 use Rattle.reader.proofs.operators.prefix_need.Reads as prefix-need-reads
@@ -112,7 +113,7 @@ abbrev operand-claims : ℕ → operand-lts.Claims
 operand-claims t = (peek-reads.Asked, peek-reads.Learnt, named-reads.Asked, named-reads.Learnt, sign-operand-below t, sign-operand.Post, leaf-reads.Asked, leaf-reads.Learnt, over-reads.Asked, over-reads.Learnt)
 
 abbrev part-claims : ℕ → part-lts.Claims
-part-claims t = (peek-reads.Asked, peek-reads.Learnt, prefix-of-reads.Asked, prefix-of-reads.Learnt, operand-below t, operand.Post, suffixes-reads.Asked, suffixes-reads.Learnt, prefix-need-reads.Asked, prefix-need-reads.Learnt, over-reads.Asked, over-reads.Learnt, taken-reads.Asked, taken-reads.Learnt, part-below t, part.Post, with-prefix-reads.Asked, with-prefix-reads.Learnt)
+part-claims t = (peek-reads.Asked, peek-reads.Learnt, prefix-of-reads.Asked, prefix-of-reads.Learnt, operand-below t, operand.Post, suffix-of-reads.Asked, suffix-of-reads.Learnt, suffixes-reads.Asked, suffixes-reads.Learnt, prefix-need-reads.Asked, prefix-need-reads.Learnt, over-reads.Asked, over-reads.Learnt, taken-reads.Asked, taken-reads.Learnt, part-below t, part.Post, with-prefix-reads.Asked, with-prefix-reads.Learnt)
 
 abbrev sequence-claims : ℕ → sequence-lts.Claims
 sequence-claims t = (part-below t, part.Post, peek-reads.Asked, peek-reads.Learnt, starts-reads.Asked, starts-reads.Learnt, begun-reads.Asked, begun-reads.Learnt, over-reads.Asked, over-reads.Learnt, sequence-below t, sequence.Post, numbered-reads.Asked, numbered-reads.Learnt)
@@ -209,8 +210,28 @@ part-enum-told t c = search needs
 part-operand-requires : (t : ℕ) → part-lts.Need-operand-requires (part-claims t) (part-at t) part.Post
 part-operand-requires t c κs = (omega (arith, c .before .before .before .before .before .before .pre .0), c .before .before .before .before .before .before .pre .1)
 
+part-peek-requires-2 : (t : ℕ) → part-lts.Need-peek-requires-2 (part-claims t) (part-at t) part.Post
+part-peek-requires-2 t c κs = search needs
+
+part-suffix-of-requires : (t : ℕ) → part-lts.Need-suffix-of-requires (part-claims t) (part-at t) part.Post
+part-suffix-of-requires t c κs = search needs
+
+part-enum-told-2 : (t : ℕ) → part-lts.Need-enum-told-2 (part-claims t) (part-at t) part.Post
+part-enum-told-2 t c = search needs
+
+part-enum-told-3 : (t : ℕ) → part-lts.Need-enum-told-3 (part-claims t) (part-at t) part.Post
+part-enum-told-3 t c = search needs
+
+part-returns-3 : (t : ℕ) → part-lts.Need-returns-3 (part-claims t) (part-at t) part.Post
+part-returns-3 t c =
+    let fits = not-false _ (c .before .before .before .before .if1 .left) in
+    record {
+      right = part-suffixed _ _ _ _ (prefix-not-here _ _ _ (c .before .before .before .before .before .before .before .before .before .before .before .peek .ensures) (sym (c .before .before .before .before .before .before .before .before .before .before .prefix-of .ensures) ∙ c .before .before .before .before .before .before .before .before .enum-told .given .1)) _ (c .before .before .before .before .before .before .operand .ensures .right) fits _ (suffixes-none _ _ (suffix-not-here _ _ _ (c .before .before .before .peek2 .ensures) (sym (c .before .before .suffix-of .ensures) ∙ c .enum-told2 .given .1)));
+      spent = λ f. c .before .before .before .before .before .before .operand .ensures .spent fits;
+    }
+
 part-suffixes-requires : (t : ℕ) → part-lts.Need-suffixes-requires (part-claims t) (part-at t) part.Post
-part-suffixes-requires t c κs = spent-room _ _ _ (c .before .before .before .before .before .before .before .before .before .pre .1) (c .before .before .operand .ensures .spent (c .before .if1 .taken))
+part-suffixes-requires t c κs = spent-room _ _ _ (c .before .before .before .before .before .before .before .before .before .before .before .before .before .before .pre .1) (c .before .before .before .before .before .before .before .operand .ensures .spent (not-false _ (c .before .before .before .before .before .if1 .left)))
 
 part-enum-known-p : (t : ℕ) → part-lts.Need-enum-known-p (part-claims t) (part-at t) part.Post
 part-enum-known-p t c = search needs
@@ -221,8 +242,8 @@ part-prefix-need-requires t c κs = search needs
 part-over-requires : (t : ℕ) → part-lts.Need-over-requires (part-claims t) (part-at t) part.Post
 part-over-requires t c κs = search needs
 
-part-returns : (t : ℕ) → part-lts.Need-returns (part-claims t) (part-at t) part.Post
-part-returns t c = prefix-over-read _ _ _ _ _ _ (prefix-here _ _ _ (c .before .before .before .before .before .before .before .before .peek .ensures) _ (sym (c .before .before .before .before .before .before .before .prefix-of .ensures) ∙ c .before .before .before .before .before .p .given .1)) _ (c .before .before .before .prefix-need .ensures) (c .before .if2 .taken) _ _ (c .over .ensures _)
+part-returns-2 : (t : ℕ) → part-lts.Need-returns-2 (part-claims t) (part-at t) part.Post
+part-returns-2 t c = prefix-over-read _ _ _ _ _ _ (prefix-here _ _ _ (c .before .before .before .before .before .before .before .before .peek .ensures) _ (sym (c .before .before .before .before .before .before .before .prefix-of .ensures) ∙ c .before .before .before .before .before .p .given .1)) _ (c .before .before .before .prefix-need .ensures) (c .before .if2 .taken) _ _ (c .over .ensures _)
 
 part-taken-requires : (t : ℕ) → part-lts.Need-taken-requires (part-claims t) (part-at t) part.Post
 part-taken-requires t c κs = search needs
@@ -235,25 +256,25 @@ part-part-requires t c κs =
 part-with-prefix-requires : (t : ℕ) → part-lts.Need-with-prefix-requires (part-claims t) (part-at t) part.Post
 part-with-prefix-requires t c κs = prefix-fits-room _ _ _ _ _ _ (c .before .before .before .before .before .before .before .prefix-need .ensures) (c .before .before .before .before .taken .ensures _) (c .before .before .before .before .before .if2 .left) (c .before .before .before .before .before .before .before .before .before .before .before .before .before .before .pre .1) (c .before .before .part .ensures .spent (c .before .if3 .taken))
 
-part-returns-2 : (t : ℕ) → part-lts.Need-returns-2 (part-claims t) (part-at t) part.Post
-part-returns-2 t c =
-    record {
-      right = part-suffixed _ _ _ _ (prefix-not-here _ _ _ (c .before .before .before .before .before .before .before .before .peek .ensures) (sym (c .before .before .before .before .before .before .before .prefix-of .ensures) ∙ c .before .before .before .before .before .enum-told .given .1)) _ (c .before .before .before .operand .ensures .right) (c .before .before .if1 .taken) _ (c .suffixes .ensures .right);
-      spent = λ f. part-spent _ (part-of (c .before .before .before .operand .result) _) _ (c .before .before .before .operand .ensures .spent (c .before .before .if1 .taken)) (c .suffixes .ensures .spent f);
-    }
-
-part-returns-3 : (t : ℕ) → part-lts.Need-returns-3 (part-claims t) (part-at t) part.Post
-part-returns-3 t c =
-    record {
-      right = part-over _ _ _ _ (prefix-not-here _ _ _ (c .before .before .before .before .before .before .peek .ensures) (sym (c .before .before .before .before .before .prefix-of .ensures) ∙ c .before .before .before .enum-told .given .1)) _ (c .before .operand .ensures .right) (c .if1 .left);
-      spent = nothing-spent _ _ _ (c .if1 .left);
-    }
-
 part-returns-4 : (t : ℕ) → part-lts.Need-returns-4 (part-claims t) (part-at t) part.Post
-part-returns-4 t c = prefix-read _ _ _ _ _ _ (prefix-here _ _ _ (c .before .before .before .before .before .before .before .before .before .before .before .before .before .peek .ensures) _ (sym (c .before .before .before .before .before .before .before .before .before .before .before .before .prefix-of .ensures) ∙ c .before .before .before .before .before .before .before .before .before .before .p .given .1)) _ (c .before .before .before .before .before .before .before .before .prefix-need .ensures) _ (c .before .before .before .before .before .taken .ensures _) (c .before .before .before .before .before .before .if2 .left) _ (c .before .before .before .part .ensures) (c .before .before .if3 .taken) _ (c .with-prefix .ensures)
+part-returns-4 t c =
+    record {
+      right = part-suffixed _ _ _ _ (prefix-not-here _ _ _ (c .before .before .before .before .before .before .before .before .before .before .before .before .before .peek .ensures) (sym (c .before .before .before .before .before .before .before .before .before .before .before .before .prefix-of .ensures) ∙ c .before .before .before .before .before .before .before .before .before .before .enum-told .given .1)) _ (c .before .before .before .before .before .before .before .before .operand .ensures .right) (not-false _ (c .before .before .before .before .before .before .if1 .left)) _ (c .suffixes .ensures .right);
+      spent = λ f. part-spent _ (part-of (c .before .before .before .before .before .before .before .before .operand .result) _) _ (c .before .before .before .before .before .before .before .before .operand .ensures .spent (not-false _ (c .before .before .before .before .before .before .if1 .left))) (c .suffixes .ensures .spent f);
+    }
+
+part-returns : (t : ℕ) → part-lts.Need-returns (part-claims t) (part-at t) part.Post
+part-returns t c =
+    record {
+      right = part-over _ _ _ _ (prefix-not-here _ _ _ (c .before .before .before .before .before .before .before .peek .ensures) (sym (c .before .before .before .before .before .before .prefix-of .ensures) ∙ c .before .before .before .before .enum-told .given .1)) _ (c .before .before .operand .ensures .right) (not-true _ (c .if1 .taken));
+      spent = nothing-spent _ _ _ (not-true _ (c .if1 .taken));
+    }
 
 part-returns-5 : (t : ℕ) → part-lts.Need-returns-5 (part-claims t) (part-at t) part.Post
-part-returns-5 t c = prefix-inner-over _ _ _ _ _ _ (prefix-here _ _ _ (c .before .before .before .before .before .before .before .before .before .before .before .peek .ensures) _ (sym (c .before .before .before .before .before .before .before .before .before .before .prefix-of .ensures) ∙ c .before .before .before .before .before .before .before .before .p .given .1)) _ (c .before .before .before .before .before .before .prefix-need .ensures) _ (c .before .before .before .taken .ensures _) (c .before .before .before .before .if2 .left) _ (c .before .part .ensures) (c .if3 .left)
+part-returns-5 t c = prefix-read _ _ _ _ _ _ (prefix-here _ _ _ (c .before .before .before .before .before .before .before .before .before .before .before .before .before .peek .ensures) _ (sym (c .before .before .before .before .before .before .before .before .before .before .before .before .prefix-of .ensures) ∙ c .before .before .before .before .before .before .before .before .before .before .p .given .1)) _ (c .before .before .before .before .before .before .before .before .prefix-need .ensures) _ (c .before .before .before .before .before .taken .ensures _) (c .before .before .before .before .before .before .if2 .left) _ (c .before .before .before .part .ensures) (c .before .before .if3 .taken) _ (c .with-prefix .ensures)
+
+part-returns-6 : (t : ℕ) → part-lts.Need-returns-6 (part-claims t) (part-at t) part.Post
+part-returns-6 t c = prefix-inner-over _ _ _ _ _ _ (prefix-here _ _ _ (c .before .before .before .before .before .before .before .before .before .before .before .peek .ensures) _ (sym (c .before .before .before .before .before .before .before .before .before .before .prefix-of .ensures) ∙ c .before .before .before .before .before .before .before .before .p .given .1)) _ (c .before .before .before .before .before .before .prefix-need .ensures) _ (c .before .before .before .taken .ensures _) (c .before .before .before .before .if2 .left) _ (c .before .part .ensures) (c .if3 .left)
 
 sequence-part-requires : (t : ℕ) → sequence-lts.Need-part-requires (sequence-claims t) (sequence-at t) sequence.Post
 sequence-part-requires t c κs = (omega (arith, c .before .before .pre .0), c .before .before .pre .1)
@@ -420,18 +441,23 @@ pub +expression+operand+part+sequence+sign-operand-spec : {M : Type 1} → state
     (part-prefix-of-requires t)
     (part-enum-told t)
     (part-operand-requires t)
+    (part-returns t)
+    (part-peek-requires-2 t)
+    (part-suffix-of-requires t)
+    (part-enum-told-2 t)
+    (part-enum-told-3 t)
     (part-suffixes-requires t)
     (part-enum-known-p t)
     (part-prefix-need-requires t)
     (part-over-requires t)
-    (part-returns t)
+    (part-returns-2 t)
     (part-taken-requires t)
     (part-part-requires t)
     (part-with-prefix-requires t)
-    (part-returns-2 t)
     (part-returns-3 t)
     (part-returns-4 t)
-    (part-returns-5 t))
+    (part-returns-5 t)
+    (part-returns-6 t))
     (λ t. sequence-lts.spec (sequence-claims t)
     (sequence-at t)
     sequence.Post
