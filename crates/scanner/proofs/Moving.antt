@@ -5,15 +5,13 @@ use mathlib.Core.List.{List}
 use Prim.Native.Nat.{ℕ, _+_}
 use lib.ListN.{length, take, drop}
 use Rattle.codec.specs.Bytes.{byte, section}
-use Rattle.syntax.specs.declared.Token as Code
-use Rattle.syntax.specs.declared.Token.the-variants.{Name, Sign, Range, Unknown}
 use Rattle.syntax.specs.Tokens.{Token, range, letter, letters, word, sign-of, range-there}
 use Rattle.syntax.specs.Faults.{Spot, at-line, at-equals, inside, Next, to, wrong, to-if, by-sign, is-equals, not-in, next}
 use Rattle.syntax.specs.code.Heads.{heads}
 use Rattle.scanner.specs.declared.Step.{Step}
-use Rattle.scanner.specs.code.Scanning.{token-of, reserved}
+use Rattle.scanner.specs.code.Scanning.{reserved}
 use Rattle.scanner.specs.code.Stepping.{next-of, Moves}
-use Rattle.scanner.proofs.Tokenizing.{word-is, word-there, range-token, sign-token}
+use Rattle.scanner.proofs.Tokenizing.{word-is, No-name, a-sign, a-range, no-token, no-name, word-there, range-token, sign-token}
 
 -- A WORD is a name or an operand: at a line's start a reserved word is refused, elsewhere no word differs from another
 next-cond : (ns : List (List ℕ)) (s : Spot) (c : Bool) (t u : Token) → next ns s (cond c t u) ≡ cond c (next ns s t) (next ns s u)
@@ -42,13 +40,14 @@ module _ (ns : List (List ℕ)) (ls : List ℕ) where
   inside-word c k = simp (next-cond, cond-next)
 
 -- a token that is no name begins no line
-pub line-other :
-    (ns : List (List ℕ)) (text : List ℕ) (o : ℕ) (t : Code.Token) → ((k : ℕ) → t ≡ Name k → ⊥) → next ns at-line (token-of text o t) ≡ wrong 15
-unfolding next token-of
-line-other ns text o (Name k) d = absurd (d k refl)
-line-other ns text o (Sign s) d = refl
-line-other ns text o (Range r) d = refl
-line-other ns text o Unknown d = refl
+other-wrong : (ns : List (List ℕ)) {t : Token} → No-name t → next ns at-line t ≡ wrong 15
+unfolding next
+other-wrong ns a-sign = refl
+other-wrong ns a-range = refl
+other-wrong ns no-token = refl
+
+pub line-byte : (ns : List (List ℕ)) (b : ℕ) → next ns at-line (sign-of b) ≡ wrong 15
+line-byte ns b = other-wrong ns (no-name b)
 
 -- THE STEP AT A PLACE: of a word, of a range, of any other byte
 module _ (text : List ℕ) (lines : ℕ) (s : Spot) (o : ℕ) (r : Step) where
@@ -68,12 +67,8 @@ module _ (text : List ℕ) (lines : ℕ) (s : Spot) (o : ℕ) (r : Step) where
         record { led = is _ _ _ ∙ ap (next (take lines (heads text)) s) (sym (there .0)); wide = ap (λ (n : ℕ). o + n) (sym (there .1)) }
 
     pub move-sign :
-        false ≡ range-there (drop o text) → (t : Code.Token) → token-of text o t ≡ sign-of (byte text o) →
-        ((ns : List (List ℕ)) (bs : List ℕ) (i : ℕ) → next-of r ≡ next ns s (token-of bs i t)) →
+        false ≡ range-there (drop o text) → ((ns : List (List ℕ)) → next-of r ≡ next ns s (sign-of (byte text o))) →
         Moves text lines s o (record { step = r; next = o + 1 })
-    move-sign e t stands is =
+    move-sign e is =
         let there = sign-token text o other e in
-        record {
-          led = is _ text o ∙ ap (next (take lines (heads text)) s) (stands ∙ sym (there .0));
-          wide = ap (λ (n : ℕ). o + n) (sym (there .1));
-        }
+        record { led = is _ ∙ ap (next (take lines (heads text)) s) (sym (there .0)); wide = ap (λ (n : ℕ). o + n) (sym (there .1)) }

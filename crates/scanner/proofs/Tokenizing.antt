@@ -88,7 +88,7 @@ neither : (c : Bool) {t u : Token} → No-name t → No-name u → No-name (cond
 neither true p q = p
 neither false p q = q
 
-no-name : (b : ℕ) → No-name (sign-of b)
+pub no-name : (b : ℕ) → No-name (sign-of b)
 unfolding sign-of
 no-name b =
     neither (eqb b 61) a-sign (neither (eqb b 59) a-sign (neither (eqb b 47) a-sign (neither (eqb b 40) a-sign (neither (eqb b 41) a-sign

@@ -2,7 +2,7 @@
 use mathlib.Core.Path.{sym, _∙_}
 use native.Mathlib.Omega.{arith}
 use borrow.Author.Needs.{needs}
-use Rattle.scanner.proofs.Tokenizing.{letters-room, range-within, never-named}
+use Rattle.scanner.proofs.Tokenizing.{letters-room, range-within}
 use Rattle.scanner.proofs.Moving.{move-word, move-range, move-sign}
 use Rattle.scanner.proofs.faults.step_at.Statement.{statement}
 use Rattle.scanner.proofs.faults.step_at.Tie as tie
@@ -21,8 +21,8 @@ by-word-requires c κs =
     let start = c .before .before .before .before .before in
     (start .pre .0, omega (arith, start .pre .1, letters-room (start .args .text .now) (start .args .offset) _ (c .letters-from .ensures)))
 
-add-t14 : tie.Need-add-t14
-add-t14 c =
+add-t13 : tie.Need-add-t13
+add-t13 c =
     let start = c .before .before .before .before .before .before in
     omega (arith, start .pre .1, letters-room (start .args .text .now) (start .args .offset) _ (c .before .letters-from .ensures))
 
@@ -39,8 +39,8 @@ range-at-requires c κs = search needs
 by-range-requires : tie.Need-by-range-requires
 by-range-requires c κs = search needs
 
-add-t16 : tie.Need-add-t16
-add-t16 c =
+add-t15 : tie.Need-add-t15
+add-t15 c =
     let range = c .before .before in
     let start = range .before .before .before .before .before in
     omega (arith, range-within (start .args .text .now) (start .args .offset) (sym (c .before .if2 .taken) ∙ range .range-at .ensures))
@@ -53,24 +53,19 @@ returns-2 c =
     move-range (start .args .text .now) (start .args .lines) _ (start .args .offset) _ (sym (range .before .if1 .left) ∙ letter .is-letter .ensures)
     (sym (c .before .if2 .taken) ∙ range .range-at .ensures) (c .by-range .ensures)
 
-sign-of-requires : tie.Need-sign-of-requires
-sign-of-requires c κs = search needs
+by-byte-requires : tie.Need-by-byte-requires
+by-byte-requires c κs = search needs
 
-next-requires : tie.Need-next-requires
-next-requires c κs =
-    let start = c .before .before .before .before .before .before .before in
-    never-named (start .args .text .now) (start .args .offset) _ _ (c .sign-of .ensures _ _)
-
-add-t17 : tie.Need-add-t17
-add-t17 c = search needs
+add-t16 : tie.Need-add-t16
+add-t16 c = search needs
 
 returns-3 : tie.Need-returns-3
 returns-3 c =
-    let range = c .before .before .before in
+    let range = c .before .before in
     let letter = range .before .before in
     let start = letter .before .before .before in
     move-sign (start .args .text .now) (start .args .lines) _ (start .args .offset) _ (sym (range .before .if1 .left) ∙ letter .is-letter .ensures)
-    (sym (c .before .before .if2 .left) ∙ range .range-at .ensures) _ (c .before .sign-of .ensures _ _) (c .next .ensures)
+    (sym (c .before .if2 .left) ∙ range .range-at .ensures) (c .by-byte .ensures)
 
 pub step-at-spec : {M : Type 1} → statement M
 step-at-spec =
@@ -80,13 +75,12 @@ step-at-spec =
     is-letter-requires
     letters-from-requires
     by-word-requires
-    add-t14
+    add-t13
     returns
     range-at-requires
     by-range-requires
-    add-t16
+    add-t15
     returns-2
-    sign-of-requires
-    next-requires
-    add-t17
+    by-byte-requires
+    add-t16
     returns-3)
