@@ -1,5 +1,6 @@
 //! Calls of microseconds, over several layouts: the linker puts the same machine code at other places in each, which alone
-//! moves a short loop's time by up to a third. So judge and twin are compared by their medians over the layouts.
+//! moves a short loop's time by up to a third. A place can only add to what the code takes, as the machine can: so the ratio
+//! is that of the least times over the layouts, and the medians stand beside.
 use crate::measure::median;
 use crate::table::Table;
 use std::{fs, io};
@@ -19,28 +20,26 @@ pub fn figures(line: &str) -> Option<Figures> {
     Some(Figures { row: row.join(", "), judge: judge.parse().ok()?, twin: twin.parse().ok()? })
 }
 
-/// Prints the rows of several runs' tables, one run a file, by their medians, with the least and the greatest ratio.
+/// Prints the rows of several runs' tables, one run a file, by their least times and by their medians.
 pub fn print(files: &[String]) -> io::Result<()> {
     let runs: Vec<Vec<Figures>> = files
         .iter()
         .map(|file| Ok(fs::read_to_string(file)?.lines().filter_map(figures).collect()))
         .collect::<io::Result<_>>()?;
     let heading = format!("over {} layouts", runs.len());
-    let mut table = Table::new(&[&heading, "judge", "twin", "RATIO", "least", "greatest"]);
+    let mut table = Table::new(&[&heading, "judge", "twin", "RATIO", "median", "median", "ratio"]);
     for row in 0..runs.first().map_or(0, Vec::len) {
         let all: Vec<&Figures> = runs.iter().map(|run| &run[row]).collect();
         assert!(all.iter().all(|figures| figures.row == all[0].row), "each run has the same rows");
-        let judge = median(all.iter().map(|figures| figures.judge).collect());
-        let twin = median(all.iter().map(|figures| figures.twin).collect());
-        let ratios = || all.iter().map(|figures| figures.judge / figures.twin);
-        table.row(vec![
-            all[0].row.clone(),
-            format!("{judge:.2}"),
-            format!("{twin:.2}"),
-            format!("{:.2}", judge / twin),
-            format!("{:.2}", ratios().fold(f64::INFINITY, f64::min)),
-            format!("{:.2}", ratios().fold(0.0, f64::max)),
-        ]);
+        let judge: Vec<f64> = all.iter().map(|figures| figures.judge).collect();
+        let twin: Vec<f64> = all.iter().map(|figures| figures.twin).collect();
+        let leasts = [&judge, &twin].map(|times| times.iter().copied().fold(f64::INFINITY, f64::min));
+        let medians = [median(judge), median(twin)];
+        let mut fields = vec![all[0].row.clone()];
+        for [judge, twin] in [leasts, medians] {
+            fields.extend([judge, twin, judge / twin].map(|number| format!("{number:.2}")));
+        }
+        table.row(fields);
     }
     table.print();
     Ok(())
