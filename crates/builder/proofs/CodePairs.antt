@@ -1,5 +1,5 @@
 -- The rules of a grammar rule's two symbols, written at once: they are the table's, their indices follow one another, and what comes after is symbol 0 or the next first symbol. Assumes nothing.
-use mathlib.Core.Path.{_≡_, refl, sym, ap, subst, _∙_}
+use mathlib.Core.Path.{_≡_, refl, sym, ap, _∙_}
 use mathlib.Core.Bool.{Bool, true, false, cond}
 use mathlib.Core.List.{List}
 use mathlib.Core.Logic.{_⊎_, ⊎-elim, inl, inr}

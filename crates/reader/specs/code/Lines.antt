@@ -2,7 +2,7 @@
 use mathlib.Core.Path.{_≡_}
 use mathlib.Core.Bool.{Bool, true, false, cond}
 use mathlib.Core.List.{List, [], _∷_, _++_}
-use Prim.Native.Nat.{ℕ, suc, _+_, _-_, _*_, _<_, _≤_}
+use Prim.Native.Nat.{ℕ, suc, _+_, _-_, _<_, _≤_}
 use lib.Dec.{leb}
 use lib.ListN.{length}
 use Rattle.grammar.specs.Grammar.{max-rules}
@@ -13,7 +13,7 @@ use Rattle.syntax.specs.declared.Sign.the-variants.{Equals, Semicolon}
 use Rattle.syntax.specs.Tokens.{Token, name, sign}
 use Rattle.syntax.specs.Trees.{Tree, Definition, choices, Derives, Reads, max-depth}
 use Rattle.syntax.specs.Needs.{line-need, needs}
-use Rattle.syntax.specs.Compile.{compile, line-rule, line-helpers, named-from, helpers-from, rule-bytes, encode}
+use Rattle.syntax.specs.Compile.{compile, line-rule, line-helpers, named-from, helpers-from, encode}
 use Rattle.syntax.specs.code.Heads.{heads}
 use Rattle.reader.specs.declared.Rules.{Rules}
 use Rattle.reader.specs.declared.LineRead as Code

@@ -4,10 +4,6 @@ use mathlib.Core.Path.{refl}
 use borrow.Author.Needs.{needs}
 use Rattle.builder.proofs.build.made_pair.Statement.{statement}
 use Rattle.builder.proofs.build.made_pair.Tie as tie
-use Rattle.builder.proofs.build.made_pair.Reads as reads
-use Rattle.builder.proofs.build.made_pair.Lts as lts
-use Rattle.builder.proofs.build.rules_at.Reads as rules-at-reads
-use Rattle.builder.proofs.rows.unruled.Reads as unruled-reads
 
 unruled-requires : tie.Need-unruled-requires
 unruled-requires c κs = search needs

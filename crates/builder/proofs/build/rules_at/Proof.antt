@@ -5,12 +5,6 @@ use native.Mathlib.Omega.{arith}
 use borrow.Author.Needs.{needs}
 use Rattle.builder.proofs.build.rules_at.Statement.{statement}
 use Rattle.builder.proofs.build.rules_at.Tie as tie
-use Rattle.builder.proofs.build.rules_at.Reads as reads
-use Rattle.builder.proofs.build.rules_at.Lts as lts
-use Rattle.builder.proofs.build.class_inside.Reads as class-inside-reads
-use Rattle.builder.proofs.rows.pair_by.Reads as pair-by-reads
-use Rattle.grammar.proofs.check.expression_of.Reads as expression-of-reads
-use Rattle.grammar.proofs.check.range_of.Reads as range-of-reads
 
 expression-of-requires : tie.Need-expression-of-requires
 expression-of-requires c κs = c .before .before .pre .rule-there

@@ -2,10 +2,6 @@
 use borrow.Author.Needs.{needs}
 use Rattle.builder.proofs.rows.pair_by.Statement.{statement}
 use Rattle.builder.proofs.rows.pair_by.Tie as tie
-use Rattle.builder.proofs.rows.pair_by.Reads as reads
-use Rattle.builder.proofs.rows.pair_by.Lts as lts
-use Rattle.builder.proofs.rows.first_rule.Reads as first-rule-reads
-use Rattle.builder.proofs.rows.second_rule.Reads as second-rule-reads
 
 first-rule-requires : tie.Need-first-rule-requires
 first-rule-requires c κs = search needs

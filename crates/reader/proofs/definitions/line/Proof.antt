@@ -7,13 +7,6 @@ use mathlib.Core.List.{[]}
 use borrow.Author.Needs.{needs}
 use Rattle.reader.proofs.definitions.line.Statement.{statement}
 use Rattle.reader.proofs.definitions.line.Tie as tie
-use Rattle.reader.proofs.definitions.line.Reads as reads
-use Rattle.reader.proofs.definitions.line.Lts as lts
-use Rattle.reader.proofs.definitions.refilled.Reads as refilled-reads
-use Rattle.reader.proofs.definitions.topped.Reads as topped-reads
-use Rattle.reader.proofs.definitions.unread.Reads as unread-reads
-use Rattle.reader.proofs.expressions.after.Reads as after-reads
-use Rattle.reader.proofs.expressions.expression.Reads as expression-reads
 
 after-requires : tie.Need-after-requires
 after-requires c κs = search needs

@@ -4,9 +4,6 @@ use mathlib.Core.Bool.{true}
 use borrow.Author.Needs.{needs}
 use Rattle.reader.proofs.definitions.ruled.Statement.{statement}
 use Rattle.reader.proofs.definitions.ruled.Tie as tie
-use Rattle.reader.proofs.definitions.ruled.Reads as reads
-use Rattle.reader.proofs.definitions.ruled.Lts as lts
-use Rattle.reader.proofs.emitter.put.Reads as put-reads
 
 put-requires : tie.Need-put-requires
 put-requires c κs = search needs

@@ -6,11 +6,6 @@ use native.Mathlib.Omega.{arith}
 use borrow.Author.Needs.{needs}
 use Rattle.reader.proofs.definitions.topped.Statement.{statement}
 use Rattle.reader.proofs.definitions.topped.Tie as tie
-use Rattle.reader.proofs.definitions.topped.Reads as reads
-use Rattle.reader.proofs.definitions.topped.Lts as lts
-use Rattle.reader.proofs.definitions.ruled.Reads as ruled-reads
-use Rattle.reader.proofs.definitions.unread.Reads as unread-reads
-use Rattle.reader.proofs.emitter.added.Reads as added-reads
 
 enum-known-node : tie.Need-enum-known-node
 enum-known-node c = search needs

@@ -3,9 +3,6 @@ use Rattle.reader.proofs.Emitting.{one-added}
 use borrow.Author.Needs.{needs}
 use Rattle.reader.proofs.emitter.added.Statement.{statement}
 use Rattle.reader.proofs.emitter.added.Tie as tie
-use Rattle.reader.proofs.emitter.added.Reads as reads
-use Rattle.reader.proofs.emitter.added.Lts as lts
-use Rattle.reader.proofs.emitter.put.Reads as put-reads
 
 put-requires : tie.Need-put-requires
 put-requires c κs = search needs

@@ -3,8 +3,6 @@ use borrow.Author.Needs.{needs}
 use Rattle.syntax.specs.Compile.{rule-bytes}
 use Rattle.reader.proofs.emitter.bytes_of.Statement.{statement}
 use Rattle.reader.proofs.emitter.bytes_of.Tie as tie
-use Rattle.reader.proofs.emitter.bytes_of.Reads as reads
-use Rattle.reader.proofs.emitter.bytes_of.Lts as lts
 
 -- src/emitter.rt:36:30
 enum-known-x : tie.Need-enum-known-x

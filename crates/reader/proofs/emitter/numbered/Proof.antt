@@ -6,10 +6,6 @@ use mathlib.Core.Path.{refl, sym}
 use borrow.Author.Needs.{needs}
 use Rattle.reader.proofs.emitter.numbered.Statement.{statement}
 use Rattle.reader.proofs.emitter.numbered.Tie as tie
-use Rattle.reader.proofs.emitter.numbered.Reads as reads
-use Rattle.reader.proofs.emitter.numbered.Lts as lts
-use Rattle.reader.proofs.emitter.added.Reads as added-reads
-use Rattle.reader.proofs.emitter.repeated.Reads as repeated-reads
 
 enum-known-node : tie.Need-enum-known-node
 enum-known-node c = search needs

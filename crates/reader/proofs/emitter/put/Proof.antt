@@ -3,9 +3,6 @@ use Rattle.reader.proofs.Emitting.{one-put}
 use borrow.Author.Needs.{needs}
 use Rattle.reader.proofs.emitter.put.Statement.{statement}
 use Rattle.reader.proofs.emitter.put.Tie as tie
-use Rattle.reader.proofs.emitter.put.Reads as reads
-use Rattle.reader.proofs.emitter.put.Lts as lts
-use Rattle.reader.proofs.emitter.bytes_of.Reads as bytes-of-reads
 
 bytes-of-requires : tie.Need-bytes-of-requires
 bytes-of-requires c κs = search needs

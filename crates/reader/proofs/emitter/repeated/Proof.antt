@@ -4,9 +4,6 @@ use native.Mathlib.Omega.{arith}
 use borrow.Author.Needs.{needs}
 use Rattle.reader.proofs.emitter.repeated.Statement.{statement}
 use Rattle.reader.proofs.emitter.repeated.Tie as tie
-use Rattle.reader.proofs.emitter.repeated.Reads as reads
-use Rattle.reader.proofs.emitter.repeated.Lts as lts
-use Rattle.reader.proofs.emitter.added.Reads as added-reads
 
 cast-number : tie.Need-cast-number
 cast-number c = search needs

@@ -3,9 +3,6 @@ use Rattle.reader.proofs.Leaves.{peek-passes}
 use borrow.Author.Needs.{needs}
 use Rattle.reader.proofs.expressions.after.Statement.{statement}
 use Rattle.reader.proofs.expressions.after.Tie as tie
-use Rattle.reader.proofs.expressions.after.Reads as reads
-use Rattle.reader.proofs.expressions.after.Lts as lts
-use Rattle.reader.proofs.lookahead.peek.Reads as peek-reads
 
 peek-requires : tie.Need-peek-requires
 peek-requires c κs = search needs

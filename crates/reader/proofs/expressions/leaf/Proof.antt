@@ -4,10 +4,6 @@ use mathlib.Core.Path.{_∙_}
 use borrow.Author.Needs.{needs}
 use Rattle.reader.proofs.expressions.leaf.Statement.{statement}
 use Rattle.reader.proofs.expressions.leaf.Tie as tie
-use Rattle.reader.proofs.expressions.leaf.Reads as reads
-use Rattle.reader.proofs.expressions.leaf.Lts as lts
-use Rattle.reader.proofs.operators.over.Reads as over-reads
-use Rattle.reader.proofs.operators.taken.Reads as taken-reads
 
 over-requires : tie.Need-over-requires
 over-requires c κs = search needs

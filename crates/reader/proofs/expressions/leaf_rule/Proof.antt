@@ -3,8 +3,6 @@ use Rattle.syntax.specs.Compile.{compile-leaf}
 use borrow.Author.Needs.{needs}
 use Rattle.reader.proofs.expressions.leaf_rule.Statement.{statement}
 use Rattle.reader.proofs.expressions.leaf_rule.Tie as tie
-use Rattle.reader.proofs.expressions.leaf_rule.Reads as reads
-use Rattle.reader.proofs.expressions.leaf_rule.Lts as lts
 
 enum-told : tie.Need-enum-told
 enum-told c = search needs

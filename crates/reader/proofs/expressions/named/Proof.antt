@@ -6,9 +6,6 @@ use native.Mathlib.Omega.{arith}
 use borrow.Author.Needs.{needs}
 use Rattle.reader.proofs.expressions.named.Statement.{statement}
 use Rattle.reader.proofs.expressions.named.Tie as tie
-use Rattle.reader.proofs.expressions.named.Reads as reads
-use Rattle.reader.proofs.expressions.named.Lts as lts
-use Rattle.scanner.proofs.names.line_of.Reads as line-of-reads
 
 line-of-requires : tie.Need-line-of-requires
 line-of-requires c κs = search needs

@@ -5,10 +5,6 @@ use native.Mathlib.Omega.{arith}
 use borrow.Author.Needs.{needs}
 use Rattle.reader.proofs.operators.begun.Statement.{statement}
 use Rattle.reader.proofs.operators.begun.Tie as tie
-use Rattle.reader.proofs.operators.begun.Reads as reads
-use Rattle.reader.proofs.operators.begun.Lts as lts
-use Rattle.reader.proofs.emitter.numbered.Reads as numbered-reads
-use Rattle.reader.proofs.operators.taken.Reads as taken-reads
 
 returns : tie.Need-returns
 returns c = begun-none (part-of (c .before .before .before .args .x) (c .before .before .before .args .rules .now)) (c .if1 .taken)

@@ -3,8 +3,6 @@ use Rattle.syntax.specs.Needs.{prefix-need}
 use borrow.Author.Needs.{needs}
 use Rattle.reader.proofs.operators.prefix_need.Statement.{statement}
 use Rattle.reader.proofs.operators.prefix_need.Tie as tie
-use Rattle.reader.proofs.operators.prefix_need.Reads as reads
-use Rattle.reader.proofs.operators.prefix_need.Lts as lts
 
 enum-told : tie.Need-enum-told
 enum-told c = search needs

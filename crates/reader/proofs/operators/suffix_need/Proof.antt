@@ -3,8 +3,6 @@ use Rattle.syntax.specs.Needs.{suffix-need}
 use borrow.Author.Needs.{needs}
 use Rattle.reader.proofs.operators.suffix_need.Statement.{statement}
 use Rattle.reader.proofs.operators.suffix_need.Tie as tie
-use Rattle.reader.proofs.operators.suffix_need.Reads as reads
-use Rattle.reader.proofs.operators.suffix_need.Lts as lts
 
 enum-told : tie.Need-enum-told
 enum-told c = search needs

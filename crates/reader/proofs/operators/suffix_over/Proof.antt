@@ -6,11 +6,6 @@ use native.Mathlib.Omega.{arith}
 use borrow.Author.Needs.{needs}
 use Rattle.reader.proofs.operators.suffix_over.Statement.{statement}
 use Rattle.reader.proofs.operators.suffix_over.Tie as tie
-use Rattle.reader.proofs.operators.suffix_over.Reads as reads
-use Rattle.reader.proofs.operators.suffix_over.Lts as lts
-use Rattle.reader.proofs.emitter.added.Reads as added-reads
-use Rattle.reader.proofs.emitter.repeated.Reads as repeated-reads
-use Rattle.reader.proofs.operators.operator.Reads as operator-reads
 
 enum-told : tie.Need-enum-told
 enum-told c = search needs

@@ -3,8 +3,6 @@ use Rattle.reader.proofs.Emitting.{fewer-left}
 use borrow.Author.Needs.{needs}
 use Rattle.reader.proofs.operators.taken.Statement.{statement}
 use Rattle.reader.proofs.operators.taken.Tie as tie
-use Rattle.reader.proofs.operators.taken.Reads as reads
-use Rattle.reader.proofs.operators.taken.Lts as lts
 
 sub-t4 : tie.Need-sub-t4
 sub-t4 c = search needs

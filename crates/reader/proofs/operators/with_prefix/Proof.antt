@@ -5,11 +5,6 @@ use native.Mathlib.Omega.{arith}
 use borrow.Author.Needs.{needs}
 use Rattle.reader.proofs.operators.with_prefix.Statement.{statement}
 use Rattle.reader.proofs.operators.with_prefix.Tie as tie
-use Rattle.reader.proofs.operators.with_prefix.Reads as reads
-use Rattle.reader.proofs.operators.with_prefix.Lts as lts
-use Rattle.reader.proofs.emitter.added.Reads as added-reads
-use Rattle.reader.proofs.emitter.numbered.Reads as numbered-reads
-use Rattle.reader.proofs.operators.operator.Reads as operator-reads
 
 numbered-requires : tie.Need-numbered-requires
 numbered-requires c κs = prefix-operand _ (part-of (c .before .args .x) (c .before .args .rules .now)) (c .before .pre)

@@ -6,13 +6,6 @@ use mathlib.Core.Path.{_∙_}
 use borrow.Author.Needs.{needs}
 use Rattle.reader.proofs.operators.with_suffix.Statement.{statement}
 use Rattle.reader.proofs.operators.with_suffix.Tie as tie
-use Rattle.reader.proofs.operators.with_suffix.Reads as reads
-use Rattle.reader.proofs.operators.with_suffix.Lts as lts
-use Rattle.reader.proofs.emitter.numbered.Reads as numbered-reads
-use Rattle.reader.proofs.operators.over.Reads as over-reads
-use Rattle.reader.proofs.operators.suffix_need.Reads as suffix-need-reads
-use Rattle.reader.proofs.operators.suffix_over.Reads as suffix-over-reads
-use Rattle.reader.proofs.operators.taken.Reads as taken-reads
 
 suffix-need-requires : tie.Need-suffix-need-requires
 suffix-need-requires c κs = search needs

@@ -5,12 +5,6 @@ use Rattle.reader.proofs.ReadRight.{read-fault, read-undefined, read-ma
 use borrow.Author.Needs.{needs}
 use Rattle.reader.proofs.reading.read.Statement.{statement}
 use Rattle.reader.proofs.reading.read.Tie as tie
-use Rattle.reader.proofs.reading.read.Reads as reads
-use Rattle.reader.proofs.reading.read.Lts as lts
-use Rattle.reader.proofs.cursor.lines_of.Reads as lines-of-reads
-use Rattle.scanner.proofs.faults.check_text.Reads as check-text-reads
-use Rattle.scanner.proofs.undefined.undefined_of.Reads as undefined-of-reads
-use Rattle.reader.proofs.reading.refused.Reads as refused-reads
 
 check-text-requires : tie.Need-check-text-requires
 check-text-requires c κs = search needs

@@ -3,8 +3,6 @@ use mathlib.Core.Path.{refl}
 use Rattle.reader.specs.Calls.{grammar-answer}
 use Rattle.reader.proofs.reading.refused.Statement.{statement}
 use Rattle.reader.proofs.reading.refused.Tie as tie
-use Rattle.reader.proofs.reading.refused.Reads as reads
-use Rattle.reader.proofs.reading.refused.Lts as lts
 
 returns : tie.Need-returns
 unfolding grammar-answer

@@ -7,11 +7,6 @@ use mathlib.Core.Path.{sym, ap, _∙_}
 use borrow.Author.Needs.{needs}
 use Rattle.scanner.proofs.faults.by_byte.Statement.{statement}
 use Rattle.scanner.proofs.faults.by_byte.Tie as tie
-use Rattle.scanner.proofs.faults.by_byte.Reads as reads
-use Rattle.scanner.proofs.faults.by_byte.Lts as lts
-use Rattle.scanner.proofs.faults.from_equals.Reads as from-equals-reads
-use Rattle.scanner.proofs.faults.from_inside.Reads as from-inside-reads
-use Rattle.scanner.proofs.tokens.sign_of.Reads as sign-of-reads
 
 enum-told : tie.Need-enum-told
 enum-told c = search needs
