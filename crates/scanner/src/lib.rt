@@ -26,7 +26,7 @@ pub enum Scanned {
     End,
 }
 
-// What a token is to the search for a line's name: the name sought where a line begins, another name there, or anything else.
+// What the letters where a line begins are to the search for a name: the name sought, another name, or none.
 pub enum Head {
     Sought,
     Other,
