@@ -11,23 +11,23 @@ use Rattle.chain.specs.declared.Registers.{Registers}
 use Rattle.chain.specs.Step.{registers-of, after-pop, resumed, with-reading, closed, first-look}
 use Rattle.chain.specs.code.StepParts.{Pops, First-looks}
 
-module _ (E : Environment) (r : Registers) (p : ℕ) where
+module _ (E : Environment) (r : Registers) (p : ℕ) (ws : List ℕ) where
   pub pops-pushed :
       r .pushed ≡ true → (b : Bool) →
-      after-pop E (r .at) p (r .at .head) (r .top) (r .readings + 1) ≡ closed E (with-reading r) (r .at) (Pop p b)
+      after-pop E (r .at) p (r .at .head) (r .depth) (r .readings + 1) ws ≡ closed E (with-reading E r) (r .at) (Pop p b) ws
   unfolding closed resumed
   pops-pushed e true = simp e
   pops-pushed e false = simp e
 
   pub pops-changed :
       r .pushed ≡ false → (b : Bool) →
-      registers-of Unwind (r .at) false (r .top) (r .readings + 1) ≡ closed E (with-reading r) (r .at) (Pop p b)
+      registers-of E Unwind (r .at) false (r .depth) (r .readings + 1) ≡ closed E (with-reading E r) (r .at) (Pop p b) ws
   unfolding closed
   pops-changed e b = simp e
 
 -- so a first look at it, whether its pop returns or not
 pub first-pops :
-    {E : Environment} {r x : Registers} {k p : ℕ} {ns ns′ ws : List ℕ} {b : Bool} {a : Action} → Pops E r x k p ns ns′ → a ≡ Pop p b →
-    First-looks E r k a x ns ns′ ws ws
+    {E : Environment} {r x : Registers} {p : ℕ} {ns ns′ ws : List ℕ} {b : Bool} {a : Action} → Pops E r x p ns ns′ ws → a ≡ Pop p b →
+    First-looks E r a x ns ns′ ws ws
 unfolding first-look
 first-pops {b = b} s e = record { is = rw (e, s .closes b, s .notes-are) }

@@ -2,12 +2,11 @@
 use mathlib.Core.Path.{_≡_, refl, sym, _∙_, subst}
 use mathlib.Core.Bool.{Bool, true, false, cond}
 use mathlib.Core.List.{List, [], _∷_}
-use Prim.Native.Nat.{ℕ, zero, suc, _+_, _-_, _/_, _%_, _<_, _≤_}
+use Prim.Native.Nat.{ℕ, zero, suc, _+_, _/_, _%_, _<_, _≤_}
 use native.Mathlib.Omega.{arith}
-use lib.Dec.{eqb}
+use lib.Dec.{leb, eqb}
 use lib.ListN.{length, getD, set}
 use lib.Seq.{getD-set-same, getD-set-other}
-use borrow.Author.Tests.{eqb-true}
 use Rattle.machine.specs.declared.Config.{Config}
 use Rattle.machine.specs.declared.Action.{Action}
 use Rattle.machine.specs.declared.Action.the-variants.{Stop, Change, Push, Pop}
@@ -23,19 +22,34 @@ use Rattle.chain.specs.declared.Mode.{Mode}
 use Rattle.chain.specs.declared.Mode.the-variants.{Look, Unwind, Clear, Done}
 use Rattle.chain.specs.declared.Environment.{Environment}
 use Rattle.chain.specs.declared.Registers.{Registers}
-use Rattle.chain.specs.Step.{Program-state, with-cells, registers-of, resumed, closed, with-reading, first-look, look, unwound, unwind, cleared, step-by-mode, judge-step}
+use Rattle.chain.specs.Cells.{open-bit, open-note, cell-note}
+use Rattle.chain.specs.Step.{Program-state, with-cells, registers-of, resumed, closed, with-reading, first-look, look, unwound, unwind, cleared, clear, step-by-mode, judge-step}
 use Rattle.chain.specs.code.Ready.{Open-for, Ready, Step-says}
 use Rattle.chain.specs.Chain.{Same-zero, Newly-noted, none-noted, one-noted}
-use Rattle.chain.specs.code.StepParts.{Steps-by, Unwindable, Clears}
+use Rattle.chain.specs.code.StepParts.{Lookable, Steps-by, Unwindable, Clearable, Clears}
+use Rattle.chain.proofs.OpenNotes.{noted}
 use Rattle.chain.proofs.StepSafe.{number-low}
 
+-- a note that says unseen is 0, and an open note is not
+pub cell-unseen : {v : ℕ} → cell-note v ≡ Unseen → v ≡ 0
+unfolding cell-note
+cell-unseen {v} e = go (leb open-bit v) e
+  where
+    go : (x : Bool) → cond x Open (note-of v) ≡ Unseen → v ≡ 0
+    go true h = absurd (let z : _≡_ {A = ℕ} 0 1 = cc in omega arith)
+    go false h = zero-unseen h
+
+pub open-seen : {v : ℕ} (c : Config) (b : Bool) → v ≡ open-note c b → v ≡ 0 → ⊥
+open-seen c b e z = omega arith
+
 -- the readings of each record that a step makes
-resumed-reads : (E : Environment) (r : Registers) (d : Config) (a : Action) (i t : ℕ) → resumed E r d a i t .readings ≡ r .readings
+resumed-reads :
+    (E : Environment) (r : Registers) (d : Config) (a : Action) (i t : ℕ) (ws : List ℕ) → resumed E r d a i t ws .readings ≡ r .readings
 unfolding resumed
-resumed-reads E r d (Stop why) i t = refl
-resumed-reads E r d (Change c) i t = refl
-resumed-reads E r d (Push c) i t = refl
-resumed-reads E r d (Pop p b) i t = go (eqb t 0) _ _ refl refl
+resumed-reads E r d (Stop why) i t ws = refl
+resumed-reads E r d (Change c) i t ws = refl
+resumed-reads E r d (Push c) i t ws = refl
+resumed-reads E r d (Pop p b) i t ws = go (eqb t 0) _ _ refl refl
   where
     go : (x : Bool) (a b : Registers) → a .readings ≡ r .readings → b .readings ≡ r .readings → cond x a b .readings ≡ r .readings
     go true a b e f = e
@@ -87,12 +101,15 @@ one-read {n} {r} {ns} x k v ws e h l old new =
           (λ j f. rw (getD-set-other ns k j v 0 f) same-zero);
     }
 
-closed-reads : (E : Environment) (r : Registers) (d : Config) (a : Action) → closed E r d a .readings ≡ r .readings
+closed-reads : (E : Environment) (r : Registers) (d : Config) (a : Action) (ws : List ℕ) → closed E r d a ws .readings ≡ r .readings
 unfolding closed
-closed-reads E r d a = go (r .pushed)
+closed-reads E r d a ws = go (r .pushed)
   where
-    go : (b : Bool) → cond b (resumed E r d a (r .at .head) (r .top)) (registers-of Unwind d false (r .top) (r .readings)) .readings ≡ r .readings
-    go true = resumed-reads E r d a _ _
+    go :
+        (b : Bool) →
+        cond b (resumed E r d a (r .at .head) (r .depth) ws) (registers-of E Unwind d false (r .depth) (r .readings)) .readings
+        ≡ r .readings
+    go true = resumed-reads E r d a _ _ ws
     go false = refl
 
 -- a first look reads: a zero note turns nonzero
@@ -100,55 +117,56 @@ first-adds :
     (n : ℕ) (E : Environment) (r : Registers) (k : ℕ) (a : Action) (ns ws : List ℕ) → k < n → length ns ≡ n → getD ns k 0 ≡ 0 →
     Adds n r ns (first-look E r k a ns ws)
 unfolding first-look
-first-adds n E r k (Stop why) ns ws h l e = one-read _ k 1 _ refl h l e (λ z. omega arith)
-first-adds n E r k (Change c) ns ws h l e = one-read _ k 1 _ refl h l e (λ z. omega arith)
-first-adds n E r k (Push c) ns ws h l e = one-read _ k 1 _ refl h l e (λ z. omega arith)
+first-adds n E r k (Stop why) ns ws h l e = one-read _ k _ _ refl h l e (open-seen (r .at) (r .pushed) refl)
+first-adds n E r k (Change c) ns ws h l e = one-read _ k _ _ refl h l e (open-seen (r .at) (r .pushed) refl)
+first-adds n E r k (Push c) ns ws h l e = one-read _ k _ _ refl h l e (open-seen (r .at) (r .pushed) refl)
 first-adds n E r k (Pop p b) ns ws h l e =
-    one-read _ k (k + 2) _ (closed-reads E (with-reading r) (r .at) (Pop p b)) h l e (λ z. omega arith)
+    one-read _ k (k + 2) _ (closed-reads E (with-reading E r) (r .at) (Pop p b) ws) h l e (λ z. omega arith)
 
 look-adds :
     (M : Machine) (n : ℕ) (E : Environment) (r : Registers) (k : ℕ) (v : Note) (ns ws : List ℕ) → k < n → length ns ≡ n →
-    note-of (getD ns k 0) ≡ v → Adds n r ns (look M E r k v ns ws)
+    cell-note (getD ns k 0) ≡ v → Adds n r ns (look M E r k v ns ws)
 unfolding look
-look-adds M n E r k Unseen ns ws h l e = first-adds n E r k (M .action (r .at)) ns ws h l (zero-unseen e)
+look-adds M n E r k Unseen ns ws h l e = first-adds n E r k (M .action (r .at)) ns ws h l (cell-unseen e)
 look-adds M n E r k Open ns ws h l e = none-read _ _ refl
-look-adds M n E r k (Closed j) ns ws h l e = none-read _ _ (closed-reads E r _ _)
+look-adds M n E r k (Closed j) ns ws h l e = none-read _ _ (closed-reads E r _ _ ws)
 
-unwound-reads : (M : Machine) (E : Environment) (r : Registers) (k w : ℕ) → unwound M E r k w .readings ≡ r .readings
+unwound-reads :
+    (M : Machine) (E : Environment) (r : Registers) (k v t : ℕ) (ws : List ℕ) → unwound M E r k v t ws .readings ≡ r .readings
 unfolding unwound
-unwound-reads M E r k w = go (eqb (w % 2) 0)
+unwound-reads M E r k v t ws = go (eqb (v % 2) 0)
   where
     go :
         (x : Bool) →
-        cond x (registers-of Unwind (r .at) false (w / 2) (r .readings))
-        (resumed E r (r .at) (M .action (r .at)) (k / E .sizes .symbols % E .sizes .places) (w / 2))
+        cond x (registers-of E Unwind (r .at) false t (r .readings))
+        (resumed E r (r .at) (M .action (r .at)) (k / E .sizes .symbols % E .sizes .places) t ws)
         .readings
         ≡ r .readings
     go true = refl
-    go false = resumed-reads E r _ _ _ _
+    go false = resumed-reads E r _ _ _ _ ws
 
-cleared-reads : (r : Registers) (v : Verdict) (w : ℕ) → cleared r v w .readings ≡ r .readings
+cleared-reads : (E : Environment) (r : Registers) (v : Verdict) (t : ℕ) → cleared E r v t .readings ≡ r .readings
 unfolding cleared
-cleared-reads r v w = go (eqb (w / 2) 0)
+cleared-reads E r v t = go (eqb t 0)
   where
     go :
         (x : Bool) →
-        cond x (registers-of (Done v) (r .at) false 0 (r .readings)) (registers-of (Clear v) (r .at) false (w / 2) (r .readings))
-        .readings
+        cond x (registers-of E (Done v) (r .at) false 0 (r .readings)) (registers-of E (Clear v) (r .at) false t (r .readings)) .readings
         ≡ r .readings
     go true = refl
     go false = refl
 
 -- each mode
 pub step-adds :
-    {bs cs : List ℕ} {E : Environment} {r : Registers} {ns ws : List ℕ} → Ready bs cs E r ns ws → (m : Mode) → Open-for m (r .top) ns →
+    {bs cs : List ℕ} {E : Environment} {r : Registers} {ns ws : List ℕ} → Ready bs cs E r ns ws → (m : Mode) → Open-for m (r .depth) ns →
     Adds (how-many (machine bs cs)) r ns (step-by-mode m (machine bs cs) E r ns ws)
-unfolding step-by-mode unwind
+unfolding step-by-mode unwind clear
 step-adds {bs} {cs} {E} {r} {ns} {ws} y Look o =
-    look-adds (machine bs cs) _ E r _ _ ns ws (number-low (y .unrefused) (y .sizes-are) (y .there)) (y .notes-long) refl
+    look-adds (machine bs cs) _ E r _ _ ns ws
+    (number-low (y .unrefused) (y .environment-is) (y .there)) (y .notes-long) refl
 step-adds {bs} {cs} {E} {r} {ns} y Unwind o =
-    kept-read _ (r .top - 1) _ _ (unwound-reads _ E r _ _) (λ z. omega (arith, o .1)) (λ z. omega arith)
-step-adds {r = r} y (Clear v) o = none-read _ _ (cleared-reads r v _)
+    kept-read _ _ _ _ (unwound-reads _ E r _ _ _ _) (noted (y .newest o)) (λ z. omega arith)
+step-adds {E = E} {r = r} y (Clear v) o = kept-read _ _ _ _ (cleared-reads E r v _) (noted (y .newest o)) (λ z. omega arith)
 step-adds y (Done v) o = none-read _ _ refl
 
 -- a step that is its mode's
@@ -158,26 +176,31 @@ pub says-by :
 unfolding judge-step
 says-by {bs} {cs} {E} {r} {x} {ns} {ns′} {ws} {ws′} y {m} e f =
     let a : Adds (how-many (machine bs cs)) r ns (with-cells x ns′ ws′) =
-    rw (f .is) (step-adds y m (subst (λ (k : Mode). Open-for k (r .top) ns) e (y .open-one)))
+    rw (f .is) (step-adds y m (subst (λ (k : Mode). Open-for k (r .depth) ns) e (y .open-one)))
     in
     record { is = f .is ∙ rw e; adds = a .adds; one-more = a .one-more; newly-noted = a .newly-noted }
 
 -- what a mode's function asks, and a step that clears or does nothing
 module _ {bs cs : List ℕ} {E : Environment} {r : Registers} {ns ws : List ℕ} (y : Ready bs cs E r ns ws) where
-  open-now : {m : Mode} → r .mode ≡ m → Open-for m (r .top) ns
-  open-now e = subst (λ (k : Mode). Open-for k (r .top) ns) e (y .open-one)
+  open-now : {m : Mode} → r .mode ≡ m → Open-for m (r .depth) ns
+  open-now e = subst (λ (k : Mode). Open-for k (r .depth) ns) e (y .open-one)
+
+  pub look-ready : r .mode ≡ Look → Lookable bs cs E r ns ws
+  look-ready e = record { ready = y; told = open-now e }
 
   pub unwind-ready : r .mode ≡ Unwind → Unwindable bs cs E r ns ws
-  unwind-ready e = record { ready = y; one-open = open-now e .0 }
+  unwind-ready e = record { ready = y; one-open = open-now e }
 
-  pub clear-ready : {v : Verdict} → r .mode ≡ Clear v → (0 < r .top) × (r .top ≤ length ws)
-  clear-ready e = (open-now e, omega (arith, y .top-low, y .work-long))
+  pub clear-ready : {v : Verdict} → r .mode ≡ Clear v → Clearable r ns ws
+  clear-ready e =
+      let n = y .newest (open-now e) in
+      record { one-open = open-now e; work-there = n .work-there; note-there = n .note-there }
 
   pub clear-says :
-      {v : Verdict} → r .mode ≡ Clear v → {x : Registers} {ws′ : List ℕ} →
-      Clears r x v ws ws′ → Step-says bs cs E r x ns ns ws ws′
+      {v : Verdict} → r .mode ≡ Clear v → {x : Registers} {ns′ ws′ : List ℕ} →
+      Clears r x v ns ns′ ws ws′ → Step-says bs cs E r x ns ns′ ws ws′
   unfolding step-by-mode
-  clear-says e f = says-by y e (record { is = rw (f .is, f .work-is) })
+  clear-says e f = says-by y e (record { is = f .is E (y .number-is) })
 
   pub done-says : {v : Verdict} → r .mode ≡ Done v → Step-says bs cs E r r ns ns ws ws
   unfolding step-by-mode

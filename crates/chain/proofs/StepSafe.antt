@@ -1,37 +1,34 @@
--- Bounds that the step's code needs, of an image and a capture that are not refused and of registers that are ready. Assumes nothing.
-use mathlib.Core.Path.{_≡_, refl, sym, ap, _∙_}
-use mathlib.Core.Bool.{Bool, true, false, cond}
+-- What the step's code needs, of an image and a capture that are not refused and of registers that are ready. Assumes nothing.
+use mathlib.Core.Path.{_≡_, refl, sym, _∙_}
+use mathlib.Core.Bool.{Bool}
 use mathlib.Core.List.{List}
-use Prim.Native.Nat.{ℕ, _+_, _*_, _-_, _/_, _%_, _<_, _≤_}
-use native.Mathlib.Nat.{mul-le-mul, mod-lt}
+use Prim.Native.Nat.{ℕ, suc, _+_, _*_, _<_, _≤_}
+use native.Mathlib.Nat.{mul-le-mul}
 use native.Mathlib.Omega.{arith}
-use lib.Dec.{eqb}
-use lib.ListN.{length, getD}
-use borrow.Author.Tests.{eqb-true}
+use lib.ListN.{length, getD, set}
 use Rattle.machine.specs.declared.Config.{Config}
-use Rattle.image.specs.declared.Sizes.{Sizes}
 use Rattle.machine.specs.declared.Action.{Action}
-use Rattle.machine.specs.declared.Reason.the-variants.{Missing}
-use Rattle.machine.specs.declared.Action.the-variants.{Stop, Change, Push, Pop}
+use Rattle.machine.specs.declared.Action.the-variants.{Change, Push, Pop}
 use Rattle.machine.specs.declared.Note.the-variants.{Closed}
-use Rattle.machine.specs.Run.{Valid-config, number-by, number, how-many, config, config-by, returned}
-use Rattle.image.specs.Image.{states, symbols, Rule, action, action-by, moved, machine, sizes-of}
-use Rattle.machine.specs.Verdicts.{note-of, note-cell}
+use Rattle.machine.specs.Run.{Valid-config, number-by, number, how-many, config-by}
+use Rattle.machine.specs.Verdicts.{nonzero}
+use Rattle.image.specs.Image.{states, action, machine, sizes-of}
 use Rattle.image.specs.Refusals.{Unrefused}
 use Rattle.image.specs.Format
-use Rattle.machine.proofs.RightNotes.{cell-kept}
-use Rattle.image.specs.code.Lookup.{Digits-fit, Lookup-ready}
+use Rattle.image.specs.code.Lookup.{Lookup-ready}
+use Rattle.machine.proofs.Digits.{number-of-digits}
+use Rattle.machine.proofs.Nonzero.{nonzero-set-new, nonzero-most}
 use Rattle.machine.proofs.Numbers.{number-below, config-at, config-at-there}
-use Rattle.image.proofs.Rules.{good, rule-of, rule-there, state-there, head-there, symbol-there}
+use Rattle.image.proofs.Rules.{good, state-there, head-there, symbol-there}
+use Rattle.image.proofs.Inside.{inside, change-near, push-near}
 use Rattle.chain.specs.declared.Environment.{Environment}
 use Rattle.chain.specs.declared.Registers.{Registers}
+use Rattle.chain.specs.Cells.{cell-note}
 use Rattle.chain.specs.Step.{number-in, config-in}
+use Rattle.chain.specs.Chain.{environment-of}
 use Rattle.chain.specs.code.Ready.{Ready}
-use Rattle.chain.specs.code.StepParts.{u32-end, Resumable, Openable, First-ready, Poppable, Closable}
-
-pub either-below : (b : Bool) {i j n x : ℕ} → x ≡ cond b i j → i < n → j < n → x < n
-either-below true e h k = rw e h
-either-below false e h k = rw e k
+use Rattle.chain.specs.code.NumberParts.{u32-end, Constants, Config-below, Numbered, Leads, Apart}
+use Rattle.chain.specs.code.StepParts.{Resumable, First-ready, Closable}
 
 -- N is at most 32 · 65537 · 128
 pub few-cells :
@@ -47,170 +44,166 @@ few-places {bs} {cs} u =
     let p : length cs + 2 ≤ Format.max-places = omega (arith, u .short) in
     mul-le-mul (good u .states-most) p
 
--- a rule that pops names a state of the image
-pops-kind : (r : Rule) (i p : ℕ) (b : Bool) → action-by r i ≡ Pop p b → (r .kind ≡ 3) × (r .state ≡ p)
-unfolding action-by
-pops-kind r i p b e = go (eqb (r .kind) 1) (eqb (r .kind) 2) (eqb (r .kind) 3) refl e
-  where
-    go :
-        (x y z : Bool) → eqb (r .kind) 3 ≡ z →
-        cond x (Change (config (r .state) (moved (r .direction) i) (r .symbol)))
-        (cond y (Push (config (r .state) (moved (r .direction) i) (r .symbol))) (cond z (Pop (r .state) (eqb (r .direction) 1)) (Stop Missing)))
-        ≡ Pop p b →
-        (r .kind ≡ 3) × (r .state ≡ p)
-    go true y z q h = absurd (let w : _≡_ {A = ℕ} 0 1 = cc in omega arith)
-    go false true z q h = absurd (let w : _≡_ {A = ℕ} 0 1 = cc in omega arith)
-    go false false true q h = (eqb-true _ _ q, cc)
-    go false false false q h = absurd (let w : _≡_ {A = ℕ} 0 1 = cc in omega arith)
+-- AN ENVIRONMENT by an image and a capture that are not refused
+module _ {bs cs : List ℕ} (u : Unrefused bs cs) {E : Environment} (q : E ≡ environment-of bs cs) where
+  pub sizes-kept : E .sizes ≡ sizes-of bs cs
+  sizes-kept = rw q refl
 
-pub pop-low :
-    {bs cs : List ℕ} → Unrefused bs cs → {c : Config} → Valid-config (machine bs cs) c → (p : ℕ) (b : Bool) →
-    action bs cs c ≡ Pop p b → p < Format.max-states
-unfolding action
-pop-low {bs} {cs} u {c} t p b e =
-    let k = pops-kind (rule-of bs cs c) (c .head) p b e in
-    let h : rule-of bs cs c .state < states bs = rule-there u t .state-below (λ z. omega (arith, k .0)) in
-    omega (arith, k .1, good u .states-most)
-
--- a configuration by the counts that an environment keeps
-module _ {bs cs : List ℕ} (u : Unrefused bs cs) {s : Sizes} (q : s ≡ sizes-of bs cs) where
-  pub symbols-some : 0 < s .symbols
+  pub constants-kept : Constants E
   unfolding sizes-of
-  symbols-some = rw q (good u .symbols-least)
-
-  pub places-some : 0 < s .places
-  unfolding sizes-of
-  places-some = rw q (omega arith)
-
-  places-few : s .places ≤ Format.max-places
-  unfolding sizes-of
-  places-few = rw q (omega (arith, u .short))
-
-  pub number-low : {c : Config} → Valid-config (machine bs cs) c → number-by (s .places) (s .symbols) c < how-many (machine bs cs)
-  unfolding sizes-of number machine
-  number-low t = rw q (number-below t)
-
-  number-fits : {c : Config} → Valid-config (machine bs cs) c → Digits-fit (c .state) (c .head) (c .symbol) (s .places) (s .symbols)
-  unfolding sizes-of
-  number-fits t =
+  constants-kept =
       rw
       q
       (record {
-        state-below = omega (arith, state-there u t, good u .states-most);
-        place-below = head-there u t;
-        places-most = omega (arith, u .short);
-        symbol-below = symbol-there u t;
+        stride-is = refl;
+        reciprocals-are = refl;
+        symbols-some = good u .symbols-least;
         symbols-most = good u .symbols-most;
+        places-some = omega arith;
+        places-most = omega (arith, u .short);
       })
 
-  from-there : (k : ℕ) → k < how-many (machine bs cs) → Valid-config (machine bs cs) (config-by (s .places) (s .symbols) k)
+  pub config-low : {c : Config} → Valid-config (machine bs cs) c → Config-below E c
+  unfolding sizes-of
+  config-low t =
+      rw
+      q
+      (record {
+        state-low = omega (arith, state-there u t, good u .states-most);
+        head-below = head-there u t;
+        symbol-below = symbol-there u t;
+      })
+
+  pub number-low : {c : Config} → Valid-config (machine bs cs) c → number-in E c < how-many (machine bs cs)
+  unfolding sizes-of number machine
+  number-low t = rw q (number-below t)
+
+  from-there : (k : ℕ) → k < how-many (machine bs cs) → Valid-config (machine bs cs) (config-in E k)
   unfolding sizes-of config-at machine
   from-there k h = rw q (config-at-there (machine bs cs) k h)
 
-  pub head-low : {c : Config} → Valid-config (machine bs cs) c → c .head < Format.max-places
-  head-low t = omega (arith, head-there u t, u .short)
+  -- a pop names a state of the image
+  pub pop-low : {d : Config} → Valid-config (machine bs cs) d → {a : Action} → a ≡ action bs cs d → (p : ℕ) (b : Bool) → a ≡ Pop p b → p < Format.max-states
+  unfolding machine
+  pop-low {d} t f p b e =
+      let h : p < machine bs cs .states = inside bs cs u .pops d p b t (sym f ∙ e) in
+      omega (arith, h, good u .states-most)
 
-  pub head-of-number : (k : ℕ) → k / s .symbols % s .places < Format.max-places
-  head-of-number k = omega (arith, mod-lt (k / s .symbols) places-some, places-few)
+  -- a number below N can be taken apart, and its configuration has it
+  pub apart-low : {k : ℕ} → k < how-many (machine bs cs) → Apart E k
+  unfolding how-many machine sizes-of
+  apart-low {k} h =
+      let f : how-many (machine bs cs) ≤ Format.max-states * E .sizes .places * E .sizes .symbols =
+      rw q (mul-le-mul (mul-le-mul {m₁ = length cs + 2} (good u .states-most) (omega arith)) (omega arith)) in
+      record { constants = constants-kept; below = omega arith }
 
--- of an environment with these counts
-module _ {bs cs : List ℕ} (u : Unrefused bs cs) {E : Environment} (q : E .sizes ≡ sizes-of bs cs) where
-  -- an entry whose pointer is a head can be popped by d
-  pub resume-ready :
-      {d : Config} → Valid-config (machine bs cs) d → {a : Action} → a ≡ action bs cs d → {i : ℕ} → i < Format.max-places →
-      Resumable E a i (d .head)
-  resume-ready t f h =
-      record {
-        symbols-some = symbols-some u q;
-        pointer-low = h;
-        head-low = head-low u q t;
-        state-low = λ p b g. pop-low u t p b (sym f ∙ g);
-      }
+  pub numbered-from : {k : ℕ} → k < how-many (machine bs cs) → {d : Config} → d ≡ config-in E k → Numbered E d k
+  unfolding number-by config-by
+  numbered-from {k} h f =
+      rw f
+      (record {
+        constants = constants-kept;
+        below = config-low (from-there k h);
+        is = sym (number-of-digits (E .sizes .places) (E .sizes .symbols) k);
+      })
 
--- what ready registers have at hand: their configuration's number k, both cells of that number, and room to count
+  pub lookup-from : {k : ℕ} → k < how-many (machine bs cs) → {d : Config} → d ≡ config-in E k → Lookup-ready bs cs (E .sizes) d
+  lookup-from {k} h f = record { unrefused = u; counts = sizes-kept; there = rw f (from-there k h) }
+
+-- READY REGISTERS
 module _ {bs cs : List ℕ} {E : Environment} {r : Registers} {ns ws : List ℕ} (y : Ready bs cs E r ns ws) where
-  pub at-fits : Digits-fit (r .at .state) (r .at .head) (r .at .symbol) (E .sizes .places) (E .sizes .symbols)
-  at-fits = number-fits (y .unrefused) (y .sizes-are) (y .there)
+  u : Unrefused bs cs
+  u = y .unrefused
 
-  at-low : {k : ℕ} → k ≡ number-in E (r .at) → k < how-many (machine bs cs)
-  at-low e = omega (arith, number-low (y .unrefused) (y .sizes-are) (y .there))
+  pub at-numbered : Numbered E (r .at) (r .number)
+  at-numbered =
+      record { constants = constants-kept u (y .environment-is); below = config-low u (y .environment-is) (y .there); is = y .number-is }
 
-  pub note-there : {k : ℕ} → k ≡ number-in E (r .at) → k < length ns
-  note-there e = omega (arith, at-low e, y .notes-long)
+  pub at-lookup : Lookup-ready bs cs (E .sizes) (r .at)
+  at-lookup = record { unrefused = u; counts = sizes-kept u (y .environment-is); there = y .there }
 
-  pub number-room : {k : ℕ} → k ≡ number-in E (r .at) → k + 2 < u32-end
-  number-room e = omega (arith, at-low e, few-cells (y .unrefused))
+  pub number-there : r .number < how-many (machine bs cs)
+  number-there = omega (arith, y .number-is, number-low u (y .environment-is) (y .there))
 
-  at-head-low : r .at .head < Format.max-places
-  at-head-low = head-low (y .unrefused) (y .sizes-are) (y .there)
+  pub note-there : r .number < length ns
+  note-there = omega (arith, number-there, y .notes-long)
 
-  -- their configuration can be opened, and where its rule pops the entry can be removed
-  pub first-ready :
-      {k : ℕ} → k ≡ number-in E (r .at) → {a : Action} → a ≡ action bs cs (r .at) → First-ready E r k a ns ws
-  first-ready e f =
+  pub number-room : r .number + 2 < u32-end
+  number-room = omega (arith, number-there, few-cells u)
+
+  -- with an unseen note fewer than N are read, and no more are open
+  readings-few : getD ns (r .number) 0 ≡ 0 → r .readings < how-many (machine bs cs)
+  readings-few e =
+      let more : nonzero (how-many (machine bs cs)) (set ns (r .number) 1) ≡ suc (nonzero (how-many (machine bs cs)) ns) =
+      nonzero-set-new (how-many (machine bs cs)) ns (r .number) 1 number-there note-there e (λ z. omega arith) in
+      omega (arith, y .counted, nonzero-most (how-many (machine bs cs)) (set ns (r .number) 1))
+
+  pub first-ready : getD ns (r .number) 0 ≡ 0 → {a : Action} → a ≡ action bs cs (r .at) → First-ready E r a ns ws
+  unfolding machine
+  first-ready e {a} f =
       record {
         openable =
             record {
-              number-room = number-room e;
-              top-room = omega (arith, y .top-low, few-cells (y .unrefused));
-              readings-room = omega (arith, y .readings-low, few-cells (y .unrefused));
-              note-there = note-there e;
-              work-there = omega (arith, at-low e, y .work-long);
+              head-low = omega (arith, at-numbered .below .head-below, at-numbered .constants .places-most);
+              symbol-low = omega (arith, at-numbered .below .symbol-below, at-numbered .constants .symbols-most);
+              note-there = note-there;
+              work-there = omega (arith, y .depth-low, readings-few e, y .work-long);
+              depth-room = omega (arith, y .depth-low, readings-few e, few-cells u);
+              readings-room = omega (arith, readings-few e, few-cells u);
             };
-        resumable = resume-ready (y .unrefused) (y .sizes-are) (y .there) f at-head-low;
+        changes = λ c g. change-leads c (sym g ∙ f);
+        pushes = λ c g. push-leads c (sym g ∙ f);
+        pops =
+            λ p b g. record {
+              own = at-numbered;
+              state-low = pop-low u (y .environment-is) (y .there) f p b g;
+              newest = y .newest;
+              unseen = e;
+              number-room = number-room;
+              readings-room = omega (arith, readings-few e, few-cells u);
+              note-there = note-there;
+            };
+        own = at-numbered;
       }
+    where
+      change-leads : (c : Config) → Change c ≡ action bs cs (r .at) → Leads E (r .at) c
+      change-leads c g =
+          record {
+            below = config-low u (y .environment-is) (inside bs cs u .changes (r .at) c (y .there) (sym g));
+            right-most = change-near bs cs (r .at) c g .0;
+            left-most = change-near bs cs (r .at) c g .1;
+          }
 
-  pub counts-some : (0 < E .sizes .places) × (0 < E .sizes .symbols)
-  counts-some = (places-some (y .unrefused) (y .sizes-are), symbols-some (y .unrefused) (y .sizes-are))
+      push-leads : (c : Config) → Push c ≡ action bs cs (r .at) → Leads E (r .at) c
+      push-leads c g =
+          record {
+            below = config-low u (y .environment-is) (inside bs cs u .pushes (r .at) c (y .there) (sym g));
+            right-most = push-near bs cs (r .at) c g .0;
+            left-most = push-near bs cs (r .at) c g .1;
+          }
 
   -- a closed note leads to a configuration d, whose rule can be read and resumed from
-  pub closable :
-      (k j : ℕ) → note-of (getD ns k 0) ≡ Closed j → {d : Config} → d ≡ config-in E j → Closable bs cs E r d
-  unfolding note-cell
-  closable k j e f =
-      let cell : getD ns k 0 ≡ j + 2 = sym (cell-kept (getD ns k 0)) ∙ ap note-cell e in
-      let h : j < how-many (machine bs cs) = omega (arith, y .notes-low k) in
-      let there : Valid-config (machine bs cs) (config-in E j) = from-there (y .unrefused) (y .sizes-are) j h in
-      record {
-        lookup = record { unrefused = y .unrefused; counts = y .sizes-are; there = rw f there };
-        head-low = at-head-low;
-      }
+  module _ (k : ℕ) {j : ℕ} (e : cell-note (getD ns k 0) ≡ Closed j) where
+    pub apart : Apart E j
+    apart = apart-low u (y .environment-is) (y .notes-low k j e)
+
+    pub closable : {d : Config} → d ≡ config-in E j → Closable bs cs E r d j ns ws
+    closable f =
+        record {
+          environment-is = y .environment-is;
+          lookup = lookup-from u (y .environment-is) (y .notes-low k j e) f;
+          terminator = numbered-from u (y .environment-is) (y .notes-low k j e) f;
+          pointer-below = at-numbered .below .head-below;
+          newest = y .newest;
+        }
 
 -- a terminator that is known can be resumed from
 pub closed-resumes :
-    {bs cs : List ℕ} {E : Environment} {r : Registers} {d : Config} → Closable bs cs E r d → {a : Action} → a ≡ action bs cs d →
-    Resumable E a (r .at .head) (d .head)
-closed-resumes y f = resume-ready (y .lookup .unrefused) (y .lookup .counts) (y .lookup .there) f (y .head-low)
-
--- WHAT A POP NEEDS, as `after_pop` asks it: of a first look, of a known terminator, of an unwinding
-pub pops-ready :
-    {E : Environment} {r : Registers} {k : ℕ} {a : Action} {ns ws : List ℕ} → First-ready E r k a ns ws → {p : ℕ} {b : Bool} → a ≡ Pop p b →
-    Poppable E r k p ns
-pops-ready y {p} {b} e =
+    {bs cs : List ℕ} {E : Environment} {r : Registers} {d : Config} {k : ℕ} {ns ws : List ℕ} → Closable bs cs E r d k ns ws → {a : Action} → a ≡ action bs cs d → Resumable E d k a (r .at .head) (r .depth) ns ws
+closed-resumes y f =
     record {
-      state-low = y .resumable .state-low p b e;
-      symbols-some = y .resumable .symbols-some;
-      head-low = y .resumable .head-low;
-      number-room = y .openable .number-room;
-      readings-room = y .openable .readings-room;
-      note-there = y .openable .note-there;
+      terminator = y .terminator;
+      state-low = pop-low (y .lookup .unrefused) (y .environment-is) (y .lookup .there) f;
+      pointer-below = y .pointer-below;
+      newest = y .newest;
     }
-
-pub resume-pops :
-    {E : Environment} {a : Action} {i h x : ℕ} → Resumable E a i h → {p : ℕ} {b : Bool} → a ≡ Pop p b → x ≡ returned b i h →
-    (p < Format.max-states) × (0 < E .sizes .symbols) × (x < Format.max-places)
-resume-pops y {p} {b} e f =
-    (y .state-low p b e, y .symbols-some, either-below b f (y .pointer-low) (y .head-low))
-
-module _ {bs cs : List ℕ} {s : Sizes} {c : Config} (y : Lookup-ready bs cs s c) where
-  pub counts-positive : (0 < s .symbols) × (0 < s .places)
-  counts-positive = (symbols-some (y .unrefused) (y .counts), places-some (y .unrefused) (y .counts))
-
-  pub unwind-pops :
-      (k : ℕ) {p x : ℕ} {b : Bool} → action bs cs c ≡ Pop p b → x ≡ returned b (k / s .symbols % s .places) (c .head) →
-      (p < Format.max-states) × (0 < s .symbols) × (x < Format.max-places)
-  unwind-pops k {p} {x} {b} e f = (
-    pop-low (y .unrefused) (y .there) p b e,
-    symbols-some (y .unrefused) (y .counts),
-    either-below b f (head-of-number (y .unrefused) (y .counts) k) (head-low (y .unrefused) (y .counts) (y .there)),
-  )

@@ -3,7 +3,7 @@ use mathlib.Core.Path.{_≡_}
 use mathlib.Core.Bool.{true}
 use mathlib.Core.List.{List}
 use mathlib.Core.Option.{Option, none, some}
-use Prim.Native.Nat.{ℕ, zero, suc, _+_, _*_, _-_, _≤_, _<_}
+use Prim.Native.Nat.{ℕ, zero, suc, _+_, _*_, _-_, _/_, _<_, _≤_}
 use lib.ListN.{length, take, drop, replicate}
 use Rattle.machine.specs.declared.Config.{Config}
 use Rattle.image.specs.declared.Sizes.{Sizes}
@@ -17,6 +17,7 @@ use Rattle.machine.specs.Verdicts.{Says, Noted, nonzero, All-entered}
 use Rattle.chain.specs.declared.Mode.{Mode}
 use Rattle.chain.specs.declared.Mode.the-variants.{Look, Unwind, Clear, Done}
 use Rattle.chain.specs.declared.Environment.{Environment}
+use Rattle.chain.specs.declared.Reciprocals.{Reciprocals}
 use Rattle.chain.specs.declared.Registers.{Registers}
 use Rattle.chain.specs.declared.JudgeState.{JudgeState}
 use Rattle.chain.specs.Step.{Program-state, with-cells, registers-of, judge-step}
@@ -89,11 +90,25 @@ pub record Chain-correct (S : Type 0) (c : Chain S) (bs cs : List ℕ) : Type 0 
 
 -- THE PROGRAM'S CHAIN. Its start in an environment: looking at the start configuration, which counts as pushed, with nothing open and nothing read
 abbrev pub start-in : Environment → JudgeState
-start-in e = record { environment = e; registers = registers-of Look (config 0 0 0) true 0 0 }
+start-in e = record { environment = e; registers = registers-of e Look (config 0 0 0) true 0 0 }
+
+-- one over a divisor, times a scale and rounded up: a product with it and a division by the scale divide
+abbrev pub reciprocal : (scale divisor : ℕ) → ℕ
+reciprocal u d = u / d + 1
+
+abbrev pub symbols-scale : ℕ
+symbols-scale = 68719476736
+
+abbrev pub stride-scale : ℕ
+stride-scale = 4503599627370496
+
+abbrev pub reciprocals-by : (symbols stride : ℕ) → Reciprocals
+reciprocals-by g d = record { symbols = reciprocal symbols-scale g; stride = reciprocal stride-scale d }
 
 -- the environment by what is read from the image, and by the image and the capture themselves
 abbrev pub environment-by : Sizes → (finals : ℕ) → Environment
-environment-by s f = record { sizes = s; finals = f }
+environment-by s f =
+    record { sizes = s; finals = f; stride = s .places * s .symbols; reciprocals = reciprocals-by (s .symbols) (s .places * s .symbols) }
 
 abbrev pub environment-of : (image capture : List ℕ) → Environment
 environment-of bs cs = environment-by (sizes-of bs cs) (u32-at bs Format.finals-offset)
@@ -107,6 +122,7 @@ start-state ks n =
       classes = byte ks (Format.classes-offset - Format.counts-offset);
       symbols = byte ks (Format.symbols-offset - Format.counts-offset);
       places = n + 2;
+      rules = (byte ks (Format.classes-offset - Format.counts-offset) + 2) * byte ks (Format.symbols-offset - Format.counts-offset);
     })
     (u32-at ks (Format.finals-offset - Format.counts-offset)))
 

@@ -1,3 +1,5 @@
 -- What only the code needs: preconditions of private functions and intermediate forms. A reader of the promises can skip this folder.
 pub mod Ready
+pub mod NumberParts
+pub mod CellParts
 pub mod StepParts

@@ -7,24 +7,23 @@ use mathlib.Core.Logic.{_⊎_, inl, inr}
 use Prim.Native.Nat.{ℕ, zero, suc, _+_, _*_, _<_, _≤_}
 use native.Mathlib.Omega.{arith}
 use native.Mathlib.Decide.{decLt}
-use lib.ListN.{getD, replicate, length-replicate, getD-replicate}
+use lib.ListN.{length, getD, replicate, length-replicate}
 use lib.Seq.{ext-getD}
-use Rattle.machine.specs.declared.Config.{Config}
 use Rattle.machine.specs.declared.Verdict.{Verdict}
 use Rattle.machine.specs.Run.{Machine, Valid-config, config, number, how-many}
-use Rattle.machine.specs.Verdicts.{note-of}
+use Rattle.machine.specs.Verdicts.{note-of, Note-right, Noted}
 use Rattle.machine.proofs.Reach.{Inside}
-use Rattle.machine.proofs.Numbers.{number-below, config-at, config-at-there, number-config-at}
 use Rattle.machine.proofs.Nonzero.{nonzero-zeros, nonzero-most}
 use Rattle.chain.specs.declared.Mode.{Mode}
 use Rattle.chain.specs.declared.Mode.the-variants.{Look}
 use Rattle.chain.specs.declared.Environment.{Environment}
 use Rattle.chain.specs.declared.Registers.{Registers}
+use Rattle.chain.specs.Cells.{open-bit, cell-note}
 use Rattle.chain.specs.Step.{Program-state, with-cells, judge-step, step-by-mode}
 use Rattle.chain.specs.Chain.{verdict-of}
 use Rattle.chain_theory.proofs.Path.{Open, Among, Path, begin}
-use Rattle.chain_theory.proofs.Again.{none-open}
-use Rattle.chain_theory.proofs.Cells.{Seen, top-of, no-link, unseen, Running}
+use Rattle.chain_theory.proofs.Again.{none-open as none-distinct}
+use Rattle.chain_theory.proofs.Cells.{low-told, Seen, nothing-open, unseen, Running}
 use Rattle.chain_theory.proofs.Invariant.{Fitted, Shared, pushes, Settled, Phase, looking, unwinding, clearing, done, Chain-invariant}
 use Rattle.chain_theory.proofs.Resumes.{not-among-none}
 use Rattle.chain_theory.proofs.LookKeeps.{look-keeps}
@@ -38,22 +37,24 @@ pub record Starts (r : Registers) : Type 0 where
   pub looks : r .mode ≡ Look
   pub at-start : r .at ≡ config 0 0 0
   pub is-pushed : r .pushed ≡ true
-  pub no-top : r .top ≡ 0
+  pub none-open : r .depth ≡ 0
   pub none-read : r .readings ≡ 0
 
-zero-cell : (M : Machine) (c : Config) → Valid-config M c → _≡_ {A = ℕ} (getD (replicate (how-many M) 0) (number M c) 0) 0
-zero-cell M c t = getD-replicate (how-many M) (number M c) 0 0 (number-below t)
+pub zeros : (n i : ℕ) → _≡_ {A = ℕ} (getD (replicate n 0) i 0) 0
+zeros zero i = refl
+zeros (suc n) zero = refl
+zeros (suc n) (suc i) = zeros n i
 
-running-none : (M : Machine) → Running M [] (replicate (how-many M) 0) (replicate (how-many M) 0)
-unfolding note-of
+running-none : (M : Machine) → Running M [] (replicate (how-many M) 0)
+unfolding cell-note note-of
 running-none M =
     record {
-      cells = λ c t. rw (zero-cell M c t) (unseen (λ a. not-among-none a));
-      entered = λ c t seen. absurd (seen (zero-cell M c t));
+      cells = λ c t. rw (zeros (how-many M) (number M c)) (unseen (λ a. not-among-none a));
+      entered = λ c t seen. absurd (seen (zeros (how-many M) (number M c)));
     }
 
 pub begin-holds : {M : Machine} {r : Registers} → Inside M → Starts r → Chain-invariant M 0 (Empty M r)
-unfolding top-of pushes
+unfolding pushes
 begin-holds {M} {r} inside s =
     record {
       opens = [];
@@ -62,10 +63,12 @@ begin-holds {M} {r} inside s =
             at-there = subst (Valid-config M) (sym (s .at-start)) (inside .starts);
             notes-long = length-replicate (how-many M) 0;
             work-long = length-replicate (how-many M) 0;
-            top-is = s .no-top;
-            links = no-link;
-            distinct = none-open;
+            depth-is = s .none-open;
+            stacked = nothing-open;
+            zero-above = λ i l. zeros (how-many M) i;
+            distinct = none-distinct;
             counted = s .none-read ∙ sym (nonzero-zeros (how-many M) (how-many M));
+            depth-low = omega arith;
           };
       phase = subst (Phase M 0 (Empty M r) []) (sym (s .looks)) (looking (running-none M) path (rw (s .is-pushed) (omega arith)));
     }
@@ -115,18 +118,27 @@ settled-by {M} {x = x} (done {v = w} settled few) {v} e = let same : w ≡ v = c
 pub settled-at : {M : Machine} {n : ℕ} {x : Program-state Registers} {v : Verdict} → Chain-invariant M n x → verdict-of (x .state .mode) ≡ some v → Settled M [] v x
 settled-at h e = settled-by (h .phase) e
 
-pub work-zero : {M : Machine} {n : ℕ} {x : Program-state Registers} {v : Verdict} → Chain-invariant M n x → Settled M [] v x → x .work ≡ replicate (how-many M) 0
-work-zero {M} {x = x} h s =
-    ext-getD 0 (x .work) (replicate (how-many M) 0) (h .shared .work-long ∙ sym (length-replicate (how-many M) 0)) (λ k l. at k (omega (arith, h .shared .work-long)))
+-- no note has the open bit by then, so each says what it says when the verdict stands
+pub noted-at : {M : Machine} {x : Program-state Registers} {v : Verdict} → Settled M [] v x → Noted M (x .notes)
+noted-at {M} {x} s c t = go (s .low-else c t)
   where
-    zero-of : (c : Config) → Among c [] ⊎ (getD (x .work) (number M c) 0 ≡ 0) → getD (x .work) (number M c) 0 ≡ 0
-    zero-of c (inl a) = absurd (not-among-none a)
-    zero-of c (inr e) = e
+    go : Among c [] ⊎ (getD (x .notes) (number M c) 0 < open-bit) → Note-right M c (note-of (getD (x .notes) (number M c) 0))
+    go (inl a) = absurd (not-among-none a)
+    go (inr l) = subst (Note-right M c) (low-told l) (s .told c t)
 
-    at : (k : ℕ) → k < how-many M → getD (x .work) k 0 ≡ getD (replicate (how-many M) 0) k 0
-    at k l =
-        subst (λ (j : ℕ). getD (x .work) j 0 ≡ 0) (number-config-at M k) (zero-of (config-at M k) (s .zero-work (config-at M k) (config-at-there M k l)))
-        ∙ sym (getD-replicate (how-many M) k 0 0 l)
+nothing-left : {M : Machine} {n : ℕ} {x : Program-state Registers} {os : List Open} {m : Mode} → Phase M n x os m → {v : Verdict} → verdict-of m ≡ some v → length os ≡ 0
+unfolding verdict-of
+nothing-left (looking running path few) e = let z : _≡_ {A = ℕ} 0 1 = cc in absurd (omega arith)
+nothing-left (unwinding running path ends few) e = let z : _≡_ {A = ℕ} 0 1 = cc in absurd (omega arith)
+nothing-left (clearing settled few) e = let z : _≡_ {A = ℕ} 0 1 = cc in absurd (omega arith)
+nothing-left (done settled few) e = refl
+
+pub work-zero :
+    {M : Machine} {n : ℕ} {x : Program-state Registers} {v : Verdict} → Chain-invariant M n x → verdict-of (x .state .mode) ≡ some v →
+    x .work ≡ replicate (how-many M) 0
+work-zero {M} {x = x} h e =
+    ext-getD 0 (x .work) (replicate (how-many M) 0) (h .shared .work-long ∙ sym (length-replicate (how-many M) 0))
+    (λ k l. h .shared .zero-above k (omega (arith, nothing-left (h .phase) e)) ∙ sym (zeros (how-many M) k))
 
 -- A SEQUENCE OF STEPS
 pub record Finished (M : Machine) (at : ℕ → Program-state Registers) : Type 0 where

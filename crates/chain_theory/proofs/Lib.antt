@@ -11,6 +11,9 @@ pub mod Closes
 pub mod LookKeeps
 pub mod UnwindKeeps
 pub mod Finish
+pub mod StepNumber
 pub mod Readies
 pub mod ChainJudges
+pub mod Stays
+pub mod NumberKept
 pub mod Interface

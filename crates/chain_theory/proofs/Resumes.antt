@@ -1,6 +1,6 @@
 -- A terminator is known for an entry that was pushed: its pusher resumes, or the run is over. Assumes nothing.
 use mathlib.Core.Path.{_≡_, refl, sym, subst}
-use mathlib.Core.Bool.{Bool, true, false, cond}
+use mathlib.Core.Bool.{Bool, true, false}
 use mathlib.Core.List.{List, [], _∷_}
 use Prim.Native.Nat.{ℕ, suc, _+_, _*_, _-_, _%_, _<_, _≤_}
 use native.Mathlib.Omega.{arith}
@@ -22,24 +22,22 @@ use Rattle.chain.specs.declared.Registers.{Registers}
 use Rattle.chain.specs.Step.{with-cells, registers-of, resumed}
 use Rattle.chain_theory.proofs.Path.{Open, open-as, Among, here, later, by-push, by-return, Path, begin, on}
 use Rattle.chain_theory.proofs.Endings.{over-at, over-complete}
-use Rattle.chain_theory.proofs.Cells.{Seen, top-of, Linked, a-link, Running, settle, zero-else}
+use Rattle.chain_theory.proofs.Cells.{Seen, Stacked, one-open, Running, settle, low-else}
 use Rattle.chain_theory.proofs.Invariant.{Fitted, Shared, bit, pushes, looking, done, Chain-invariant}
 
--- the symbol of a configuration from one more than its number
-symbol-kept : {M : Machine} {E : Environment} (c : Config) → Fitted M E → Valid-config M c → (number M c + 1 - 1) % E .sizes .symbols ≡ c .symbol
+-- the symbol of a configuration from its number
+symbol-kept : {M : Machine} {E : Environment} (c : Config) → Fitted M E → Valid-config M c → number M c % E .sizes .symbols ≡ c .symbol
 unfolding number-by number
-symbol-kept {M} {E} c f t =
-    let back : number M c + 1 - 1 ≡ number M c = omega arith in
-    rw (back, f .symbols-are) (low-digit (c .state) (c .head) (M .places) (t .symbol-below))
+symbol-kept {M} {E} c f t = rw (f .symbols-are) (low-digit (c .state) (c .head) (M .places) (t .symbol-below))
 
 returned-below : {n : ℕ} (r : Bool) (i j : ℕ) → i < n → j < n → returned r i j < n
 returned-below true i j a b = a
 returned-below false i j a b = b
 
 -- cells whose open configurations are os, whatever the registers say otherwise
-abbrev pub Shared-as : Machine → List Open → (readings : ℕ) → (ns ws : List ℕ) → Type 0
-Shared-as M os reads ns ws =
-    (m : Mode) (c : Config) (b : Bool) → Valid-config M c → Shared M os (with-cells (registers-of m c b (top-of M os) reads) ns ws)
+abbrev pub Shared-as : Machine → Environment → List Open → (readings : ℕ) → (ns ws : List ℕ) → Type 0
+Shared-as M E os reads ns ws =
+    (m : Mode) (c : Config) (b : Bool) → Valid-config M c → Shared M os (with-cells (registers-of E m c b (length os) reads) ns ws)
 
 over-says :
     {M : Machine} {P : Config → Type 0} {d : Config} {p : ℕ} {b : Bool} → Ends M P (config 0 0 0) d → M .action d ≡ Pop p b → (t : Bool) →
@@ -55,10 +53,9 @@ not-among-none a = go a refl
 
 module _ {M : Machine} {E : Environment} (r : Registers) {ns ws : List ℕ} (n : ℕ) (fitted : Fitted M E) where
   over-holds :
-      {d : Config} {p : ℕ} {b : Bool} → Shared-as M [] (r .readings) ns ws → Running M [] ns ws → Ends M (Seen M ns) (config 0 0 0) d → Valid-config M d → M .action d ≡ Pop p b →
+      {d : Config} {p : ℕ} {b : Bool} → Shared-as M E [] (r .readings) ns ws → Running M [] ns → Ends M (Seen M ns) (config 0 0 0) d → Valid-config M d → M .action d ≡ Pop p b →
       suc n ≤ 4 * r .readings + 1 → (t : Bool) → M .accepting p (returned b 0 (d .head)) ≡ t →
-      Chain-invariant M (suc n) (with-cells (registers-of (Done (halt-verdict (Over t))) d false 0 (r .readings)) ns ws)
-  unfolding top-of
+      Chain-invariant M (suc n) (with-cells (registers-of E (Done (halt-verdict (Over t))) d false 0 (r .readings)) ns ws)
   over-holds {d} {p} {b} shared running x there a few t e =
       record {
         opens = [];
@@ -67,26 +64,23 @@ module _ {M : Machine} {E : Environment} (r : Registers) {ns ws : List ℕ} (n :
             done
             (record {
               says = over-says x a t e;
-              noted = settle running (λ c i. over-complete x a i) (λ c i. absurd (not-among-none i));
-              zero-work = zero-else running;
+              told = settle running (λ c i. over-complete x a i) (λ c i. absurd (not-among-none i));
+              low-else = low-else running;
             })
             few;
       }
 
   returns-holds :
-      {os : List Open} {c e d : Config} {f : Bool} {p : ℕ} {b : Bool} → Inside M → Shared-as M (open-as c f ∷ os) (r .readings) ns ws → Running M (open-as c f ∷ os) ns ws →
-      Path M (Seen M ns) os c f → M .action c ≡ Push e → Ends M (Seen M ns) e d → Valid-config M c → Valid-config M e → Valid-config M d → M .action d ≡ Pop p b →
-      suc n + suc (length os) + (bit f + pushes os) ≤ 4 * r .readings + 1 →
+      {os : List Open} {c e d : Config} {f : Bool} {p : ℕ} {b : Bool} → Inside M → Shared-as M E (open-as c f ∷ os) (r .readings) ns ws →
+      Running M (open-as c f ∷ os) ns → Path M (Seen M ns) os c f → M .action c ≡ Push e → Ends M (Seen M ns) e d → Valid-config M c → Valid-config M e →
+      Valid-config M d → M .action d ≡ Pop p b → suc n + suc (length os) + (bit f + pushes os) ≤ 4 * r .readings + 1 → {k : ℕ} → k ≡ c .symbol →
       Chain-invariant M (suc n)
-      (with-cells
-      (registers-of Look (config p (returned b (e .head) (d .head)) ((number M c + 1 - 1) % E .sizes .symbols)) false (number M c + 1) (r .readings))
-      ns
-      ws)
-  unfolding top-of pushes
-  returns-holds {os} {c} {e} {d} {f} {p} {b} inside shared running path pushing x there-c there-e there-d a few =
+      (with-cells (registers-of E Look (config p (returned b (e .head) (d .head)) k) false (suc (length os)) (r .readings)) ns ws)
+  unfolding pushes
+  returns-holds {os} {c} {e} {d} {f} {p} {b} inside shared running path pushing x there-c there-e there-d a few same =
       subst
-      (λ (k : ℕ). Chain-invariant M (suc n) (with-cells (registers-of Look (config p (returned b (e .head) (d .head)) k) false (number M c + 1) (r .readings)) ns ws))
-      (sym (symbol-kept c fitted there-c))
+      (λ (k : ℕ). Chain-invariant M (suc n) (with-cells (registers-of E Look (config p (returned b (e .head) (d .head)) k) false (suc (length os)) (r .readings)) ns ws))
+      (sym same)
       (record {
         opens = open-as c f ∷ os;
         shared = shared Look (resume c e d p b) false there;
@@ -103,15 +97,16 @@ module _ {M : Machine} {E : Environment} (r : Registers) {ns ws : List ℕ} (n :
 
   -- the entry that c was pushed with is removed from d
   pub resumed-holds :
-      {os : List Open} {c d : Config} {p : ℕ} {b : Bool} → Inside M → Shared-as M os (r .readings) ns ws → Linked M ws os → Running M os ns ws →
+      {os : List Open} {c d : Config} {p : ℕ} {b : Bool} → Inside M → Shared-as M E os (r .readings) ns ws → Stacked M ns ws os → Running M os ns →
       Path M (Seen M ns) os c true → Ends M (Seen M ns) c d → Valid-config M c → Valid-config M d → M .action d ≡ Pop p b →
       suc n + length os + pushes os ≤ 4 * r .readings + 1 →
-      Chain-invariant M (suc n) (with-cells (resumed E r d (Pop p b) (c .head) (top-of M os)) ns ws)
-  unfolding resumed top-of pushes
-  resumed-holds {d = d} {p = p} {b = b} inside shared links running begin x there-c there-d a few =
-      subst (λ (t : Bool). Chain-invariant M (suc n) (with-cells (registers-of (Done (halt-verdict (Over t))) d false 0 (r .readings)) ns ws))
+      Chain-invariant M (suc n) (with-cells (resumed E r d (Pop p b) (c .head) (length os) ws) ns ws)
+  unfolding resumed pushes
+  resumed-holds {d = d} {p = p} {b = b} inside shared stacked running begin x there-c there-d a few =
+      subst (λ (t : Bool). Chain-invariant M (suc n) (with-cells (registers-of E (Done (halt-verdict (Over t))) d false 0 (r .readings)) ns ws))
       (sym (fitted .accepts-as p (returned b 0 (d .head))))
       (over-holds shared running x there-d a (omega arith) (M .accepting p (returned b 0 (d .head))) refl)
-  resumed-holds {d = d} {p = p} {b = b} inside shared (a-link there l links) running (on {c = e} path (by-push pushing)) x there-c there-d a few =
-      rw (ne-eqb (number M e + 1) 0 (λ z. omega arith))
-      (returns-holds inside shared running path pushing x there there-c there-d a (omega arith))
+  resumed-holds {d = d} {p = p} {b = b} inside shared (one-open there w v stacked) running (on {os = os} {c = e} path (by-push pushing)) x there-c there-d a few =
+      let below : suc (length os) - 1 ≡ length os = omega arith in
+      rw (ne-eqb (suc (length os)) 0 (λ z. omega arith))
+      (returns-holds inside shared running path pushing x there there-c there-d a (omega arith) (rw (below, w) (symbol-kept e fitted there)))

@@ -1,8 +1,8 @@
 -- The machine of an image and a capture that are not refused stays inside: what a rule leads to is a configuration of the machine again. Assumes nothing.
-use mathlib.Core.Path.{_≡_, refl}
+use mathlib.Core.Path.{_≡_, refl, sym, subst}
 use mathlib.Core.Bool.{Bool, true, false, cond}
 use mathlib.Core.List.{List}
-use Prim.Native.Nat.{ℕ, _+_, _-_, _<_}
+use Prim.Native.Nat.{ℕ, _+_, _-_, _<_, _≤_}
 use native.Mathlib.Omega.{arith}
 use lib.Dec.{eqb}
 use lib.ListN.{length}
@@ -12,7 +12,7 @@ use Rattle.machine.specs.declared.Action.{Action}
 use Rattle.machine.specs.declared.Reason.the-variants.{Missing}
 use Rattle.machine.specs.declared.Action.the-variants.{Stop, Change, Push, Pop}
 use Rattle.machine.specs.Run.{Machine, Valid-config}
-use Rattle.image.specs.Image.{states, class-under, moved, led-to, action-by, action, machine}
+use Rattle.image.specs.Image.{Rule, states, class-under, moved, led-to, action-by, action, machine}
 use Rattle.image.specs.Refusals.{move-off, Unrefused}
 use Rattle.image.proofs.Rules.{good, class-right, on-right, rule-of, head-there, rule-there}
 use Rattle.machine.proofs.Reach.{Inside}
@@ -94,3 +94,41 @@ module _ (bs cs : List ℕ) (u : Unrefused bs cs) where
               symbol-below = good u .symbols-least;
             };
       }
+
+-- ONE PLACE AT MOST: what a change or a push leads to has its head there, or a place to the right or to the left
+Near : (head : ℕ) → Action → Type 0
+Near i (Stop r) = Unit {0}
+Near i (Change e) = (e .head ≤ i + 1) × (i ≤ e .head + 1)
+Near i (Push e) = (e .head ≤ i + 1) × (i ≤ e .head + 1)
+Near i (Pop p r) = Unit {0}
+
+moved-near : (m i : ℕ) → (moved m i ≤ i + 1) × (i ≤ moved m i + 1)
+unfolding moved
+moved-near m i = go (eqb m 1) (eqb m 2)
+  where
+    go : (a b : Bool) → (cond a (i + 1) (cond b (i - 1) i) ≤ i + 1) × (i ≤ cond a (i + 1) (cond b (i - 1) i) + 1)
+    go true b = (omega arith, omega arith)
+    go false true = (omega arith, omega arith)
+    go false false = (omega arith, omega arith)
+
+near-by : (r : Rule) (i : ℕ) → Near i (action-by r i)
+unfolding action-by Near
+near-by r i = go (eqb (r .kind) 1) (eqb (r .kind) 2) (eqb (r .kind) 3)
+  where
+    go : (a b d : Bool) → Near i (cond a (Change (led-to r i)) (cond b (Push (led-to r i)) (cond d (Pop (r .state) (eqb (r .direction) 1)) (Stop Missing))))
+    go true b d = moved-near (r .direction) i
+    go false true d = moved-near (r .direction) i
+    go false false true = tt
+    go false false false = tt
+
+near-action : (bs cs : List ℕ) (c : Config) {a : Action} → a ≡ action bs cs c → Near (c .head) a
+unfolding action
+near-action bs cs c e = subst (Near (c .head)) (sym e) (near-by _ (c .head))
+
+pub change-near : (bs cs : List ℕ) (c e : Config) → Change e ≡ action bs cs c → (e .head ≤ c .head + 1) × (c .head ≤ e .head + 1)
+unfolding Near
+change-near bs cs c e f = near-action bs cs c f
+
+pub push-near : (bs cs : List ℕ) (c e : Config) → Push e ≡ action bs cs c → (e .head ≤ c .head + 1) × (c .head ≤ e .head + 1)
+unfolding Near
+push-near bs cs c e f = near-action bs cs c f

@@ -27,7 +27,7 @@ symbols bs = byte bs Format.symbols-offset
 
 -- the counts that a lookup keeps
 unfoldable pub sizes-of : (image capture : List ℕ) → Sizes
-sizes-of bs cs = record { classes = classes bs; symbols = symbols bs; places = length cs + 2 }
+sizes-of bs cs = record { classes = classes bs; symbols = symbols bs; places = length cs + 2; rules = (classes bs + 2) * symbols bs }
 
 -- A RULE: kind, state, symbol, move
 pub record Rule : Type 0 where

@@ -3,11 +3,12 @@ pub mod counting;
 pub mod format;
 pub mod lookup;
 
-// The counts that every lookup needs: classes K, symbols G, and tape places n + 2.
+// The counts that every lookup needs: classes K, symbols G, tape places n + 2, and how many rules one state has, (K + 2) G.
 pub struct Sizes {
     pub classes: u32,
     pub symbols: u32,
     pub places: u32,
+    pub rules: u32,
 }
 
 // What selects a rule: state, class under the head, top symbol.

@@ -15,11 +15,11 @@ ghost use Prim.Native.Nat.{_+_, _*_, _<_, _≤_};
 ghost use lib.ListN.{length};
 ghost use Rattle.image.specs.Format;
 ghost use Rattle.machine.specs.Halting.{accepts-by};
-ghost use Rattle.machine.specs.Run.{returned as returned-to, number-by, config-by};
+ghost use Rattle.machine.specs.Run.{returned as returned-to};
 ghost use Rattle.codec.specs.Numbers.{u32-at};
 ghost use Rattle.image.specs.Image.{sizes-of, class-under, rule-from, moved, led-to, action-by, action};
 ghost use Rattle.image.specs.Refusals.{Unrefused};
-ghost use Rattle.image.specs.code.Lookup.{Counted, Lookup-ready, Digits-fit, offset-by, Head-moves, Rule-ready};
+ghost use Rattle.image.specs.code.Lookup.{Counted, Lookup-ready, Rule-fits, offset-by, Head-moves, Rule-ready};
 
 // A byte as a number of 32 bits.
 fn wide(b: u8) -> u32
@@ -35,10 +35,14 @@ pub fn sizes_of(image: &[u8], capture: &[u8]) -> Sizes
 {
     let n = capture.len() as u32;
     let places = n + 2;
+    let classes = wide(image[CLASSES_OFFSET]);
+    let symbols = wide(image[SYMBOLS_OFFSET]);
+    let rules = (classes + 2) * symbols;
     Sizes {
-        classes: wide(image[CLASSES_OFFSET]),
-        symbols: wide(image[SYMBOLS_OFFSET]),
+        classes,
+        symbols,
         places,
+        rules,
     }
 }
 
@@ -68,21 +72,14 @@ fn class_under(image: &[u8], capture: &[u8], sizes: Sizes, head: u32) -> u32
     }
 }
 
-// A number by its digits: of a rule, by state, class and symbol, or of a configuration.
-fn of_digits(p: u32, i: u32, a: u32, m: u32, g: u32) -> u32
-    requires { ⌜ Digits-fit p i a m g ⌝ }
-    ensures { λ r. ⌜ r ≡ (p * m + i) * g + a ⌝ }
-{
-    (p * m + i) * g + a
-}
-
-// Where the rule for a state, a class and a symbol stands.
+// Where the rule for a state, a class and a symbol stands. The rules of one state were counted once, so that the next rule waits for one product after the state.
 fn rule_offset(sizes: Sizes, state: u32, class: u32, symbol: u32) -> usize
-    requires { ⌜ Digits-fit state class symbol (sizes .classes + 2) (sizes .symbols) ⌝ }
+    requires { ⌜ Rule-fits sizes state class symbol ⌝ }
     ensures { λ r. ⌜ r ≡ offset-by sizes state class symbol ⌝ }
 {
-    let lines = sizes.classes + 2;
-    let index = of_digits(state, class, symbol, lines, sizes.symbols);
+    let earlier = state * sizes.rules;
+    let column = class * sizes.symbols;
+    let index = earlier + column + symbol;
     RULES_OFFSET + RULE_LENGTH * (index as usize)
 }
 
@@ -151,30 +148,6 @@ pub fn accepts(finals: u32, places: u32, state: u32, head: u32) -> bool
     let bit = (finals >> state) % 2;
     let next = head + 1;
     bit == 1 && next == places
-}
-
-// A configuration's number.
-pub fn number(sizes: Sizes, c: Config) -> u32
-    requires { ⌜ Digits-fit (c .state) (c .head) (c .symbol) (sizes .places) (sizes .symbols) ⌝ }
-    ensures { λ r. ⌜ r ≡ number-by (sizes .places) (sizes .symbols) c ⌝ }
-{
-    of_digits(c.state, c.head, c.symbol, sizes.places, sizes.symbols)
-}
-
-// The configuration of a number.
-pub fn config_from(sizes: Sizes, k: u32) -> Config
-    requires { ⌜ (0 < sizes .places) × (0 < sizes .symbols) ⌝ }
-    ensures { λ r. ⌜ r ≡ config-by (sizes .places) (sizes .symbols) k ⌝ }
-{
-    let upper = k / sizes.symbols;
-    let state = upper / sizes.places;
-    let head = upper % sizes.places;
-    let symbol = k % sizes.symbols;
-    Config {
-        state,
-        head,
-        symbol,
-    }
 }
 
 // The head after a pop: back at the removed entry's pointer, or where it is.

@@ -1,7 +1,7 @@
 -- A number by three digits, (p m + i) g + a: its bound, its digits, and the number of its digits. Rule indices and configuration numbers are such numbers. Assumes nothing.
 use mathlib.Core.Path.{_≡_, ap, _∙_}
 use Prim.Native.Nat.{ℕ, zero, suc, _+_, _*_, _/_, _%_, _<_, _≤_}
-use native.Mathlib.Nat.{mod-lt, div-add-mod', div-lt-iff-lt-mul, mul-zero, zero-mul, zero-lt-suc, add-le-add, mul-le-mul}
+use native.Mathlib.Nat.{mod-lt, div-add-mod', div-lt-iff-lt-mul, mul-zero, zero-mul, zero-lt-suc, add-le-add, mul-le-mul, add-mul, mul-assoc}
 use native.Mathlib.Omega.{arith}
 use lib.Arith.{digits-lt, digits-div, digits-mod}
 
@@ -19,6 +19,10 @@ middle-digit p {i} {a} {m} {g} hi ha = ap (λ (x : ℕ). x % m) (upper-digits p 
 
 pub high-digit : (p : ℕ) {i a m g : ℕ} → i < m → a < g → ((p * m + i) * g + a) / g / m ≡ p
 high-digit p {i} {a} {m} {g} hi ha = ap (λ (x : ℕ). x / m) (upper-digits p i m ha) ∙ digits-div p hi
+
+-- the three digits, each with what it counts for
+pub digits-apart : (p i a m g : ℕ) → (p * m + i) * g + a ≡ p * (m * g) + i * g + a
+digits-apart p i a m g = ap (λ (x : ℕ). x + a) (add-mul (p * m) i g ∙ ap (λ (x : ℕ). x + i * g) (mul-assoc p m g))
 
 -- back: of a number k below q m g
 pub high-below : {q m g : ℕ} (k : ℕ) → 0 < m → 0 < g → k < q * m * g → k / g / m < q

@@ -10,6 +10,7 @@ use Rattle.machine.proofs.Terminators.{one-end, terminators-of-run}
 use Rattle.machine.proofs.NotesOfRun.{same-each-time, notes-of-run}
 use Rattle.image.proofs.NotesImplied.{noted-implies}
 use Rattle.chain_theory.proofs.ChainJudges.{chain-judges}
+use Rattle.chain_theory.proofs.NumberKept.{number-kept}
 use Rattle.simulator.proofs.ConditionsMet.{judging-answer}
 use Rattle.simulator.proofs.Answered.{later-kept}
 use Rattle.simulator.proofs.Determined.{judge-determined, judge-independent}
@@ -110,6 +111,7 @@ promises =
       same-each-time = same-each-time;
       chain-judges = chain-judges;
       start-made = start-is;
+      number-along = number-kept;
       judge-by-chain = by-the-chain;
       few-steps = λ bs cs a a-now b b-now v n d bytes says. let c = by-the-chain bs cs a a-now b b-now v n d bytes says in (c .steps, c .few, c .verdict-is, c .not-before);
       work-cleared = work-cleared;

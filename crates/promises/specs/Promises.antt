@@ -70,6 +70,7 @@ pub record Promises : Type 0 where
   pub same-each-time : Third.Same-each-time
   pub chain-judges : Third.Chain-judges
   pub start-made : Third.Start-made
+  pub number-along : Third.Number-along
   pub judge-by-chain : Third.Judge-by-chain
   pub few-steps : Third.Few-steps
   pub work-cleared : Third.Work-cleared

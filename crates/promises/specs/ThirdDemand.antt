@@ -17,6 +17,7 @@ use Rattle.machine.specs.Implications.{Noted-by-implication}
 use Rattle.image.specs.Refusals.{Unrefused}
 use Rattle.chain.specs.declared.JudgeState.{JudgeState}
 use Rattle.chain.specs.Chain.{Chain-correct, start-in, environment-of, start-state, chain, reached}
+use Rattle.chain.specs.NumberKept.{Number-kept}
 use Rattle.simulator.specs.declared.Judged.the-variants.{Answer}
 use Rattle.simulator.specs.Calls.{judgement, Chain-ends, Judge-says}
 use Rattle.grammar.specs.Grammar.{rules, grammar-refusal}
@@ -105,6 +106,10 @@ Start-made =
     (bs cs : List ℕ) →
     start-in (environment-of bs cs)
     ≡ start-state (take Format.counts-length (drop Format.counts-offset bs)) (length cs)
+
+-- in every record of the chain, at each step up to the verdict and past it, the number kept is that of the state, head and symbol kept beside it, which is one of the machine's configurations,
+abbrev pub Number-along : Type 0
+Number-along = Number-kept chain (λ s. s .registers .number) (λ s. s .registers .at)
 
 -- and the call's answer and notes are those that the chain ends with, within 4 r + 1 steps
 abbrev pub Judge-by-chain : Type 0

@@ -1,5 +1,5 @@
 -- The loop of the call `judge`: what holds after each step, and the answer at the end. Over the interface to the chain's theory; assumes nothing else.
-use mathlib.Core.Path.{_≡_, refl, sym, ap, _∙_, subst}
+use mathlib.Core.Path.{_≡_, sym, ap, _∙_, subst}
 use mathlib.Core.List.{List}
 use mathlib.Core.Option.{none, some}
 use Prim.Native.Nat.{ℕ, _+_, _*_, _<_, _≤_}
@@ -10,7 +10,6 @@ use lib.ListN.{length, take, drop, replicate, length-replicate}
 use Rattle.machine.specs.declared.Verdict.{Verdict}
 use Rattle.image.specs.Format
 use Rattle.machine.specs.Run.{how-many}
-use Rattle.codec.specs.Numbers.{u32-at}
 use Rattle.image.specs.Image.{machine}
 use Rattle.machine.specs.Verdicts.{Says, Noted, nonzero}
 use Rattle.image.specs.Refusals.{Unrefused}
@@ -25,7 +24,7 @@ use Rattle.chain.specs.code.Ready.{Ready, Step-says}
 use Rattle.chain.specs.Chain.{Chain-correct, environment-of, start-in, start-state, started, chain, reached, stepped, verdict-of}
 use Rattle.simulator.specs.Calls.{Judgement-right, judgement}
 use Rattle.simulator.specs.code.Checked.{Cleared}
-use Rattle.chain.specs.code.StepParts.{u32-end}
+use Rattle.chain.specs.code.NumberParts.{u32-end}
 use Rattle.chain.proofs.StepSafe.{few-cells}
 use Rattle.chain_theory.proofs.ChainJudges.{start-environment}
 use Rattle.chain_theory.proofs.Interface.{chain-judges, chain-ready}

@@ -1,4 +1,5 @@
 -- What is proved of the calls: refusals, cells, and that the loop follows the chain to its end.
+pub mod Starting
 pub mod Needing
 pub mod JudgeMode
 pub mod JudgeLoop

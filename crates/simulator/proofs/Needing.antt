@@ -2,10 +2,10 @@
 use mathlib.Core.Path.{_≡_, refl, sym, ap, _∙_}
 use mathlib.Core.Bool.{Bool, true, false, cond}
 use mathlib.Core.List.{List}
-use Prim.Native.Nat.{ℕ, zero, suc, _+_, _*_, _≤_}
+use Prim.Native.Nat.{ℕ, _+_, _*_, _≤_}
 use native.Mathlib.Omega.{arith}
 use lib.Dec.{eqb}
-use lib.ListN.{length, getD, replicate, length-replicate}
+use lib.ListN.{length, replicate, length-replicate}
 use borrow.Author.Tests.{eq-eqb, ne-eqb, eqb-true, eqb-false}
 use Rattle.refusal.specs.declared.Refusal.{Refusal}
 use Rattle.image.specs.Format
@@ -16,15 +16,11 @@ use Rattle.simulator.specs.declared.Needs.{Needs}
 use Rattle.simulator.specs.declared.Needs.the-variants.{Cells, Refused}
 use Rattle.simulator.specs.Calls.{cells-needed, needs}
 use Rattle.chain.proofs.StepSafe.{few-cells, few-places}
+use Rattle.chain_theory.proofs.Finish.{zeros}
 
 pub cells-are : (bs cs : List ℕ) → cells-needed bs (length cs) ≡ how-many (machine bs cs)
 unfolding cells-needed how-many machine
 cells-are bs cs = refl
-
-zeros : (n i : ℕ) → _≡_ {A = ℕ} (getD (replicate n 0) i 0) 0
-zeros zero i = refl
-zeros (suc n) zero = refl
-zeros (suc n) (suc i) = zeros n i
 
 module _ (bs : List ℕ) (n : ℕ) (g : image-refusal bs .number ≡ 0) (s : n ≤ Format.max-capture) where
   -- a capture of that length is not refused: what holds of any capture holds of this one

@@ -6,6 +6,7 @@ use chain::Environment;
 use chain::JudgeState;
 use chain::Mode;
 use chain::Registers;
+use chain::numbers::reciprocals_of;
 use chain::step::step;
 use image::Sizes;
 use image::format::STATES_OFFSET;
@@ -24,10 +25,11 @@ ghost use Rattle.refusal.specs.First.{refusal};
 ghost use Rattle.simulator.specs.declared.Judged.the-variants.{Refused};
 ghost use Rattle.chain.specs.Chain.{start-in, environment-by};
 ghost use Rattle.simulator.specs.Calls.{cells-needed, needs, Judgement-right, Judge-says};
-ghost use Rattle.simulator.specs.code.Checked.{Checked, Cleared, Sized};
+ghost use Rattle.simulator.specs.code.Checked.{Few-enough, Checked, Cleared, Sized};
 
-// The start state, from the image's counts and finals and the capture's length.
+// The start state, from the image's counts and finals and the capture's length, with what no step is to work out again.
 pub fn start(sizes: Sizes, finals: u32) -> JudgeState
+    requires { ⌜ Few-enough sizes ⌝ }
     ensures { λ r. ⌜ r ≡ start-in (environment-by sizes finals) ⌝ }
 {
     let at = Config {
@@ -35,12 +37,20 @@ pub fn start(sizes: Sizes, finals: u32) -> JudgeState
         head: 0,
         symbol: 0,
     };
-    let environment = Environment { sizes, finals };
+    let stride = sizes.places * sizes.symbols;
+    let reciprocals = reciprocals_of(sizes.symbols, stride);
+    let environment = Environment {
+        sizes,
+        finals,
+        stride,
+        reciprocals,
+    };
     let registers = Registers {
         mode: Mode::Look,
         at,
+        number: 0,
         pushed: true,
-        top: 0,
+        depth: 0,
         readings: 0,
     };
     JudgeState {

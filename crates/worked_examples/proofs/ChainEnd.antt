@@ -3,7 +3,6 @@ use mathlib.Core.Path.{_≡_, refl, sym, ap, _∙_, subst}
 use mathlib.Core.List.{List}
 use mathlib.Core.Option.{none, some}
 use Prim.Native.Nat.{ℕ, zero, suc, _+_, _-_, _<_}
-use native.Mathlib.Nat.{add-zero, add-suc}
 use native.Mathlib.Decide.{decLt}
 use native.Mathlib.Omega.{arith}
 use Rattle.machine.specs.declared.Verdict.{Verdict}
@@ -11,14 +10,13 @@ use Rattle.machine.specs.Run.{Machine}
 use Rattle.image.specs.Image.{machine}
 use Rattle.machine.specs.Verdicts.{Says, All-entered}
 use Rattle.image.specs.Refusals.{Unrefused}
-use Rattle.chain.specs.declared.Mode.{Mode}
-use Rattle.chain.specs.declared.Mode.the-variants.{Look, Unwind, Clear, Done}
 use Rattle.chain.specs.declared.Environment.{Environment}
 use Rattle.chain.specs.declared.Registers.{Registers}
 use Rattle.chain.specs.declared.JudgeState.{JudgeState}
-use Rattle.chain.specs.Step.{Program-state, with-cells, judge-step, step-by-mode}
+use Rattle.chain.specs.Step.{Program-state, judge-step}
 use Rattle.chain.specs.Chain.{Chain-correct, chain, environment-of, verdict-of}
 use Rattle.chain_theory.proofs.ChainJudges.{registers-at, registers-go}
+use Rattle.chain_theory.proofs.Stays.{stays}
 use Rattle.chain_theory.proofs.Interface.{chain-judges}
 
 -- so many steps of the judge
@@ -33,32 +31,7 @@ registers-steps bs cs zero = refl
 registers-steps bs cs (suc n) =
     registers-go bs cs n ∙ ap (judge-step (machine bs cs) (environment-of bs cs)) (registers-steps bs cs n)
 
--- with a verdict a step changes nothing
-by-mode :
-    (M : Machine) (e : Environment) (r : Registers) (ns ws : List ℕ) (v : Verdict) (m : Mode) → verdict-of m ≡ some v →
-    step-by-mode m M e r ns ws ≡ with-cells r ns ws
-unfolding step-by-mode verdict-of
-by-mode M e r ns ws v Look q = absurd (let z : _≡_ {A = ℕ} 0 1 = cc in omega arith)
-by-mode M e r ns ws v Unwind q = absurd (let z : _≡_ {A = ℕ} 0 1 = cc in omega arith)
-by-mode M e r ns ws v (Clear w) q = absurd (let z : _≡_ {A = ℕ} 0 1 = cc in omega arith)
-by-mode M e r ns ws v (Done w) q = refl
-
-step-stays :
-    (M : Machine) (e : Environment) (x : Program-state Registers) (v : Verdict) → verdict-of (x .state .mode) ≡ some v → judge-step M e x ≡ x
-unfolding judge-step
-step-stays M e x v q = by-mode M e (x .state) (x .notes) (x .work) v (x .state .mode) q
-
 module _ (bs cs : List ℕ) where
-  stays :
-      (n : ℕ) (v : Verdict) → verdict-of (registers-at bs cs n .state .mode) ≡ some v → (k : ℕ) →
-      registers-at bs cs (n + k) ≡ registers-at bs cs n
-  stays n v e zero = ap (registers-at bs cs) (add-zero n)
-  stays n v e (suc k) =
-      ap (registers-at bs cs) (add-suc n k)
-      ∙ registers-go bs cs (n + k)
-      ∙ ap (judge-step (machine bs cs) (environment-of bs cs)) (stays n v e k)
-      ∙ step-stays (machine bs cs) (environment-of bs cs) (registers-at bs cs n) v e
-
   -- what registers and cells tell of the run
   pub record Told (x : Program-state Registers) (v : Verdict) : Type 0 where
     pub verdict-is : verdict-of (x .state .mode) ≡ some v
@@ -86,7 +59,7 @@ module _ (bs cs : List ℕ) where
       go (no h) =
           let k : n ≡ j .steps + (n - j .steps) = omega arith in
           let same : registers-at bs cs n ≡ registers-at bs cs (j .steps) =
-          ap (registers-at bs cs) k ∙ stays (j .steps) (j .verdict) (told-last j .verdict-is) (n - j .steps) in
+          ap (registers-at bs cs) k ∙ stays bs cs (j .steps) (j .verdict) (told-last j .verdict-is) (n - j .steps) in
           subst (λ (x : Program-state Registers). Told x (j .verdict)) (sym same) (told-last j)
 
   pub chain-tells :

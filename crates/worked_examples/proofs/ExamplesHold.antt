@@ -10,7 +10,8 @@ use Rattle.image.specs.Encoding.{header, rule-bytes, rules-bytes, encode}
 use Rattle.refusal.specs.First.{or-else, refuse-if}
 use Rattle.image.specs.Refusals.{pair-is, directory, counts, count-wrong, map-from, move-off, rule-bad, index-class, rule-count, image-refusal, rules-refusal-from}
 use Rattle.machine.specs.Verdicts.{note-of}
-use Rattle.chain.specs.Step.{judge-step, step-by-mode, look, unwind, unwound, cleared, closed, first-look, resumed, link}
+use Rattle.chain.specs.Cells.{cell-note}
+use Rattle.chain.specs.Step.{judge-step, step-by-mode, look, unwind, unwound, clear, cleared, closed, first-look, resumed}
 use Rattle.chain.specs.Chain.{reached, chain, verdict-of, started, start-state}
 use Rattle.chain_theory.proofs.ChainJudges.{registers-at}
 use Rattle.interpreter.specs.PlainRun.{run-on, run-step, spent-or}
@@ -35,7 +36,7 @@ unfolding table plain-table found said found-by ran-found ran-said chain-last en
     start step step-on step-by config-of top how-many number-by config-by note-of sizes-of
     machine number-at little-endian pair-bytes header rule-bytes rules-bytes encode states classes symbols rule-offset rule-from rule-at class-under moved action-by action accepting
     or-else refuse-if pair-is directory counts count-wrong map-from move-off rule-bad index-class rules-refusal-from rule-count image-refusal
-    judge-step step-by-mode look unwind unwound cleared closed first-look resumed link reached started chain start-state verdict-of registers-at
+    judge-step step-by-mode look unwind unwound clear cleared closed first-look resumed cell-note reached started chain start-state verdict-of registers-at
     run-on run-step spent-or exit-verdict stop-verdict halt-verdict accepts-by
     Grammar.rules Grammar.kind-of Grammar.b-of Grammar.c-of Grammar.expression-by Grammar.expression Grammar.range-of Grammar.rule-right Grammar.grammar-rules-from Grammar.grammar-refusal
     cuts-at cut-from cut class-of class-count class-in

@@ -21,13 +21,14 @@ pub record Lookup-ready (image capture : List ℕ) (s : Sizes) (c : Config) : Ty
   pub counts : s ≡ sizes-of image capture
   pub there : Valid-config (machine image capture) c
 
--- state p, place or class i below m, and symbol a below g: their number (p m + i) g + a fits 32 bits
-pub record Digits-fit (p i a m g : ℕ) : Type 0 where
-  pub state-below : p < Format.max-states
-  pub place-below : i < m
-  pub places-most : m ≤ Format.max-places
-  pub symbol-below : a < g
-  pub symbols-most : g ≤ Format.max-symbols
+-- a state, a class and a symbol below counts that are few enough for the rule's index to fit 32 bits
+pub record Rule-fits (s : Sizes) (state class symbol : ℕ) : Type 0 where
+  pub rules-are : s .rules ≡ (s .classes + 2) * s .symbols
+  pub state-below : state < Format.max-states
+  pub class-below : class < s .classes + 2
+  pub classes-most : s .classes ≤ Format.max-classes
+  pub symbol-below : symbol < s .symbols
+  pub symbols-most : s .symbols ≤ Format.max-symbols
 
 -- where the rule for a state, a class and a symbol stands, by the counts that a lookup keeps
 abbrev pub offset-by : Sizes → (state class symbol : ℕ) → ℕ

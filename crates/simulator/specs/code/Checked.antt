@@ -1,9 +1,11 @@
 -- What judging of checked input asks, and what its parts ask. Assumes nothing: these are definitions.
 use mathlib.Core.Path.{_≡_}
 use mathlib.Core.List.{List}
-use Prim.Native.Nat.{ℕ}
+use Prim.Native.Nat.{ℕ, _<_, _≤_}
 use lib.ListN.{length, replicate}
 use Rattle.machine.specs.Run.{how-many}
+use Rattle.image.specs.declared.Sizes.{Sizes}
+use Rattle.image.specs.Format
 use Rattle.image.specs.Image.{machine}
 use Rattle.image.specs.Refusals.{Unrefused, capture-refusal}
 use Rattle.simulator.specs.Calls.{cells-needed}
@@ -19,6 +21,13 @@ pub record Cleared (bs cs notes work : List ℕ) : Type 0 where
   pub unrefused : Unrefused bs cs
   pub notes-zero : notes ≡ replicate (how-many (machine bs cs)) 0
   pub work-zero : work ≡ replicate (how-many (machine bs cs)) 0
+
+-- counts that some have, and few enough for their product to fit 32 bits
+pub record Few-enough (s : Sizes) : Type 0 where
+  pub symbols-some : 0 < s .symbols
+  pub symbols-most : s .symbols ≤ Format.max-symbols
+  pub places-some : 0 < s .places
+  pub places-most : s .places ≤ Format.max-places
 
 -- so many cells are needed for image and capture, which are not refused
 pub record Sized (bs cs : List ℕ) (cells : ℕ) : Type 0 where

@@ -1,23 +1,19 @@
 -- `chain::step::cleared` meets its contract. Assumes nothing.
-use Rattle.chain.specs.Step
 use borrow.Author.Tests.{eq-eqb, ne-eqb}
 use borrow.Author.Needs.{needs}
 use Rattle.chain.proofs.step.cleared.Statement.{statement}
 use Rattle.chain.proofs.step.cleared.Tie as tie
-use Rattle.chain.proofs.step.registers_of.Reads as registers-of-reads
 
 registers-of-requires : tie.Need-registers-of-requires
 registers-of-requires c κs = search needs
 
 returns : tie.Need-returns
-unfolding Step.cleared
 returns c = simp (eq-eqb _ _ (c .before .if1 .taken)) (c .registers-of .ensures)
 
 registers-of-requires-2 : tie.Need-registers-of-requires-2
 registers-of-requires-2 c κs = search needs
 
 returns-2 : tie.Need-returns-2
-unfolding Step.cleared
 returns-2 c = simp (ne-eqb _ _ (c .before .if1 .left)) (c .registers-of2 .ensures)
 
 pub cleared-spec : {M : Type 1} → statement M

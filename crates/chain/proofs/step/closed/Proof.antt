@@ -1,13 +1,11 @@
 -- `chain::step::closed` meets its contract. Assumes nothing.
+use mathlib.Core.Path.{sym}
 use Rattle.chain.specs.Step
 use Rattle.image.specs.Image.{machine}
 use Rattle.chain.proofs.StepSafe.{closed-resumes}
 use borrow.Author.Needs.{needs}
 use Rattle.chain.proofs.step.closed.Statement.{statement}
 use Rattle.chain.proofs.step.closed.Tie as tie
-use Rattle.chain.proofs.step.registers_of.Reads as registers-of-reads
-use Rattle.chain.proofs.step.resumed.Reads as resumed-reads
-use Rattle.image.proofs.lookup.action_of.Reads as action-of-reads
 
 action-of-requires : tie.Need-action-of-requires
 action-of-requires c κs = search needs
@@ -15,7 +13,7 @@ action-of-requires c κs = search needs
 resumed-requires : tie.Need-resumed-requires
 resumed-requires c κs =
     let back4 = c .before .before .before .before in
-    closed-resumes (back4 .before .pre) (c .action-of .ensures)
+    closed-resumes (back4 .before .before .before .pre) (c .action-of .ensures)
 
 returns : tie.Need-returns
 unfolding Step.closed machine
@@ -26,7 +24,9 @@ registers-of-requires c κs = search needs
 
 returns-2 : tie.Need-returns-2
 unfolding Step.closed machine
-returns-2 c = simp (c .before .if1 .left) (c .registers-of .ensures)
+returns-2 c =
+    let back4 = c .before .before .before .before in
+    simp (c .before .if1 .left, sym (back4 .before .before .before .pre .terminator .is)) (c .registers-of .ensures)
 
 pub closed-spec : {M : Type 1} → statement M
 closed-spec =

@@ -1,13 +1,10 @@
--- `chain::step::first_look` meets its contract. Assumes nothing.
-use Rattle.chain.specs.Step
-use Rattle.chain.proofs.StepSafe.{pops-ready}
-use Rattle.chain.proofs.OwnTerminator.{first-pops}
+-- `chain::step::first_look` meets its contract, by what the rule does. Assumes nothing.
 use mathlib.Core.Path.{sym}
+use Rattle.chain.specs.Step
+use Rattle.chain.proofs.OwnTerminator.{first-pops}
 use borrow.Author.Needs.{needs}
 use Rattle.chain.proofs.step.first_look.Statement.{statement}
 use Rattle.chain.proofs.step.first_look.Tie as tie
-use Rattle.chain.proofs.step.opened.Reads as opened-reads
-use Rattle.chain.proofs.step.popping.Reads as popping-reads
 
 enum-known-action : tie.Need-enum-known-action
 enum-known-action c = search needs
@@ -21,11 +18,21 @@ opened-requires c κs = search needs
 enum-known-action-2 : tie.Need-enum-known-action-2
 enum-known-action-2 c = search needs
 
+moved-number-requires : tie.Need-moved-number-requires
+moved-number-requires c κs =
+    let back4 = c .before .before .before .before in
+    record { from = back4 .before .before .pre .own; leads = back4 .before .before .pre .changes _ (c .before .action2 .given .1) }
+
 opened-requires-2 : tie.Need-opened-requires-2
 opened-requires-2 c κs = search needs
 
 enum-known-action-3 : tie.Need-enum-known-action-3
 enum-known-action-3 c = search needs
+
+moved-number-requires-2 : tie.Need-moved-number-requires-2
+moved-number-requires-2 c κs =
+    let back4 = c .before .before .before .before in
+    record { from = back4 .before .before .pre .own; leads = back4 .before .before .pre .pushes _ (c .before .action3 .given .1) }
 
 opened-requires-3 : tie.Need-opened-requires-3
 opened-requires-3 c κs = search needs
@@ -36,7 +43,7 @@ enum-known-action-4 c = search needs
 popping-requires : tie.Need-popping-requires
 popping-requires c κs =
     let back4 = c .before .before .before .before in
-    pops-ready (back4 .before .before .before .pre) (c .before .before .action4 .given .1)
+    back4 .before .before .before .before .pre .pops _ _ (c .before .before .before .action4 .given .1)
 
 same-length : tie.Need-same-length
 same-length c = search needs
@@ -47,9 +54,11 @@ same-length-2 c = search needs
 returns : tie.Need-returns
 unfolding Step.first-look
 returns c =
-    let opened = c .before .before .before .before in
-    let verdict = opened .before .before .before in
-    record { is = rw (verdict .before .before .action .given .1, sym (verdict .stop-verdict .ensures)) (opened .opened .ensures .is) }
+    let opening = c .before .before .before .before in
+    let opening4 = opening .before .before .before .before in
+    let opening8 = opening4 .before .before .before .before in
+    let start = opening8 .before .before in
+    record { is = rw (opening4 .before .action .given .1, sym (opening .before .before .before .stop-verdict .ensures)) (opening .opened .ensures .is (start .args .e) (start .pre .own .is)) }
 
 same-length-3 : tie.Need-same-length-3
 same-length-3 c = search needs
@@ -60,9 +69,11 @@ same-length-4 c = search needs
 returns-2 : tie.Need-returns-2
 unfolding Step.first-look
 returns-2 c =
-    let back4 = c .before .before .before .before in
-    let back8 = back4 .before .before .before .before in
-    record { is = rw (back8 .action2 .given .1) (c .before .before .before .before .opened2 .ensures .is) }
+    let opening = c .before .before .before .before in
+    let opening4 = opening .before .before .before .before in
+    let opening8 = opening4 .before .before .before .before in
+    let start = opening8 .before .before in
+    record { is = rw (opening4 .before .action2 .given .1) (opening .opened2 .ensures .is (start .args .e) (opening .before .before .before .moved-number .ensures)) }
 
 same-length-5 : tie.Need-same-length-5
 same-length-5 c = search needs
@@ -73,17 +84,22 @@ same-length-6 c = search needs
 returns-3 : tie.Need-returns-3
 unfolding Step.first-look
 returns-3 c =
-    let back4 = c .before .before .before .before in
-    let back8 = back4 .before .before .before .before in
-    record { is = rw (back8 .action3 .given .1) (c .before .before .before .before .opened3 .ensures .is) }
+    let opening = c .before .before .before .before in
+    let opening4 = opening .before .before .before .before in
+    let opening8 = opening4 .before .before .before .before in
+    let start = opening8 .before .before in
+    record { is = rw (opening4 .before .action3 .given .1) (opening .opened3 .ensures .is (start .args .e) (opening .before .before .before .moved-number2 .ensures)) }
 
 same-length-7 : tie.Need-same-length-7
 same-length-7 c = search needs
 
+same-length-8 : tie.Need-same-length-8
+same-length-8 c = search needs
+
 returns-4 : tie.Need-returns-4
 returns-4 c =
     let back4 = c .before .before .before .before in
-    first-pops (c .before .before .popping .ensures) (back4 .before .action4 .given .1)
+    first-pops (c .before .before .popping .ensures) (back4 .before .before .action4 .given .1)
 
 pub first-look-spec : {M : Type 1} → statement M
 first-look-spec =
@@ -93,8 +109,10 @@ first-look-spec =
     stop-verdict-requires
     opened-requires
     enum-known-action-2
+    moved-number-requires
     opened-requires-2
     enum-known-action-3
+    moved-number-requires-2
     opened-requires-3
     enum-known-action-4
     popping-requires
@@ -108,4 +126,5 @@ first-look-spec =
     same-length-6
     returns-3
     same-length-7
+    same-length-8
     returns-4)

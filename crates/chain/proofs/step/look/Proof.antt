@@ -1,16 +1,9 @@
--- `chain::step::look` meets its contract. Assumes nothing.
-use Prim.Native.Nat.{_-_}
-use native.Mathlib.Omega.{arith}
-use Rattle.chain.proofs.StepSafe.{at-fits, note-there, first-ready, counts-some, closable}
-use Rattle.chain.proofs.LookBy.{note-unseen, note-open, note-closed, look-unseen, look-open, look-closed}
+-- `chain::step::look` meets its contract, by the tests of the cell. Assumes nothing.
+use Rattle.chain.proofs.StepSafe.{note-there, at-lookup, first-ready, apart, closable}
+use Rattle.chain.proofs.LookBy.{note-unseen, note-open, note-closed, look-unseen, look-open, look-closed, closed-least}
 use borrow.Author.Needs.{needs}
 use Rattle.chain.proofs.step.look.Statement.{statement}
 use Rattle.chain.proofs.step.look.Tie as tie
-
-number-requires : tie.Need-number-requires
-number-requires c κs =
-    let known = c .before .before in
-    at-fits (known .before .before .before .pre)
 
 cast-i : tie.Need-cast-i
 cast-i c = search needs
@@ -20,19 +13,19 @@ mul-cell c = search needs
 
 slice-read-cell : tie.Need-slice-read-cell
 slice-read-cell c =
-    let numbered = c .before in
-    let known = numbered .before .before in
-    note-there (known .before .before .before .before .pre) (numbered .number .ensures)
+    let back4 = c .before .before .before .before in
+    note-there (back4 .before .before .before .pre .ready)
 
 action-of-requires : tie.Need-action-of-requires
-action-of-requires c κs = search needs
+action-of-requires c κs =
+    let back4 = c .before .before .before .before in
+    at-lookup (back4 .before .before .before .before .pre .ready)
 
 first-look-requires : tie.Need-first-look-requires
 first-look-requires c κs =
-    let acted = c .before .before in
-    let numbered = acted .before .before .before in
-    let known = numbered .before .before in
-    first-ready (known .before .before .before .before .pre) (numbered .number .ensures) (acted .action-of .ensures)
+    let back4 = c .before .before .before .before in
+    let back8 = back4 .before .before .before .before in
+    first-ready (back8 .before .before .before .pre .ready) (c .before .before .before .if1 .taken) (c .before .before .action-of .ensures)
 
 same-length : tie.Need-same-length
 same-length c = search needs
@@ -42,46 +35,59 @@ same-length-2 c = search needs
 
 returns : tie.Need-returns
 returns c =
-    let looked = c .before .before .before .before in
-    let acted = looked .before .before .before in
-    let tested = acted .before in
-    look-unseen (tested .before .before .number .ensures) (note-unseen (tested .if1 .taken)) (acted .action-of .ensures) (looked .first-look .ensures)
+    let back4 = c .before .before .before .before in
+    let acted = back4 .before .before .before in
+    let acted4 = acted .before .before .before .before in
+    let acted8 = acted4 .before .before .before .before in
+    look-unseen (acted8 .before .pre .ready .number-is) (note-unseen (acted .before .if1 .taken)) (acted .action-of .ensures) (c .before .before .before .before .first-look .ensures)
 
 registers-of-requires : tie.Need-registers-of-requires
 registers-of-requires c κs = search needs
 
 returns-2 : tie.Need-returns-2
 returns-2 c =
-    let tested = c .before in
-    look-open (tested .before .before .before .number .ensures) (note-open (tested .if2 .taken)) (c .registers-of .ensures)
+    let back4 = c .before .before .before .before in
+    let back8 = back4 .before .before .before .before in
+    look-open (back8 .before .before .pre .ready .number-is) (note-open _ (c .before .if2 .taken)) (c .registers-of .ensures)
 
-sub-config-from : tie.Need-sub-config-from
-sub-config-from c = search needs
+sub-number : tie.Need-sub-number
+sub-number c =
+    let back4 = c .before .before .before .before in
+    let back8 = back4 .before .before .before .before in
+    closed-least _ (c .before .if1 .left) (back8 .before .pre .told _)
 
 config-from-requires : tie.Need-config-from-requires
 config-from-requires c κs =
-    let numbered = c .before .before .before in
-    let known = numbered .before .before in
-    counts-some (known .before .before .before .before .pre)
+    let back4 = c .before .before .before .before in
+    let back8 = back4 .before .before .before .before in
+    apart (back8 .before .pre .ready) _ (note-closed _ (c .before .if1 .left) (back8 .before .pre .told _) (c .if2 .left))
 
 closed-requires : tie.Need-closed-requires
 closed-requires c κs =
-    let tested = c .before .before in
-    let numbered = tested .before .before in
-    let known = numbered .before .before in
-    closable (known .before .before .before .before .pre) _ _ (note-closed _ (tested .if1 .left) (c .before .if2 .left)) (c .config-from .ensures)
+    let tested = c .before .before .before in
+    let tested4 = tested .before .before .before .before in
+    let tested8 = tested4 .before .before .before .before in
+    let start = tested8 .before in
+    closable (start .pre .ready) _ (note-closed _ (tested .before .if1 .left) (start .pre .told _) (tested .if2 .left)) (c .before .before .config-from .ensures)
+
+same-length-3 : tie.Need-same-length-3
+same-length-3 c = search needs
+
+same-length-4 : tie.Need-same-length-4
+same-length-4 c = search needs
 
 returns-3 : tie.Need-returns-3
 returns-3 c =
-    let tested = c .before .before .before in
-    look-closed (tested .before .before .number .ensures) (note-closed _ (tested .if1 .left) (c .before .before .if2 .left)) (c .before .config-from .ensures)
-    (c .closed .ensures)
+    let tested = c .before .before .before .before in
+    let tested4 = tested .before .before .before .before in
+    let tested8 = tested4 .before .before .before .before in
+    let start = tested8 .before in
+    look-closed (start .pre .ready .number-is) (note-closed _ (tested .before .if1 .left) (start .pre .told _) (tested .if2 .left)) (c .before .before .before .config-from .ensures) (c .closed .ensures)
 
 pub look-spec : {M : Type 1} → statement M
 look-spec =
     tie.close
     (tie.spec
-    number-requires
     cast-i
     mul-cell
     slice-read-cell
@@ -92,7 +98,9 @@ look-spec =
     returns
     registers-of-requires
     returns-2
-    sub-config-from
+    sub-number
     config-from-requires
     closed-requires
+    same-length-3
+    same-length-4
     returns-3)

@@ -1,17 +1,16 @@
--- `chain::step::step` meets its contract. Assumes nothing.
-use Rattle.chain.proofs.StepAdds.{unwind-ready, clear-ready, clear-says, done-says, says-by}
+-- `chain::step::step` meets its contract, by the mode. Assumes nothing.
+use Rattle.chain.proofs.StepAdds.{look-ready, unwind-ready, clear-ready, says-by, clear-says, done-says}
 use borrow.Author.Needs.{needs}
 use Rattle.chain.proofs.step.step.Statement.{statement}
 use Rattle.chain.proofs.step.step.Tie as tie
-use Rattle.chain.proofs.step.clear.Reads as clear-reads
-use Rattle.chain.proofs.step.look.Reads as look-reads
-use Rattle.chain.proofs.step.unwind.Reads as unwind-reads
 
 enum-told : tie.Need-enum-told
 enum-told c = search needs
 
 look-requires : tie.Need-look-requires
-look-requires c κs = search needs
+look-requires c κs =
+    let back4 = c .before .before .before .before in
+    look-ready (back4 .before .before .before .before .pre) (c .before .before .enum-told .given .1)
 
 enum-told-2 : tie.Need-enum-told-2
 enum-told-2 c = search needs
@@ -19,8 +18,7 @@ enum-told-2 c = search needs
 unwind-requires : tie.Need-unwind-requires
 unwind-requires c κs =
     let back4 = c .before .before .before .before in
-    let back8 = back4 .before .before .before .before in
-    unwind-ready (back8 .pre) (c .before .before .enum-told2 .given .1)
+    unwind-ready (back4 .before .before .before .before .pre) (c .before .before .enum-told2 .given .1)
 
 enum-known-mode : tie.Need-enum-known-mode
 enum-known-mode c = search needs
@@ -29,10 +27,13 @@ clear-requires : tie.Need-clear-requires
 clear-requires c κs =
     let back4 = c .before .before .before .before in
     let back8 = back4 .before .before .before .before in
-    clear-ready (back8 .pre) (c .before .before .mode .given .1)
+    clear-ready (back8 .before .pre) (c .before .before .before .mode .given .1)
 
 enum-told-3 : tie.Need-enum-told-3
 enum-told-3 c = search needs
+
+unmoved-requires : tie.Need-unmoved-requires
+unmoved-requires c κs = search needs
 
 same-length : tie.Need-same-length
 same-length c = search needs
@@ -42,10 +43,10 @@ same-length-2 c = search needs
 
 returns : tie.Need-returns
 returns c =
-    let back4 = c .before .before .before .before in
-    let back8 = back4 .before .before .before .before in
-    let back12 = back8 .before .before .before .before in
-    says-by (back12 .before .pre) (back4 .before .before .before .enum-told .given .1) (c .before .before .before .before .look .ensures)
+    let looked = c .before .before .before .before in
+    let looked4 = looked .before .before .before .before in
+    let looked8 = looked4 .before .before .before .before in
+    says-by (looked8 .before .pre) (looked .before .before .before .enum-told .given .1) (looked .look .ensures)
 
 same-length-3 : tie.Need-same-length-3
 same-length-3 c = search needs
@@ -55,24 +56,28 @@ same-length-4 c = search needs
 
 returns-2 : tie.Need-returns-2
 returns-2 c =
-    let back4 = c .before .before .before .before in
-    let back8 = back4 .before .before .before .before in
-    let back12 = back8 .before .before .before .before in
-    says-by (back12 .before .pre) (back4 .before .before .before .enum-told2 .given .1) (c .before .before .before .before .unwind .ensures)
+    let unwound = c .before .before .before .before in
+    let unwound4 = unwound .before .before .before .before in
+    let unwound8 = unwound4 .before .before .before .before in
+    says-by (unwound8 .before .pre) (unwound .before .before .before .enum-told2 .given .1) (unwound .unwind .ensures)
 
 same-length-5 : tie.Need-same-length-5
 same-length-5 c = search needs
 
+same-length-6 : tie.Need-same-length-6
+same-length-6 c = search needs
+
 returns-3 : tie.Need-returns-3
 returns-3 c =
-    let back4 = c .before .before .before .before in
-    let back8 = back4 .before .before .before .before in
-    clear-says (back8 .before .before .before .pre) (back4 .before .mode .given .1) (c .before .before .clear .ensures)
+    let cleared = c .before .before .before .before in
+    let cleared4 = cleared .before .before .before .before in
+    let cleared8 = cleared4 .before .before .before .before in
+    clear-says (cleared8 .before .before .pre) (cleared .before .before .before .before .mode .given .1) (cleared .clear .ensures)
 
 returns-4 : tie.Need-returns-4
 returns-4 c =
     let back4 = c .before .before .before .before in
-    done-says (back4 .before .before .pre) (c .enum-told3 .given .1)
+    rw (c .unmoved .ensures) (done-says (back4 .before .before .before .pre) (c .before .enum-told3 .given .1))
 
 pub step-spec : {M : Type 1} → statement M
 step-spec =
@@ -85,6 +90,7 @@ step-spec =
     enum-known-mode
     clear-requires
     enum-told-3
+    unmoved-requires
     same-length
     same-length-2
     returns
@@ -92,5 +98,6 @@ step-spec =
     same-length-4
     returns-2
     same-length-5
+    same-length-6
     returns-3
     returns-4)

@@ -1,50 +1,63 @@
--- `chain::step::unwind` meets its contract. Assumes nothing.
-use Rattle.chain.specs.Step
-use Rattle.chain.proofs.StepSafe.{at-fits, number-room}
+-- `chain::step::unwind` meets its contract, by how the newest open configuration was entered. Assumes nothing.
 use native.Mathlib.Omega.{arith}
+use Rattle.chain.proofs.StepSafe.{at-lookup, number-room}
+use Rattle.chain.proofs.OpenNotes.{number-cast, number-offset}
+use Rattle.chain.proofs.Unwinding.{newest-now, unwinds-on, unwind-resumes, unwinds-pop}
 use borrow.Author.Needs.{needs}
 use Rattle.chain.proofs.step.unwind.Statement.{statement}
 use Rattle.chain.proofs.step.unwind.Tie as tie
-use Rattle.chain.proofs.step.unwound.Reads as unwound-reads
-use Rattle.image.proofs.lookup.number.Reads as number-reads
 
-sub-k : tie.Need-sub-k
-sub-k c = search needs
+sub-depth : tie.Need-sub-depth
+sub-depth c = search needs
+
+mul-i : tie.Need-mul-i
+mul-i c = search needs
+
+slice-read-i : tie.Need-slice-read-i
+slice-read-i c =
+    let back4 = c .before .before .before .before in
+    newest-now (back4 .before .before .before .pre) .work-there
 
 cast-i : tie.Need-cast-i
-cast-i c = search needs
-
-mul-cell : tie.Need-mul-cell
-mul-cell c = search needs
-
-slice-read-cell : tie.Need-slice-read-cell
-slice-read-cell c = search needs
-
-number-requires : tie.Need-number-requires
-number-requires c κs =
+cast-i c =
     let back4 = c .before .before .before .before in
-    at-fits (back4 .before .before .before .pre .ready)
+    number-cast (newest-now (back4 .before .before .before .pre))
 
-add-note : tie.Need-add-note
-add-note c =
+mul-note : tie.Need-mul-note
+mul-note c =
     let back4 = c .before .before .before .before in
-    let back8 = back4 .before .before .before .before in
-    omega (arith, number-room (back8 .pre .ready) (c .number .ensures))
+    number-offset (newest-now (back4 .before .before .before .pre))
+
+slice-read-note : tie.Need-slice-read-note
+slice-read-note c =
+    let back4 = c .before .before .before .before in
+    newest-now (back4 .before .before .before .before .pre) .note-there
+
+add-notes : tie.Need-add-notes
+add-notes c =
+    let back4 = c .before .before .before .before in
+    omega (arith, number-room (back4 .before .before .before .before .pre .ready))
 
 mul-notes : tie.Need-mul-notes
-mul-notes c = search needs
+mul-notes c =
+    let back4 = c .before .before .before .before in
+    number-offset (newest-now (back4 .before .before .before .before .pre))
 
 slice-write-notes : tie.Need-slice-write-notes
-slice-write-notes c = search needs
+slice-write-notes c =
+    let back4 = c .before .before .before .before in
+    newest-now (back4 .before .before .before .before .pre) .note-there
 
 mul-work : tie.Need-mul-work
 mul-work c = search needs
 
 slice-write-work : tie.Need-slice-write-work
-slice-write-work c = search needs
+slice-write-work c =
+    let back4 = c .before .before .before .before in
+    newest-now (back4 .before .before .before .before .pre) .work-there
 
-unwound-requires : tie.Need-unwound-requires
-unwound-requires c κs = search needs
+registers-of-requires : tie.Need-registers-of-requires
+registers-of-requires c κs = search needs
 
 same-length : tie.Need-same-length
 same-length c = search needs
@@ -53,24 +66,62 @@ same-length-2 : tie.Need-same-length-2
 same-length-2 c = search needs
 
 returns : tie.Need-returns
-unfolding Step.step-by-mode Step.unwind
-returns c = record { is = rw (c .before .number .ensures, c .unwound .ensures) }
+returns c =
+    let back4 = c .before .before .before .before in
+    let back8 = back4 .before .before .before .before in
+    unwinds-on (back8 .before .before .pre) (c .before .if1 .taken) (c .registers-of .ensures)
+
+action-of-requires : tie.Need-action-of-requires
+action-of-requires c κs =
+    let back4 = c .before .before .before .before in
+    let back8 = back4 .before .before .before .before in
+    at-lookup (back8 .before .pre .ready)
+
+head-told-requires : tie.Need-head-told-requires
+head-told-requires c κs = search needs
+
+resumed-requires : tie.Need-resumed-requires
+resumed-requires c κs =
+    let told = c .before .before in
+    let told4 = told .before .before .before .before in
+    let told8 = told4 .before .before .before .before in
+    unwind-resumes (told8 .before .before .before .pre) (told .before .action-of .ensures) (told .head-told .ensures)
+
+same-length-3 : tie.Need-same-length-3
+same-length-3 c = search needs
+
+same-length-4 : tie.Need-same-length-4
+same-length-4 c = search needs
+
+returns-2 : tie.Need-returns-2
+returns-2 c =
+    let told = c .before .before .before in
+    let told4 = told .before .before .before .before in
+    let told8 = told4 .before .before .before .before in
+    unwinds-pop (told8 .before .before .before .pre) (told .before .action-of .ensures) (told .head-told .ensures) (told .before .before .if1 .left) (c .resumed .ensures)
 
 pub unwind-spec : {M : Type 1} → statement M
 unwind-spec =
     tie.close
     (tie.spec
-    sub-k
+    sub-depth
+    mul-i
+    slice-read-i
     cast-i
-    mul-cell
-    slice-read-cell
-    number-requires
-    add-note
+    mul-note
+    slice-read-note
+    add-notes
     mul-notes
     slice-write-notes
     mul-work
     slice-write-work
-    unwound-requires
+    registers-of-requires
     same-length
     same-length-2
-    returns)
+    returns
+    action-of-requires
+    head-told-requires
+    resumed-requires
+    same-length-3
+    same-length-4
+    returns-2)

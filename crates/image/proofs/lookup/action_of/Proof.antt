@@ -1,6 +1,6 @@
 -- `image::lookup::action_of` meets its contract: each need is a law of proofs/Lookups.antt. Assumes nothing.
 use borrow.Author.Needs.{needs}
-use Rattle.image.proofs.Lookups.{digits-fit, rule-ready, action-is}
+use Rattle.image.proofs.Lookups.{rule-fits, rule-ready, action-is}
 use Rattle.image.proofs.lookup.action_of.Statement.{statement}
 use Rattle.image.proofs.lookup.action_of.Tie as tie
 
@@ -8,7 +8,7 @@ class-under-requires : tie.Need-class-under-requires
 class-under-requires c κs = search needs
 
 rule-offset-requires : tie.Need-rule-offset-requires
-rule-offset-requires c κs = digits-fit (c .before .before .before .pre) (c .class-under .ensures)
+rule-offset-requires c κs = rule-fits (c .before .before .before .pre) (c .class-under .ensures)
 
 action-at-requires : tie.Need-action-at-requires
 action-at-requires c κs =

@@ -3,6 +3,7 @@ use native.Mathlib.Omega.{arith}
 use borrow.Author.Needs.{needs}
 use Rattle.image.specs.Image.{sizes-of, classes, symbols}
 use Rattle.image.proofs.Rules.{good}
+use Rattle.image.proofs.Lookups.{rules-few}
 use Rattle.image.proofs.lookup.sizes_of.Statement.{statement}
 use Rattle.image.proofs.lookup.sizes_of.Tie as tie
 
@@ -26,6 +27,20 @@ shared-slice-read-wide-2 c =
 wide-requires-2 : tie.Need-wide-requires-2
 wide-requires-2 c κs = search needs
 
+add-rules : tie.Need-add-rules
+unfolding classes
+add-rules c =
+    let first = c .before .before in
+    let start = first .before .before .before .before in
+    omega (arith, first .wide .ensures, good (start .pre) .classes-most)
+
+mul-rules : tie.Need-mul-rules
+unfolding classes symbols
+mul-rules c =
+    let first = c .before .before in
+    let start = first .before .before .before .before in
+    omega (arith, rules-few (start .pre) (first .wide .ensures) (c .wide2 .ensures))
+
 returns : tie.Need-returns
 unfolding sizes-of classes symbols
 returns c = simp (c .before .before .wide .ensures, c .wide2 .ensures)
@@ -40,4 +55,6 @@ sizes-of-spec =
     wide-requires
     shared-slice-read-wide-2
     wide-requires-2
+    add-rules
+    mul-rules
     returns)

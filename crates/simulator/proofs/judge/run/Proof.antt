@@ -4,6 +4,7 @@ use native.Mathlib.Omega.{arith}
 use borrow.Author.Needs.{needs}
 use Rattle.image.specs.Image.{machine}
 use Rattle.machine.specs.Run.{how-many}
+use Rattle.simulator.proofs.Starting.{few-enough}
 use Rattle.simulator.proofs.JudgeMode.{not-done}
 use Rattle.simulator.proofs.JudgeLoop.{After-steps, long-image, at-start, ready, notes-kept, work-kept, next, few-steps, steps-room, right}
 use Rattle.simulator.proofs.judge.run.Statement.{statement}
@@ -26,7 +27,10 @@ finals-of-requires c κs =
     long-image (back4 .before .pre)
 
 start-requires : tie.Need-start-requires Inv-loop μ-loop
-start-requires c κs = tt
+start-requires c κs =
+    let sized = c .before in
+    let sized4 = sized .before .before .before .before in
+    few-enough (sized4 .before .pre .unrefused) (sized .sizes-of .ensures)
 
 loop-holds : tie.Need-loop-holds Inv-loop μ-loop
 loop-holds c =

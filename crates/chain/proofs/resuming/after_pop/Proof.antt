@@ -1,0 +1,84 @@
+-- `chain::resuming::after_pop` meets its contract: with none open the run is over, else the newest open configuration resumes. Assumes nothing.
+use borrow.Author.Tests.{eq-eqb}
+use mathlib.Core.Path.{sym}
+use Rattle.chain.proofs.OpenNotes.{newest-open, number-cast, number-offset, resumed-fits, resumed-is}
+use borrow.Author.Needs.{needs}
+use Rattle.chain.proofs.resuming.after_pop.Statement.{statement}
+use Rattle.chain.proofs.resuming.after_pop.Tie as tie
+
+accepts-requires : tie.Need-accepts-requires
+accepts-requires c κs = search needs
+
+halt-verdict-requires : tie.Need-halt-verdict-requires
+halt-verdict-requires c κs = search needs
+
+registers-of-requires : tie.Need-registers-of-requires
+registers-of-requires c κs = search needs
+
+returns : tie.Need-returns
+returns c =
+    let back4 = c .before .before .before .before in
+    simp (eq-eqb _ _ (c .before .before .before .if1 .taken), sym (c .before .before .accepts .ensures), sym (c .before .halt-verdict .ensures), sym (back4 .before .before .before .pre .terminator .is)) (c .registers-of .ensures)
+
+sub-j : tie.Need-sub-j
+sub-j c = search needs
+
+mul-i : tie.Need-mul-i
+mul-i c = search (needs, newest-open (c .before .before .before .before .pre) (c .if1 .left) .work-there)
+
+shared-slice-read-i : tie.Need-shared-slice-read-i
+shared-slice-read-i c =
+    let back4 = c .before .before .before .before in
+    newest-open (back4 .before .pre) (c .before .if1 .left) .work-there
+
+cast-i : tie.Need-cast-i
+cast-i c =
+    let back4 = c .before .before .before .before in
+    number-cast (newest-open (back4 .before .pre) (c .before .if1 .left))
+
+mul-symbol-told : tie.Need-mul-symbol-told
+mul-symbol-told c =
+    let back4 = c .before .before .before .before in
+    number-offset (newest-open (back4 .before .pre) (c .before .if1 .left))
+
+shared-slice-read-symbol-told : tie.Need-shared-slice-read-symbol-told
+shared-slice-read-symbol-told c =
+    let back4 = c .before .before .before .before in
+    newest-open (back4 .before .before .pre) (c .before .before .if1 .left) .note-there
+
+symbol-told-requires : tie.Need-symbol-told-requires
+symbol-told-requires c κs = search needs
+
+in-row-requires : tie.Need-in-row-requires
+in-row-requires c κs =
+    let back4 = c .before .before .before .before in
+    resumed-fits (back4 .before .before .before .pre) (c .before .before .before .if1 .left) (c .symbol-told .ensures)
+
+registers-of-requires-2 : tie.Need-registers-of-requires-2
+registers-of-requires-2 c κs = search needs
+
+returns-2 : tie.Need-returns-2
+returns-2 c =
+    let back4 = c .before .before .before .before in
+    let back8 = back4 .before .before .before .before in
+    let told = c .before .before in
+    resumed-is (back8 .before .pre) (back4 .before .if1 .left) (told .symbol-told .ensures) (c .registers-of2 .ensures) (c .before .in-row .ensures)
+
+pub after-pop-spec : {M : Type 1} → statement M
+after-pop-spec =
+    tie.close
+    (tie.spec
+    accepts-requires
+    halt-verdict-requires
+    registers-of-requires
+    returns
+    sub-j
+    mul-i
+    shared-slice-read-i
+    cast-i
+    mul-symbol-told
+    shared-slice-read-symbol-told
+    symbol-told-requires
+    in-row-requires
+    registers-of-requires-2
+    returns-2)

@@ -1,0 +1,90 @@
+-- `chain::resuming::resumed` meets its contract: a return goes back to the pointer, another pop stays. Assumes nothing.
+use Rattle.chain.specs.Step
+use Rattle.chain.proofs.PopLaws.{pointer-product-fits, pop-returns, pop-stays}
+use borrow.Author.Needs.{needs}
+use Rattle.chain.proofs.resuming.resumed.Statement.{statement}
+use Rattle.chain.proofs.resuming.resumed.Tie as tie
+
+enum-told : tie.Need-enum-told
+enum-told c = search needs
+
+unmoved-requires : tie.Need-unmoved-requires
+unmoved-requires c κs = search needs
+
+enum-told-2 : tie.Need-enum-told-2
+enum-told-2 c = search needs
+
+unmoved-requires-2 : tie.Need-unmoved-requires-2
+unmoved-requires-2 c κs = search needs
+
+enum-told-3 : tie.Need-enum-told-3
+enum-told-3 c = search needs
+
+unmoved-requires-3 : tie.Need-unmoved-requires-3
+unmoved-requires-3 c κs = search needs
+
+enum-known-action : tie.Need-enum-known-action
+enum-known-action c = search needs
+
+mul-row : tie.Need-mul-row
+mul-row c =
+    let back4 = c .before .before .before .before in
+    pointer-product-fits (back4 .before .before .before .before .pre)
+
+after-pop-requires : tie.Need-after-pop-requires
+after-pop-requires c κs =
+    let back4 = c .before .before .before .before in
+    pop-returns (back4 .before .before .before .before .pre) (c .before .before .before .before .action .given .1)
+
+returns : tie.Need-returns
+unfolding Step.resumed
+returns c =
+    let back4 = c .before .before .before .before in
+    rw (back4 .before .action .given .1, c .before .before .if1 .taken) (c .after-pop .ensures)
+
+row-of-requires : tie.Need-row-of-requires
+row-of-requires c κs = search needs
+
+after-pop-requires-2 : tie.Need-after-pop-requires-2
+after-pop-requires-2 c κs =
+    let back4 = c .before .before .before .before in
+    pop-stays (back4 .before .before .before .before .pre) (c .before .before .before .before .action .given .1) (c .row-of .ensures)
+
+returns-2 : tie.Need-returns-2
+unfolding Step.resumed
+returns-2 c = simp (c .before .enum-told .given .1) (c .unmoved .ensures)
+
+returns-3 : tie.Need-returns-3
+unfolding Step.resumed
+returns-3 c = simp (c .before .enum-told2 .given .1) (c .unmoved2 .ensures)
+
+returns-4 : tie.Need-returns-4
+unfolding Step.resumed
+returns-4 c = simp (c .before .enum-told3 .given .1) (c .unmoved3 .ensures)
+
+returns-5 : tie.Need-returns-5
+unfolding Step.resumed
+returns-5 c =
+    let back4 = c .before .before .before .before in
+    rw (back4 .before .action .given .1, c .before .before .if1 .left) (c .after-pop2 .ensures)
+
+pub resumed-spec : {M : Type 1} → statement M
+resumed-spec =
+    tie.close
+    (tie.spec
+    enum-told
+    unmoved-requires
+    enum-told-2
+    unmoved-requires-2
+    enum-told-3
+    unmoved-requires-3
+    enum-known-action
+    mul-row
+    after-pop-requires
+    returns
+    row-of-requires
+    after-pop-requires-2
+    returns-2
+    returns-3
+    returns-4
+    returns-5)
