@@ -8,5 +8,6 @@ pub mod others;
 pub mod reading;
 pub mod report;
 pub mod table;
+pub mod targets;
 pub mod twin;
 pub mod workloads;

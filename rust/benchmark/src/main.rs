@@ -2,7 +2,7 @@
 //! the two do not agree; what it measures is for a reader to judge.
 use benchmark::judging::{Cells, Line};
 use benchmark::workloads::{self, SIZES};
-use benchmark::{layouts, others, reading, report};
+use benchmark::{judging, layouts, others, reading, report};
 use std::env;
 
 /// Rounds over all lines, so that what else the machine does for a while falls on no line alone.
@@ -11,12 +11,14 @@ const ROUNDS: usize = 4;
 const METHOD: &str = "\
 ns/r: nanoseconds of a whole call (checks, clearing, run) over its readings. Processor time of the thread, the LEAST of
   many calls: what else the machine does can only add to it. The ratio is also given by the median times.
-Judge and twin take turns on the same cells, which are allocated and touched before; both clear them in each call.
+All take turns on the same cells, which are allocated and touched before; each clears them in each call.
+tuned: a second form of the twin's judge, one loop tuned by hand with no record; its open configurations are linked.
+fastest: the same with a stack of them, as fast as we could make safe Rust.
 judge clears, twin clears: the time of a call with the same image and length on a capture whose first byte ends the run
   at once (checks, clearing, under 100 readings), over the time of the call. fill(0): both slices cleared by fill(0) and
   nothing else, over the time of the twin's call.
-Checking, building, and the calls on a text are measured in several layouts (below). Reading: blanks is the ring's text and
-  then spaces, which is read; operators is one line of every operator, with no name but its own, which needs too many
+Checking, building, the calls on a text, and judging once more are measured in several layouts (below). Reading: blanks
+  is the ring's text and then spaces, which is read; operators is one line of every operator, with no name but its own, which needs too many
   rules; names is texts of one length with more and more lines, each with a use of another.
 ";
 
@@ -30,11 +32,12 @@ fn main() {
     }
 }
 
-/// The calls that take microseconds: `rust/measure` runs them in several layouts.
+/// The calls that take microseconds, and judging for a short while: `rust/measure` runs them in several layouts.
 fn short_calls() {
     others::images();
     reading::texts();
     reading::ring();
+    judging::in_a_layout();
 }
 
 fn long_calls() {
@@ -59,6 +62,7 @@ fn long_calls() {
     }
     report::print_lines(&lines);
     report::print_growth(&workloads, &lines);
+    report::print_less_clearing(&lines);
     report::print_backtracking(&lines);
     report::print_without_memory();
     let [on_lines, _, _, on_two_way] = &workloads;

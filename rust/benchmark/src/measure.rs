@@ -15,7 +15,7 @@ pub struct Times(Vec<f64>);
 impl Times {
     /// The least: what the call takes when nothing else wants the machine. Others can only add to it.
     pub fn least(&self) -> f64 {
-        self.0.iter().copied().fold(f64::INFINITY, f64::min)
+        least(&self.0)
     }
 
     pub fn median(&self) -> f64 {
@@ -26,6 +26,15 @@ impl Times {
     pub fn add(&mut self, later: Times) {
         self.0.extend(later.0);
     }
+}
+
+pub fn least(numbers: &[f64]) -> f64 {
+    numbers.iter().copied().fold(f64::INFINITY, f64::min)
+}
+
+/// The greatest of some numbers, none of them negative.
+pub fn greatest(numbers: &[f64]) -> f64 {
+    numbers.iter().copied().fold(0.0, f64::max)
 }
 
 /// The median of some numbers; of an even count, the greater of the middle two.

@@ -1,12 +1,12 @@
 //! What the benchmark says of judging: the table, how both grow, and the figures beside their targets.
 use crate::backtracking_parser::parse;
 use crate::judging::Line;
-use crate::measure::median;
+use crate::measure::{greatest, median};
 use crate::table::{grouped, Table};
+use crate::targets::{Targets, LARGEST_TO_TUNED, TO_TUNED, TO_TWIN};
 use crate::workloads::{backtracking, Workload, SIZES};
 
-/// The targets: the median ratio, and nanoseconds a reading at the greatest length over those at the least.
-const RATIO: f64 = 1.0;
+/// The target of growth: nanoseconds a reading at the greatest length over those at the least.
 const GROWTH: f64 = 1.5;
 
 /// What the readings a byte of (b) may vary by to be called linear; its nanoseconds a byte may grow as all others.
@@ -29,7 +29,11 @@ pub fn print_lines(lines: &[Line]) {
         "N",
         "judge ns/r",
         "twin ns/r",
+        "tuned ns/r",
+        "fastest ns/r",
         "RATIO",
+        "to tuned",
+        "to fastest",
         "judge clears",
         "twin clears",
         "fill(0)",
@@ -43,7 +47,11 @@ pub fn print_lines(lines: &[Line]) {
             grouped(line.cells),
             format!("{:.2}", line.judge.least() / line.readings()),
             format!("{:.2}", line.twin.least() / line.readings()),
+            format!("{:.2}", line.tuned.least() / line.readings()),
+            format!("{:.2}", line.fastest.least() / line.readings()),
             format!("{:.2}", line.judge.least() / line.twin.least()),
+            format!("{:.2}", line.judge.least() / line.tuned.least()),
+            format!("{:.2}", line.judge.least() / line.fastest.least()),
             percent(line.judge_short.least(), line.judge.least()),
             percent(line.twin_short.least(), line.twin.least()),
             percent(line.fill.least(), line.twin.least()),
@@ -119,28 +127,45 @@ fn spread(numbers: impl Iterator<Item = f64>) -> f64 {
     greatest / least
 }
 
+/// Nanoseconds a reading without what the clearing takes: of each the median over the lines.
+pub fn print_less_clearing(lines: &[Line]) {
+    let mut table = Table::new(&["ns/r, less clearing", "judge", "twin", "tuned", "fastest"]);
+    let of_median = |time: &dyn Fn(&Line) -> f64| {
+        format!("{:.2}", median(lines.iter().map(|line| time(line) / line.readings()).collect()))
+    };
+    table.row(vec![
+        "median".into(),
+        of_median(&|line| line.judge.least() - line.judge_short.least()),
+        of_median(&|line| line.twin.least() - line.twin_short.least()),
+        of_median(&|line| line.tuned.least() - line.tuned_short.least()),
+        of_median(&|line| line.fastest.least() - line.fastest_short.least()),
+    ]);
+    table.print();
+}
+
 /// The figures that have a target, each beside it.
 pub fn print_targets(workloads: &[Workload], lines: &[Line]) {
-    let mut table = Table::new(&["figure", "measured", "target", "met"]);
-    let mut row = |figure: &str, measured: f64, target: f64| {
-        let met = if measured <= target { "yes" } else { "NO" };
-        table.row(vec![figure.into(), format!("{measured:.3}"), format!("at most {target}"), met.into()]);
-    };
-    let mut ratio_row = |figure, ratio_of: &dyn Fn(&Line) -> f64| {
-        row(figure, median(lines.iter().map(ratio_of).collect()), RATIO);
-    };
-    ratio_row("median ratio judge/twin", &|line| line.judge.least() / line.twin.least());
-    ratio_row("the same, by the median times", &|line| line.judge.median() / line.twin.median());
+    let mut targets = Targets::new();
+    let ratios = |ratio: &dyn Fn(&Line) -> f64| -> Vec<f64> { lines.iter().map(ratio).collect() };
+    let to_twin = ratios(&|line| line.judge.least() / line.twin.least());
+    targets.at_most(TO_TWIN, "median ratio judge/twin", median(to_twin));
+    let by_medians = ratios(&|line| line.judge.median() / line.twin.median());
+    targets.at_most(TO_TWIN, "the same, by the median times", median(by_medians));
+    let to_tuned = ratios(&|line| line.judge.least() / line.tuned.least());
+    targets.at_most(LARGEST_TO_TUNED, "largest ratio judge/tuned", greatest(&to_tuned));
+    targets.at_most(TO_TUNED, "median ratio judge/tuned", median(to_tuned));
+    let to_fastest = ratios(&|line| line.judge.least() / line.fastest.least());
+    targets.told("median ratio judge/fastest", median(to_fastest));
 
-    let greatest = |time: &dyn Fn(&Line) -> f64| {
-        workloads.iter().map(|workload| growth_of(workload.name, lines, time)).fold(0.0, f64::max)
+    let growth = |time: &dyn Fn(&Line) -> f64| -> Vec<f64> {
+        workloads.iter().map(|workload| growth_of(workload.name, lines, time)).collect()
     };
-    row("largest growth, judge", greatest(&|line| line.judge.least()), GROWTH);
-    row("largest growth, twin, to compare", greatest(&|line| line.twin.least()), GROWTH);
+    targets.at_most(GROWTH, "largest growth, judge", greatest(&growth(&|line| line.judge.least())));
+    targets.at_most(GROWTH, "largest growth, twin, to compare", greatest(&growth(&|line| line.twin.least())));
 
     let readings = spread(backtracking_lines(lines).map(|line| line.readings() / line.n as f64));
-    row("(b) readings/n, most over least", readings, READINGS_VARY);
+    targets.at_most(READINGS_VARY, "(b) readings/n, most over least", readings);
     let time = growth_of(backtracking::NAME, lines, &|line| line.judge.least() * line.readings() / line.n as f64);
-    row("(b) judge ns/n, growth", time, GROWTH);
-    table.print();
+    targets.at_most(GROWTH, "(b) judge ns/n, growth", time);
+    targets.print();
 }

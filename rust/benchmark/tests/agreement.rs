@@ -1,4 +1,4 @@
-//! The twin gives the library's answers, notes and cells, on small cases drawn from a fixed sequence of numbers.
+//! The twin, and its tuned forms, give the library's answers, notes and cells, on small cases drawn from a fixed sequence of numbers.
 use benchmark::twin;
 use sejimakpu::{MAX_BUILT_IMAGE, MAX_GRAMMAR};
 
@@ -126,6 +126,17 @@ impl Numbers {
     }
 }
 
+/// Library, twin and tuned forms judge the same, and leave the same in all lent cells.
+fn judge_the_same(image: &[u8], capture: &[u8], lent: (Vec<u32>, Vec<u32>)) {
+    let mut cells = lent.clone();
+    let judged = sejimakpu::judge(image, capture, &mut cells.0, &mut cells.1);
+    for judge in [twin::judge, twin::judge_tuned, twin::judge_fastest] {
+        let mut other = lent.clone();
+        assert_eq!(judge(image, capture, &mut other.0, &mut other.1), judged);
+        assert!(other == cells);
+    }
+}
+
 /// Both judge and run the same on an image, good or not, and leave the same in all lent cells.
 fn agree_on(image: &[u8], numbers: &mut Numbers) {
     let capture = numbers.capture();
@@ -135,10 +146,7 @@ fn agree_on(image: &[u8], numbers: &mut Numbers) {
     let needed = sejimakpu::cells(image, capture.len()).unwrap_or(3);
     let few = |numbers: &mut Numbers| needed + 2 - numbers.below(8).saturating_sub(4).min(needed);
     let (notes, work) = (vec![7; few(numbers)], vec![8; few(numbers)]);
-    let (mut a, mut b) = ((notes.clone(), work.clone()), (notes, work));
-    let judged = sejimakpu::judge(image, &capture, &mut a.0, &mut a.1);
-    assert_eq!(twin::judge(image, &capture, &mut b.0, &mut b.1), judged);
-    assert_eq!(a, b);
+    judge_the_same(image, &capture, (notes, work));
 
     let (budget, cells) = (numbers.below(60) as u32, numbers.below(8));
     let (mut a, mut b) = (vec![7; cells], vec![7; cells]);
@@ -207,10 +215,7 @@ fn on_long_captures() {
     let image = Numbers(3).image();
     for n in [65_535, 65_536] {
         let capture = vec![b'a'; n];
-        let (mut a, mut b) = ((vec![7; 900_000], vec![7; 900_000]), (vec![7; 900_000], vec![7; 900_000]));
-        let judged = sejimakpu::judge(&image, &capture, &mut a.0, &mut a.1);
-        assert_eq!(twin::judge(&image, &capture, &mut b.0, &mut b.1), judged);
-        assert!(a == b);
+        judge_the_same(&image, &capture, (vec![7; 900_000], vec![7; 900_000]));
 
         let lent = (vec![7; 500], vec![7; 1_000_000], vec![8; 1_000_000]);
         let (mut a, mut b) = (lent.clone(), lent);

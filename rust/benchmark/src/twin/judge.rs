@@ -1,14 +1,12 @@
-//! The twin's judge: the same notes, links and modes as the library's, the record changed in place.
+//! The twin's judge: the same notes, work cells and modes as the library's, the record changed in place.
+//!
+//! What a step does is inlined into the loop: a call would keep the record in memory.
+use super::cells::{head_told, open_note, symbol_told, was_pushed, CLOSED, ENDLESS, NEW, OPEN_BIT};
 use super::check::{check, refused};
 use super::machine::{Action, Machine};
 use sejimakpu::{Config, Error, Judged, Reason, Verdict, MAX_CAPTURE};
 
 const START: Config = Config { state: 0, head: 0, symbol: 0 };
-
-/// Notes: not entered yet; entered, its terminator not known. A greater one is `CLOSED` and the terminator's number.
-const NEW: u32 = 0;
-const OPEN: u32 = 1;
-const CLOSED: u32 = 2;
 
 #[derive(Clone, Copy)]
 enum Mode {
@@ -22,146 +20,183 @@ enum Mode {
 struct Record {
     mode: Mode,
     at: Config,
+    /// The number of `at`.
+    number: u32,
     /// Whether the entry on top was pushed on the way to `at`.
     pushed: bool,
-    /// One more than the number of the newest open configuration, 0 if none is open.
-    top: u32,
+    /// How many configurations are open: as many work cells hold their numbers, the newest last.
+    depth: usize,
     readings: u32,
 }
 
 impl Record {
     fn start() -> Self {
-        Record { mode: Mode::Look, at: START, pushed: true, top: 0, readings: 0 }
+        Record { mode: Mode::Look, at: START, number: 0, pushed: true, depth: 0, readings: 0 }
     }
 
+    #[inline(always)]
     fn step(&mut self, machine: &Machine, notes: &mut [u32], work: &mut [u32]) {
         match self.mode {
             Mode::Look => self.look(machine, notes, work),
             Mode::Unwind => self.unwind(machine, notes, work),
-            Mode::Clear(verdict) => self.clear(verdict, work),
+            Mode::Clear(verdict) => self.clear(verdict, notes, work),
             Mode::Done(_) => {}
         }
     }
 
+    #[inline(always)]
     fn look(&mut self, machine: &Machine, notes: &mut [u32], work: &mut [u32]) {
-        let number = machine.number(self.at);
-        let i = number as usize;
-        match notes[i] {
-            NEW => {
-                self.readings += 1;
-                match machine.action(self.at) {
-                    Action::Stop => self.open(number, Mode::Clear(Verdict::Stuck), self.at, self.pushed, notes, work),
-                    Action::Change(next) => self.open(number, Mode::Look, next, false, notes, work),
-                    Action::Push(next) => self.open(number, Mode::Look, next, true, notes, work),
-                    Action::Pop { state, .. } => {
-                        notes[i] = number + CLOSED;
-                        self.popping(machine, state);
-                    }
+        let note = notes[self.number as usize];
+        if note == NEW {
+            self.readings += 1;
+            match machine.action(self.at) {
+                Action::Stop => {
+                    self.open(notes, work);
+                    self.mode = Mode::Clear(Verdict::Stuck);
                 }
+                Action::Change(next) => {
+                    self.open(notes, work);
+                    self.go_on(machine, next, false);
+                }
+                Action::Push(next) => {
+                    self.open(notes, work);
+                    self.go_on(machine, next, true);
+                }
+                Action::Pop { state, .. } => self.popping(machine, state, notes, work),
             }
-            OPEN => self.mode = Mode::Clear(Verdict::Looping),
-            note => {
-                let terminator = machine.config(note - CLOSED);
-                if self.pushed {
-                    let pointer = self.at.head;
-                    self.resume(machine, terminator, || pointer, self.top);
-                } else {
-                    self.mode = Mode::Unwind;
-                    self.at = terminator;
-                }
+        } else if note >= OPEN_BIT {
+            self.mode = Mode::Clear(Verdict::Looping);
+        } else {
+            let pointer = self.at.head;
+            self.number = note - CLOSED;
+            self.at = machine.config(self.number);
+            if self.pushed {
+                self.resume(machine, pointer, notes, work);
+            } else {
+                self.mode = Mode::Unwind;
             }
         }
     }
 
-    /// A configuration is open now, and the next one is looked at.
+    /// The configuration looked at is open now, and on top of the stack.
     #[inline]
-    fn open(&mut self, number: u32, mode: Mode, next: Config, pushed: bool, notes: &mut [u32], work: &mut [u32]) {
-        notes[number as usize] = OPEN;
-        work[number as usize] = 2 * self.top + u32::from(self.pushed);
-        self.top = number + 1;
-        self.mode = mode;
+    fn open(&mut self, notes: &mut [u32], work: &mut [u32]) {
+        notes[self.number as usize] = open_note(self.at.head, self.at.symbol, self.pushed);
+        work[self.depth] = self.number;
+        self.depth += 1;
+    }
+
+    /// The next configuration is looked at.
+    #[inline]
+    fn go_on(&mut self, machine: &Machine, next: Config, pushed: bool) {
+        self.number = machine.moved_number(self.number, self.at, next);
         self.at = next;
         self.pushed = pushed;
     }
 
     /// A configuration that pops is its own terminator; where it was pushed its head is the entry's pointer.
     #[inline]
-    fn popping(&mut self, machine: &Machine, state: u32) {
+    fn popping(&mut self, machine: &Machine, state: u32, notes: &mut [u32], work: &[u32]) {
+        notes[self.number as usize] = self.number + CLOSED;
         if self.pushed {
-            self.popped(machine, self.at, state, self.at.head, self.top);
+            let row = machine.row_of(self.number, self.at);
+            self.popped(machine, row, state, self.at.head, notes, work);
         } else {
             self.mode = Mode::Unwind;
         }
     }
 
     /// The newest open configuration gets its terminator.
+    #[inline(always)]
     fn unwind(&mut self, machine: &Machine, notes: &mut [u32], work: &mut [u32]) {
-        let number = self.top - 1;
-        let i = number as usize;
-        notes[i] = machine.number(self.at) + CLOSED;
-        let cell = std::mem::take(&mut work[i]);
-        let top = cell / 2;
-        if cell.is_multiple_of(2) {
-            self.top = top;
-        } else {
-            self.resume(machine, self.at, || machine.head_of(number), top);
+        self.depth -= 1;
+        let newest = std::mem::take(&mut work[self.depth]);
+        let note = std::mem::replace(&mut notes[newest as usize], self.number + CLOSED);
+        if was_pushed(note) {
+            self.resume(machine, head_told(note), notes, work);
         }
     }
 
-    /// A terminator pops an entry: the newest open configuration resumes; with none open the run is over. The entry's
-    /// pointer is worked out only for a return.
+    /// The terminator pops an entry with this pointer.
     ///
-    /// Inlined, since a call would keep the whole record in memory.
-    #[inline]
-    fn resume(&mut self, machine: &Machine, terminator: Config, pointer: impl FnOnce() -> u32, top: u32) {
-        let Action::Pop { state, returns } = machine.action(terminator) else {
+    /// A return has its own arm: chosen by a value and not by a branch, the head would wait for the rule.
+    #[inline(always)]
+    fn resume(&mut self, machine: &Machine, pointer: u32, notes: &[u32], work: &[u32]) {
+        let Action::Pop { state, returns } = machine.action(self.at) else {
             unreachable!("a terminator pops");
         };
-        let head = if returns { pointer() } else { terminator.head };
-        self.popped(machine, terminator, state, head, top);
-    }
-
-    /// A terminator popped an entry, with this state and head then.
-    #[inline]
-    fn popped(&mut self, machine: &Machine, terminator: Config, state: u32, head: u32, top: u32) {
-        self.pushed = false;
-        self.top = top;
-        if top == 0 {
-            self.mode = Mode::Done(machine.verdict(state, head));
-            self.at = terminator;
+        if returns {
+            self.popped(machine, pointer * machine.counts.symbols, state, pointer, notes, work);
         } else {
-            self.mode = Mode::Look;
-            self.at = Config { state, head, symbol: machine.symbol_of(top - 1) };
+            let row = machine.row_of(self.number, self.at);
+            self.popped(machine, row, state, self.at.head, notes, work);
         }
     }
 
-    /// The newest open configuration's link is cleared; after the last the verdict stands.
-    fn clear(&mut self, verdict: Verdict, work: &mut [u32]) {
-        self.top = std::mem::take(&mut work[self.top as usize - 1]) / 2;
-        if self.top == 0 {
+    /// The terminator popped an entry, with this state and head then: the newest open configuration resumes; with none
+    /// open the run is over.
+    #[inline]
+    fn popped(&mut self, machine: &Machine, row: u32, state: u32, head: u32, notes: &[u32], work: &[u32]) {
+        self.pushed = false;
+        if self.depth == 0 {
+            self.mode = Mode::Done(machine.verdict(state, head));
+        } else {
+            let symbol = symbol_told(notes[work[self.depth - 1] as usize]);
+            self.mode = Mode::Look;
+            self.at = Config { state, head, symbol };
+            self.number = machine.in_row(row, state, symbol);
+        }
+    }
+
+    /// The newest open configuration has no terminator, and its note says no more; after the last the verdict stands.
+    fn clear(&mut self, verdict: Verdict, notes: &mut [u32], work: &mut [u32]) {
+        self.depth -= 1;
+        let newest = std::mem::take(&mut work[self.depth]);
+        notes[newest as usize] = ENDLESS;
+        if self.depth == 0 {
             self.mode = Mode::Done(verdict);
         }
     }
 }
 
+/// What judges in cleared cells, as many as there are configurations.
+pub(super) type Run = fn(&Machine, &mut [u32], &mut [u32]) -> Judged;
+
 /// Judges a capture by an image, as [`sejimakpu::judge`] does.
 pub fn judge(image: &[u8], capture: &[u8], notes: &mut [u32], work: &mut [u32]) -> Result<Judged, Error> {
+    judge_by(run, image, capture, notes, work)
+}
+
+/// Checks what it is given, clears the cells, and runs.
+#[inline(always)]
+pub(super) fn judge_by(
+    run: Run,
+    image: &[u8],
+    capture: &[u8],
+    notes: &mut [u32],
+    work: &mut [u32],
+) -> Result<Judged, Error> {
     check(image)?;
     if capture.len() > MAX_CAPTURE {
         return Err(refused(Reason::CaptureLong, capture.len()));
     }
-    let cells = Machine::new(image, capture).configurations();
+    let machine = Machine::new(image, capture);
+    let cells = machine.configurations();
     let notes = notes.get_mut(..cells).ok_or_else(|| refused(Reason::NotesShort, cells))?;
     let work = work.get_mut(..cells).ok_or_else(|| refused(Reason::WorkShort, cells))?;
-    Ok(judge_checked(image, capture, notes, work))
+    Ok(cleared(run, &machine, notes, work))
 }
 
 /// Judges by what has passed its checks, in exactly as many cells as there are configurations.
 pub(super) fn judge_checked(image: &[u8], capture: &[u8], notes: &mut [u32], work: &mut [u32]) -> Judged {
-    let machine = Machine::new(image, capture);
+    cleared(run, &Machine::new(image, capture), notes, work)
+}
+
+#[inline(always)]
+fn cleared(run: Run, machine: &Machine, notes: &mut [u32], work: &mut [u32]) -> Judged {
     notes.fill(0);
     work.fill(0);
-    run(&machine, notes, work)
+    run(machine, notes, work)
 }
 
 fn run(machine: &Machine, notes: &mut [u32], work: &mut [u32]) -> Judged {

@@ -1,4 +1,5 @@
 //! The twin's machine: a view of a checked image and a capture that says what each configuration does.
+use super::cells::Reciprocal;
 use super::check::{Counts, MAP, RULES};
 use sejimakpu::{Config, Verdict};
 
@@ -10,47 +11,76 @@ pub(super) enum Action {
     Pop { state: u32, returns: bool },
 }
 
+/// Configurations are numbered by state, then by head, then by symbol.
 pub(super) struct Machine<'a> {
-    capture: &'a [u8],
-    class_of: &'a [u8; 256],
-    rules: &'a [[u8; 4]],
-    counts: Counts,
-    places: u32,
+    pub capture: &'a [u8],
+    pub class_of: &'a [u8; 256],
+    pub rules: &'a [[u8; 4]],
+    pub counts: Counts,
+    pub places: u32,
+    /// How many configurations one state has, and how many rules.
+    pub stride: u32,
+    pub state_rules: u32,
+    // A stride is at most 65,537 * 128, and a number below 32 strides: times the symbols it is below 2^36, times the
+    // stride below 2^52.
+    by_symbols: Reciprocal<36>,
+    by_stride: Reciprocal<52>,
 }
 
 impl<'a> Machine<'a> {
     /// The machine of an image that has passed its check.
+    ///
+    /// Not inlined: a compiler that sees of what the products are made multiplies by one factor after the other again.
+    #[inline(never)]
     pub fn new(image: &'a [u8], capture: &'a [u8]) -> Self {
         let (map, rules) = image[MAP..].split_at(RULES - MAP);
+        let counts = Counts::of(image);
+        let places = capture.len() as u32 + 2;
+        let stride = places * counts.symbols;
         Machine {
             capture,
             class_of: map.try_into().expect("the map has 256 bytes"),
             rules: rules.as_chunks().0,
-            counts: Counts::of(image),
-            places: capture.len() as u32 + 2,
+            counts,
+            places,
+            stride,
+            state_rules: counts.columns() * counts.symbols,
+            by_symbols: Reciprocal::of(counts.symbols),
+            by_stride: Reciprocal::of(stride),
         }
     }
 
     /// N, how many configurations there are.
     pub fn configurations(&self) -> usize {
-        (self.counts.states * self.places * self.counts.symbols) as usize
+        (self.counts.states * self.stride) as usize
     }
 
-    pub fn number(&self, at: Config) -> u32 {
-        (at.state * self.places + at.head) * self.counts.symbols + at.symbol
-    }
-
+    /// The configuration of a number, by the reciprocals and what is left.
+    #[inline(always)]
     pub fn config(&self, number: u32) -> Config {
-        let upper = number / self.counts.symbols;
-        Config { state: upper / self.places, head: upper % self.places, symbol: self.symbol_of(number) }
+        let (state, upper) = (self.by_stride.divide(number), self.by_symbols.divide(number));
+        Config { state, head: upper - state * self.places, symbol: number - upper * self.counts.symbols }
     }
 
-    pub fn head_of(&self, number: u32) -> u32 {
-        number / self.counts.symbols % self.places
+    /// What the head counts for in a configuration's number.
+    #[inline(always)]
+    pub fn row_of(&self, number: u32, at: Config) -> u32 {
+        number - at.state * self.stride - at.symbol
     }
 
-    pub fn symbol_of(&self, number: u32) -> u32 {
-        number % self.counts.symbols
+    /// The number of a configuration with this row.
+    #[inline(always)]
+    pub fn in_row(&self, row: u32, state: u32, symbol: u32) -> u32 {
+        state * self.stride + row + symbol
+    }
+
+    /// The number of the configuration that a rule leads to, adjusted from that of `at`. A move goes one place at most, so
+    /// that `back` is 0, 1 or 2.
+    #[inline(always)]
+    pub fn moved_number(&self, number: u32, at: Config, next: Config) -> u32 {
+        let back = at.head + 1 - next.head;
+        let row = self.row_of(number, at) + self.counts.symbols - back * self.counts.symbols;
+        self.in_row(row, next.state, next.symbol)
     }
 
     fn class_under(&self, head: u32) -> u32 {
@@ -63,9 +93,11 @@ impl<'a> Machine<'a> {
         }
     }
 
+    /// What a configuration's rule does. Inlined, since a call would answer through memory.
+    #[inline(always)]
     pub fn action(&self, at: Config) -> Action {
-        let line = at.state * self.counts.columns() + self.class_under(at.head);
-        let [kind, state, symbol, direction] = self.rules[(line * self.counts.symbols + at.symbol) as usize];
+        let column = self.class_under(at.head) * self.counts.symbols;
+        let [kind, state, symbol, direction] = self.rules[(at.state * self.state_rules + column + at.symbol) as usize];
         let state = u32::from(state);
         let next = || Config { state, head: moved(at.head, direction), symbol: u32::from(symbol) };
         match kind {
