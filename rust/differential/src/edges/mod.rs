@@ -3,6 +3,7 @@
 
 mod inverted;
 mod long;
+mod numbers;
 mod program;
 mod refusals;
 mod runs;
@@ -41,6 +42,7 @@ pub fn all() -> Vec<Edge> {
     refusals::add(&mut edges);
     runs::add(&mut edges);
     long::add(&mut edges);
+    numbers::add(&mut edges);
     program::add(&mut edges);
     texts::add(&mut edges);
     edges.0
