@@ -151,8 +151,8 @@ module _ {bs cs : List ℕ} {E : Environment} {r : Registers} {ns ws : List ℕ}
               depth-room = omega (arith, y .depth-low, readings-few e, few-cells u);
               readings-room = omega (arith, readings-few e, few-cells u);
             };
-        changes = λ c g. change-leads c (sym g ∙ f);
-        pushes = λ c g. push-leads c (sym g ∙ f);
+        changes = λ c g. leads-to c (inside bs cs u .changes (r .at) c (y .there) (sym f ∙ g)) (change-near bs cs (r .at) c (sym g ∙ f));
+        pushes = λ c g. leads-to c (inside bs cs u .pushes (r .at) c (y .there) (sym f ∙ g)) (push-near bs cs (r .at) c (sym g ∙ f));
         pops =
             λ p b g. record {
               own = at-numbered;
@@ -166,21 +166,8 @@ module _ {bs cs : List ℕ} {E : Environment} {r : Registers} {ns ws : List ℕ}
         own = at-numbered;
       }
     where
-      change-leads : (c : Config) → Change c ≡ action bs cs (r .at) → Leads E (r .at) c
-      change-leads c g =
-          record {
-            below = config-low u (y .environment-is) (inside bs cs u .changes (r .at) c (y .there) (sym g));
-            right-most = change-near bs cs (r .at) c g .0;
-            left-most = change-near bs cs (r .at) c g .1;
-          }
-
-      push-leads : (c : Config) → Push c ≡ action bs cs (r .at) → Leads E (r .at) c
-      push-leads c g =
-          record {
-            below = config-low u (y .environment-is) (inside bs cs u .pushes (r .at) c (y .there) (sym g));
-            right-most = push-near bs cs (r .at) c g .0;
-            left-most = push-near bs cs (r .at) c g .1;
-          }
+      leads-to : (c : Config) → Valid-config (machine bs cs) c → (c .head ≤ r .at .head + 1) × (r .at .head ≤ c .head + 1) → Leads E (r .at) c
+      leads-to c t near = record { below = config-low u (y .environment-is) t; right-most = near .0; left-most = near .1 }
 
   -- a closed note leads to a configuration d, whose rule can be read and resumed from
   module _ (k : ℕ) {j : ℕ} (e : cell-note (getD ns k 0) ≡ Closed j) where
