@@ -43,8 +43,8 @@ module _ {e : Environment} (k : Constants e) where
 
   -- a move to the right, none, and a move to the left, by how far back the head goes from the place to the right
   pub moved-row :
-      (i j : ℕ) → j ≤ i + 1 → i ≤ j + 1 → i * e .sizes .symbols + e .sizes .symbols - (i + 1 - j) * e .sizes .symbols ≡ j * e .sizes .symbols
-  moved-row i j right left =
+      (i j : ℕ) → j ≤ i + 1 → i * e .sizes .symbols + e .sizes .symbols - (i + 1 - j) * e .sizes .symbols ≡ j * e .sizes .symbols
+  moved-row i j right =
       let a : (i + 1) * e .sizes .symbols ≡ i * e .sizes .symbols + e .sizes .symbols = one-more-times i (e .sizes .symbols) in
       let b : (j + (i + 1 - j)) * e .sizes .symbols ≡ j * e .sizes .symbols + (i + 1 - j) * e .sizes .symbols = add-mul j (i + 1 - j) (e .sizes .symbols) in
       let c : j + (i + 1 - j) ≡ i + 1 = omega arith in
@@ -80,7 +80,7 @@ module _ {e : Environment} {k : ℕ} {at c : Config} (y : Moves e k at c) {row :
   constants = y .from .constants
 
   moved : row + e .sizes .symbols - (at .head + 1 - c .head) * e .sizes .symbols ≡ c .head * e .sizes .symbols
-  moved = rw f (moved-row constants (at .head) (c .head) (y .leads .right-most) (y .leads .left-most))
+  moved = rw f (moved-row constants (at .head) (c .head) (omega (arith, y .leads .right-most)))
 
   pub row-room : Fits w32 (row + e .sizes .symbols)
   row-room = omega (arith, f, row-few (y .from), kept-few (y .from), constants .symbols-most)

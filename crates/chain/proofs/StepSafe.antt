@@ -166,8 +166,8 @@ module _ {bs cs : List ℕ} {E : Environment} {r : Registers} {ns ws : List ℕ}
         own = at-numbered;
       }
     where
-      leads-to : (c : Config) → Valid-config (machine bs cs) c → (c .head ≤ r .at .head + 1) × (r .at .head ≤ c .head + 1) → Leads E (r .at) c
-      leads-to c t near = record { below = config-low u (y .environment-is) t; right-most = near .0; left-most = near .1 }
+      leads-to : (c : Config) → Valid-config (machine bs cs) c → c .head ≤ r .at .head + 1 → Leads E (r .at) c
+      leads-to c t near = record { below = config-low u (y .environment-is) t; right-most = near }
 
   -- a closed note leads to a configuration d, whose rule can be read and resumed from
   module _ (k : ℕ) {j : ℕ} (e : cell-note (getD ns k 0) ≡ Closed j) where

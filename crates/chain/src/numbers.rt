@@ -84,7 +84,7 @@ pub fn in_row(e: Environment, row: u32, state: u32, symbol: u32) -> u32
 }
 
 // The number of c, to which a rule leads from `at`, adjusted from that of `at`. A move goes one place at most, so that `back` is 0, 1 or 2: a product
-// and no test, for which the number would have to wait.
+// and no test, for which the number would have to wait. The contract asks for the right side alone: from there any place back is as good.
 pub fn moved_number(e: Environment, number: u32, at: Config, c: Config) -> u32
     requires { ⌜ Moves e number at c ⌝ }
     ensures { λ x. ⌜ x ≡ number-in e c ⌝ }

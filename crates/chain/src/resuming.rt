@@ -105,6 +105,7 @@ pub fn resumed(
         Action::Push(_) => unmoved(r),
         Action::Pop { state, returns } => {
             let sizes = e.sizes;
+            let head = d.head;
             if returns {
                 let row = pointer * sizes.symbols;
                 return after_pop(
@@ -127,7 +128,7 @@ pub fn resumed(
                 number,
                 row,
                 state,
-                d.head,
+                head,
                 depth,
                 r.readings,
                 notes,

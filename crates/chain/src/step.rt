@@ -185,15 +185,16 @@ fn unwind(
     let number = r.number;
     let depth = r.depth - 1;
     let i = work[depth] as usize;
-    let note = notes[i];
-    notes[i] = number + 2;
+    let told = notes[i];
+    let note = number + 2;
+    notes[i] = note;
     work[depth] = 0;
-    let odd = note % 2;
+    let odd = told % 2;
     if odd == 0 {
         return registers_of(Mode::Unwind, at, number, false, depth, r.readings);
     }
     let action = lookup::action_of(image, capture, e.sizes, at);
-    let pointer = head_told(note);
+    let pointer = head_told(told);
     resumed(e, r, at, number, action, pointer, depth, notes, work)
 }
 

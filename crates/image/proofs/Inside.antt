@@ -95,21 +95,21 @@ module _ (bs cs : List ℕ) (u : Unrefused bs cs) where
             };
       }
 
--- ONE PLACE AT MOST: what a change or a push leads to has its head there, or a place to the right or to the left
+-- ONE PLACE AT MOST to the right is the head of what a change or a push leads to
 Near : (head : ℕ) → Action → Type 0
 Near i (Stop r) = Unit {0}
-Near i (Change e) = (e .head ≤ i + 1) × (i ≤ e .head + 1)
-Near i (Push e) = (e .head ≤ i + 1) × (i ≤ e .head + 1)
+Near i (Change e) = e .head ≤ i + 1
+Near i (Push e) = e .head ≤ i + 1
 Near i (Pop p r) = Unit {0}
 
-moved-near : (m i : ℕ) → (moved m i ≤ i + 1) × (i ≤ moved m i + 1)
+moved-near : (m i : ℕ) → moved m i ≤ i + 1
 unfolding moved
 moved-near m i = go (eqb m 1) (eqb m 2)
   where
-    go : (a b : Bool) → (cond a (i + 1) (cond b (i - 1) i) ≤ i + 1) × (i ≤ cond a (i + 1) (cond b (i - 1) i) + 1)
-    go true b = (omega arith, omega arith)
-    go false true = (omega arith, omega arith)
-    go false false = (omega arith, omega arith)
+    go : (a b : Bool) → cond a (i + 1) (cond b (i - 1) i) ≤ i + 1
+    go true b = omega arith
+    go false true = omega arith
+    go false false = omega arith
 
 near-by : (r : Rule) (i : ℕ) → Near i (action-by r i)
 unfolding action-by Near
@@ -125,10 +125,10 @@ near-action : (bs cs : List ℕ) (c : Config) {a : Action} → a ≡ action bs c
 unfolding action
 near-action bs cs c e = subst (Near (c .head)) (sym e) (near-by _ (c .head))
 
-pub change-near : (bs cs : List ℕ) (c e : Config) → Change e ≡ action bs cs c → (e .head ≤ c .head + 1) × (c .head ≤ e .head + 1)
+pub change-near : (bs cs : List ℕ) (c e : Config) → Change e ≡ action bs cs c → e .head ≤ c .head + 1
 unfolding Near
 change-near bs cs c e f = near-action bs cs c f
 
-pub push-near : (bs cs : List ℕ) (c e : Config) → Push e ≡ action bs cs c → (e .head ≤ c .head + 1) × (c .head ≤ e .head + 1)
+pub push-near : (bs cs : List ℕ) (c e : Config) → Push e ≡ action bs cs c → e .head ≤ c .head + 1
 unfolding Near
 push-near bs cs c e f = near-action bs cs c f

@@ -32,11 +32,10 @@ pub record Numbered (e : Environment) (c : Config) (k : ℕ) : Type 0 where
   pub below : Config-below e c
   pub is : k ≡ number-in e c
 
--- a rule leads from one configuration to another, one place away at most
+-- a rule leads from one configuration to another, whose head is one place to the right at most
 pub record Leads (e : Environment) (at c : Config) : Type 0 where
   pub below : Config-below e c
   pub right-most : c .head ≤ at .head + 1
-  pub left-most : at .head ≤ c .head + 1
 
 pub record Moves (e : Environment) (k : ℕ) (at c : Config) : Type 0 where
   pub from : Numbered e at k

@@ -23,18 +23,18 @@ cast-i c =
     let back4 = c .before .before .before .before in
     number-cast (newest-now (back4 .before .before .before .pre))
 
-mul-note : tie.Need-mul-note
-mul-note c =
+mul-told : tie.Need-mul-told
+mul-told c =
     let back4 = c .before .before .before .before in
     number-offset (newest-now (back4 .before .before .before .pre))
 
-slice-read-note : tie.Need-slice-read-note
-slice-read-note c =
+slice-read-told : tie.Need-slice-read-told
+slice-read-told c =
     let back4 = c .before .before .before .before in
     newest-now (back4 .before .before .before .before .pre) .note-there
 
-add-notes : tie.Need-add-notes
-add-notes c =
+add-note : tie.Need-add-note
+add-note c =
     let back4 = c .before .before .before .before in
     omega (arith, number-room (back4 .before .before .before .before .pre .ready))
 
@@ -108,9 +108,9 @@ unwind-spec =
     mul-i
     slice-read-i
     cast-i
-    mul-note
-    slice-read-note
-    add-notes
+    mul-told
+    slice-read-told
+    add-note
     mul-notes
     slice-write-notes
     mul-work
