@@ -8,7 +8,7 @@ use native.Mathlib.Omega.{arith}
 use lib.ListN.{length, getD, set}
 use Rattle.machine.specs.declared.Config.{Config}
 use Rattle.machine.specs.declared.Action.{Action}
-use Rattle.machine.specs.declared.Action.the-variants.{Change, Push, Pop}
+use Rattle.machine.specs.declared.Action.the-variants.{Pop}
 use Rattle.machine.specs.declared.Note.the-variants.{Closed}
 use Rattle.machine.specs.Run.{Valid-config, number-by, number, how-many, config-by}
 use Rattle.machine.specs.Verdicts.{nonzero}
