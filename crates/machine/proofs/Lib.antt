@@ -13,3 +13,4 @@ pub mod NotesOfRun
 pub mod Reach
 pub mod Pigeonhole
 pub mod Listing
+pub mod RepliesAlike

@@ -1,6 +1,7 @@
 // Machines: configurations, what a rule does, why and how a run halts, verdicts and notes. Nothing here sees a byte.
 pub mod halting;
 pub mod notes;
+pub mod replies;
 
 // A surface configuration: state p, head i, top symbol A.
 pub struct Config {

@@ -42,10 +42,17 @@ use Rattle.syntax_theory.proofs.TypedRight.{typed-right}
 use Rattle.typed.proofs.ReadRight.{nothing-read, good-read, read-determined}
 use Rattle.typed.proofs.Determined.{build-text-determined, build-text-independent, judge-text-determined, judge-text-independent}
 use Rattle.typed.proofs.TypedJudged.{typed-accepts, typed-stuck, typed-loops, typed-judged}
+use Rattle.bundle.proofs.BundleConditions.{bundle-answer, call-answer, captures-inside}
+use Rattle.bundle.proofs.AloneHolds.{as-alone}
+use Rattle.bundle.proofs.CellsIndependent.{bundle-cells-independent}
+use Rattle.bundle.proofs.LineAlone.{line-alone, bundle-later}
+use Rattle.bundle.proofs.Sums.{totals-sum, totals-whole}
+use Rattle.bundle.proofs.Reporting.{bundle-refuses, bundle-answers, bundle-determined, bundle-independent}
 use Rattle.worked_examples.proofs.ExamplesHold.{examples-hold, c1-image, c1-cells, c1-plain-runs}
 use Rattle.worked_examples.proofs.ProgramPrints.{endless-printed}
+use Rattle.worked_examples.proofs.BundlesHold.{bundle-examples, capture-example, totals-example, cells-example}
 use Rattle.promises.specs.Promises.{Promises}
-use Rattle.promises.proofs.Told.{judge-refuses, run-refuses, build-refuses, answer-refuses, build-text-refuses, judge-text-refuses, judge-answers, run-answers, accepted-told}
+use Rattle.promises.proofs.Told.{judge-refuses, run-refuses, build-refuses, answer-refuses, build-text-refuses, judge-text-refuses, judge-answers, run-answers, accepted-told, line-accepted}
 
 pub promises : Promises
 promises =
@@ -142,4 +149,22 @@ promises =
       typed-stuck = typed-stuck;
       typed-loops = typed-loops;
       typed-judged = typed-judged;
+      bundle-refused = bundle-answer;
+      bundle-call-refused = call-answer;
+      bundle-refuses = bundle-refuses;
+      bundle-answers = bundle-answers;
+      bundle-determined = bundle-determined;
+      bundle-independent = bundle-independent;
+      bundle-cells-independent = bundle-cells-independent;
+      captures-inside = captures-inside;
+      line-alone = line-alone;
+      bundle-as-alone = as-alone;
+      bundle-later = bundle-later;
+      totals-sum = totals-sum;
+      totals-whole = totals-whole;
+      line-accepted = line-accepted;
+      bundle-examples = bundle-examples;
+      capture-example = capture-example;
+      totals-example = totals-example;
+      cells-example = cells-example;
     }

@@ -1,9 +1,11 @@
 -- What the calls answer, by the numbers of their answers. Assumes nothing.
 use mathlib.Core.Path.{_≡_, refl, sym, ap, subst, _∙_}
-use mathlib.Core.List.{List}
-use Prim.Native.Nat.{ℕ}
+use mathlib.Core.List.{List, []}
+use Prim.Native.Nat.{ℕ, _+_, _*_, _<_}
+use native.Mathlib.Decide.{ℕ-discrete}
 use native.Mathlib.Omega.{arith}
-use lib.ListN.{length, getD}
+use lib.ListN.{length, getD, drop}
+use lib.Seq.{getD-take, getD-drop}
 use Rattle.machine.specs.declared.Config.{Config}
 use Rattle.machine.specs.declared.Verdict.{Verdict}
 use Rattle.machine.specs.declared.Verdict.the-variants.{Accepted, Ended, Stuck, Looping}
@@ -17,6 +19,15 @@ use Rattle.simulator.specs.declared.Judged.the-variants.{Answer, Refused}
 use Rattle.simulator.specs.Calls.{Judge-says}
 use Rattle.simulator.specs.Replies.{of-judged}
 use Rattle.simulator.proofs.Answered.{judged-refused, judged-right, answered-fine}
+use Rattle.codec.specs.Bytes.{section}
+use Rattle.machine.specs.declared.Reply.{Reply}
+use Rattle.bundle.specs.declared.Report.{Report}
+use Rattle.bundle.specs.Format.{count, capture, call-refusal}
+use Rattle.bundle.specs.Report.{line-width, line-cells, verdict-cell}
+use Rattle.bundle.specs.Calls.{Bundle-says}
+use Rattle.bundle.specs.Replies.{of-report}
+use Rattle.bundle.proofs.LineAlone.{line-there}
+use Rattle.bundle.proofs.Reporting.{bundle-refuses, bundle-answers}
 use Rattle.interpreter.specs.PlainRun.{run-on}
 use Rattle.interpreter.specs.Replies.{of-ran}
 use Rattle.interpreter.proofs.Answered.{run-refused, run-answered, run-holds}
@@ -31,6 +42,7 @@ use Rattle.promises.specs.FirstDemand.{Judge-refuses, Run-refuses, Build
 use Rattle.promises.specs.SecondDemand.{Judge-answers, Run-answers}
 use Rattle.promises.specs.Users.{Accepted-told}
 use Rattle.promises.specs.Typed.{Build-text-refuses, Judge-text-refuses}
+use Rattle.promises.specs.Bundles.{Line-accepted}
 
 pub judge-refuses : Judge-refuses
 unfolding of-judged
@@ -108,3 +120,38 @@ accepted-told image capture notes notes-now work work-now returned answer t one 
     let verdict : of-judged (t .judged) .verdict ≡ 1 = ap (λ (l : List ℕ). getD l 1 0) (sym (t .tells .written)) ∙ one in
     let (no-refusal, says) = accepted-by image capture notes notes-now work work-now (t .judged) (t .says) verdict in
     (t .tells .number ∙ no-refusal, rw (t .tells .written) says)
+
+-- a line's cell is that of the line's own seven
+cell-of : (m : List ℕ) (i k : ℕ) → k < line-width → getD (section m (line-width * i) line-width) k 0 ≡ getD m (line-width * i + k) 0
+cell-of m i k h = getD-take line-width (drop (line-width * i) m) k 0 h ∙ getD-drop (line-width * i) m k 0
+
+-- a bundle's call that returns 0 is not refused, and its count is that of the captures
+returned-fine :
+    (bs xs : List ℕ) (r : Report) (l m a x b y : List ℕ) → Bundle-says bs xs r l m a x b y → of-report r .refusal ≡ 0 →
+    call-refusal bs xs .number ≡ 0
+returned-fine bs xs r l m a x b y says none = go (ℕ-discrete (call-refusal bs xs .number) 0)
+  where
+    go : Dec (call-refusal bs xs .number ≡ 0) → call-refusal bs xs .number ≡ 0
+    go (yes e) = e
+    go (no some) =
+        let told = bundle-refuses bs xs r l m a x b y [] says some .0 in
+        absurd (some (sym (ap (λ (p : Reply). p .refusal) told) ∙ none))
+
+pub line-accepted : Line-accepted
+unfolding cells line-cells
+line-accepted image bundle lines lines-now totals totals-now notes notes-now work work-now returned answer t zero-returned i h one =
+    let none : of-report (t .report) .refusal ≡ 0 = sym (t .tells .number) ∙ zero-returned in
+    let fine = returned-fine image bundle (t .report) lines lines-now notes notes-now work work-now (t .says) none in
+    let told = bundle-answers image bundle (t .report) lines lines-now notes notes-now work work-now (t .says) fine .0 in
+    let counted : getD answer 2 0 ≡ count bundle =
+    ap (λ (l : List ℕ). getD l 2 0) (t .tells .written) ∙ ap (λ (p : Reply). p .count) told
+    in
+    let line = line-there image bundle (t .report) lines lines-now notes notes-now work work-now (t .says) fine i (omega (arith, counted, h)) in
+    let cell : (k : ℕ) → k < line-width → getD lines-now (line-width * i + k) 0 ≡ getD (line-cells (of-judged (line .line))) k 0 =
+    λ k b. sym (cell-of lines-now i k b) ∙ ap (λ (l : List ℕ). getD l k 0) (line .cells)
+    in
+    let verdict : of-judged (line .line) .verdict ≡ 1 = sym (cell verdict-cell (omega arith)) ∙ one in
+    let (no-refusal, says) =
+    accepted-by image (capture bundle i) (line .notes) (line .notes-then) (line .work) (line .work-then) (line .line) (line .says) verdict
+    in
+    rw (cell 4 (omega arith), cell 5 (omega arith), cell 6 (omega arith)) says

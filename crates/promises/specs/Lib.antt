@@ -4,4 +4,5 @@ pub mod SecondDemand
 pub mod ThirdDemand
 pub mod Users
 pub mod Typed
+pub mod Bundles
 pub mod Promises

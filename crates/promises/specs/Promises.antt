@@ -4,6 +4,7 @@ use Rattle.promises.specs.SecondDemand as Second
 use Rattle.promises.specs.ThirdDemand as Third
 use Rattle.promises.specs.Users as Users
 use Rattle.promises.specs.Typed as Typed
+use Rattle.promises.specs.Bundles as Bundles
 
 pub record Promises : Type 0 where
   -- the first demand: refusals, and what follows from the input alone
@@ -103,3 +104,22 @@ pub record Promises : Type 0 where
   pub typed-stuck : Typed.Typed-stuck
   pub typed-loops : Typed.Typed-loops
   pub typed-judged : Typed.Typed-judged
+  -- a shift's captures in one bundle
+  pub bundle-refused : Bundles.Bundle-refused
+  pub bundle-call-refused : Bundles.Bundle-call-refused
+  pub bundle-refuses : Bundles.Bundle-refuses
+  pub bundle-answers : Bundles.Bundle-answers
+  pub bundle-determined : Bundles.Bundle-determined
+  pub bundle-independent : Bundles.Bundle-independent
+  pub bundle-cells-independent : Bundles.Bundle-cells-independent
+  pub captures-inside : Bundles.Captures-inside
+  pub line-alone : Bundles.Line-alone
+  pub bundle-as-alone : Bundles.As-alone
+  pub bundle-later : Bundles.Bundle-later
+  pub totals-sum : Bundles.Totals-sum
+  pub totals-whole : Bundles.Totals-whole
+  pub line-accepted : Bundles.Line-accepted
+  pub bundle-examples : Bundles.Bundle-examples
+  pub capture-example : Bundles.Capture-example
+  pub totals-example : Bundles.Totals-example
+  pub cells-example : Bundles.Cells-example

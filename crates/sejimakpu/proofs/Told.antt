@@ -3,12 +3,7 @@ use mathlib.Core.Path.{_≡_}
 use mathlib.Core.List.{List}
 use Prim.Native.Nat.{ℕ}
 use Rattle.machine.specs.declared.Reply.{Reply}
-use Rattle.machine.specs.declared.Config.{Config}
-use Rattle.machine.specs.Replies.{answer-reply}
 use Rattle.sejimakpu.specs.Cells.{Reply-written}
 
 pub told-as : {p q : Reply} {r : ℕ} {answer : List ℕ} → p ≡ q → Reply-written p r answer → Reply-written q r answer
 told-as e t = rw (← e) t
-
-pub numbered : {p : Reply} {v w n : ℕ} {end : Config} → v ≡ w → p ≡ answer-reply v n end → p ≡ answer-reply w n end
-numbered e h = rw (← e) h

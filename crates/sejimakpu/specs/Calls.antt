@@ -19,6 +19,9 @@ use Rattle.reader.specs.Calls.{Read-tells}
 use Rattle.grammar_judge.specs.Calls.{Lent}
 use Rattle.typed.specs.Calls.{Build-text-says, Judge-text-says}
 use Rattle.typed.specs.Replies.{of-read, grammar-left}
+use Rattle.bundle.specs.declared.Report.{Report}
+use Rattle.bundle.specs.Calls.{Bundle-says}
+use Rattle.bundle.specs.Replies.{of-report, totals-left}
 use Rattle.sejimakpu.specs.Cells.{Reply-written}
 
 -- the check of an image
@@ -66,3 +69,11 @@ pub record Judge-text-tells (text capture : List ℕ) (before after : Lent) (ret
   pub judged : Judged
   pub says : Judge-text-says text capture judged before after
   pub tells : Reply-written (of-judged judged) returned answer
+
+-- judging a bundle: the answer's count is that of its captures; lines, totals and cells are as the report says, and refused none changes
+pub record Judge-bundle-tells
+    (image bundle lines lines-now totals totals-now notes notes-now work work-now : List ℕ) (returned : ℕ) (answer : List ℕ) : Type 0 where
+  pub report : Report
+  pub says : Bundle-says image bundle report lines lines-now notes notes-now work work-now
+  pub left : totals-now ≡ totals-left report totals
+  pub tells : Reply-written (of-report report) returned answer

@@ -3,17 +3,20 @@
 pub mod reply;
 
 use builder::build::build_image;
+use bundle::judging::judge_bundle;
 use interpreter::plain_run;
 use reader::reading::read;
 use reply::build_reply;
-use reply::cells_reply;
+use reply::bundle_reply;
 use reply::check_reply;
-use reply::judge_reply;
 use reply::read_reply;
 use reply::run_reply;
 use reply::write_reply;
+use reply::write_totals;
 use simulator::judge::cells;
 use simulator::judge::judge;
+use simulator::replies::cells_reply;
+use simulator::replies::judge_reply;
 use typed::build_text;
 use typed::judge_text;
 use validator::check::check_image;
@@ -22,7 +25,7 @@ ghost use mathlib.Core.Path.{_≡_};
 ghost use Prim.Native.Nat.{_≤_};
 ghost use lib.ListN.{length, drop};
 ghost use Rattle.grammar_judge.specs.Calls.{lent};
-ghost use Rattle.sejimakpu.specs.Calls.{Check-tells, Cells-tells, Judge-tells, Run-tells, Build-tells, Read-grammar-tells, Build-text-tells, Judge-text-tells};
+ghost use Rattle.sejimakpu.specs.Calls.{Check-tells, Cells-tells, Judge-tells, Run-tells, Build-tells, Read-grammar-tells, Build-text-tells, Judge-text-tells, Judge-bundle-tells};
 
 // Whether an image is good.
 #[no_mangle]
@@ -142,4 +145,24 @@ pub extern "C" fn sejimakpu_judge_text_nonnull(
 {
     let judged = judge_text(text, capture, image, notes, work);
     write_reply(answer, judge_reply(judged))
+}
+
+// Judging the captures of a bundle: 64 lines of seven cells are lent, and ten cells for their totals.
+#[no_mangle]
+pub extern "C" fn sejimakpu_judge_bundle_nonnull(
+    image: &[u8],
+    bundle: &[u8],
+    notes: &mut [u32],
+    work: &mut [u32],
+    lines: &mut [u64; 448],
+    totals: &mut [u64; 10],
+    answer: &mut [u64; 6],
+) -> u32
+    ensures { λ r. ⌜ Judge-bundle-tells (now (image .entry)) (now (bundle .entry)) (now (lines .entry)) (now (lines .exit))
+        (now (totals .entry)) (now (totals .exit)) (now (notes .entry)) (now (notes .exit)) (now (work .entry)) (now (work .exit))
+        r (now (answer .exit)) ⌝ }
+{
+    let report = judge_bundle(image, bundle, notes, work, lines);
+    write_totals(totals, report);
+    write_reply(answer, bundle_reply(report))
 }

@@ -1,35 +1,23 @@
 // A reply: what every call of the library answers, by numbers, and the six cells that it is written to.
 use builder::Built;
+use bundle::Report;
 use interpreter::Exit;
 use interpreter::Ran;
-use machine::Config;
 use machine::Reply;
-use machine::Verdict;
 use machine::halting::halt_verdict;
+use machine::replies::answer_reply;
+use machine::replies::count_reply;
+use machine::replies::refusal_reply;
+use machine::replies::verdict_number;
 use reader::ReadGrammar;
 use refusal::Checked;
-use refusal::Refusal;
-use simulator::Judged;
-use simulator::Needs;
 ghost use mathlib.Core.Path.{_≡_};
-ghost use Rattle.machine.specs.Replies.{verdict-number as number-of, refusal-reply, answer-reply, count-reply, of-checked};
-ghost use Rattle.simulator.specs.Replies.{of-needs, of-judged};
+ghost use Rattle.machine.specs.Replies.{of-checked};
+ghost use Rattle.bundle.specs.Replies.{of-report, totals-left};
 ghost use Rattle.interpreter.specs.Replies.{exit-number as number-of-exit, of-ran};
 ghost use Rattle.builder.specs.Replies.{of-built};
 ghost use Rattle.typed.specs.Replies.{of-read};
 ghost use Rattle.sejimakpu.specs.Cells.{Reply-written};
-
-// A verdict's number.
-fn verdict_number(verdict: Verdict) -> u32
-    ensures { λ r. ⌜ r ≡ number-of verdict ⌝ }
-{
-    match verdict {
-        Verdict::Accepted => 1,
-        Verdict::Ended => 2,
-        Verdict::Stuck => 3,
-        Verdict::Looping => 4,
-    }
-}
 
 // An exit's number: the verdict's where the run halts, and two more.
 fn exit_number(exit: Exit) -> u32
@@ -42,78 +30,12 @@ fn exit_number(exit: Exit) -> u32
     }
 }
 
-// The reply of a refused call.
-fn refused(refusal: Refusal) -> Reply
-    ensures { λ r. ⌜ r ≡ refusal-reply refusal ⌝ }
-{
-    Reply {
-        refusal: refusal.number,
-        place: refusal.place,
-        verdict: 0,
-        count: 0,
-        end: Config {
-            state: 0,
-            head: 0,
-            symbol: 0,
-        },
-    }
-}
-
-// The reply of a call that was answered.
-fn answered(verdict: u32, count: usize, end: Config) -> Reply
-    ensures { λ r. ⌜ r ≡ answer-reply verdict count end ⌝ }
-{
-    Reply {
-        refusal: 0,
-        place: 0,
-        verdict,
-        count,
-        end,
-    }
-}
-
-// A count alone.
-fn counted(count: usize) -> Reply
-    ensures { λ r. ⌜ r ≡ count-reply count ⌝ }
-{
-    answered(
-        0,
-        count,
-        Config {
-            state: 0,
-            head: 0,
-            symbol: 0,
-        },
-    )
-}
-
 pub fn check_reply(checked: Checked) -> Reply
     ensures { λ r. ⌜ r ≡ of-checked checked ⌝ }
 {
     match checked {
-        Checked::Refused(refusal) => refused(refusal),
-        Checked::Good => counted(0),
-    }
-}
-
-pub fn cells_reply(needs: Needs) -> Reply
-    ensures { λ r. ⌜ r ≡ of-needs needs ⌝ }
-{
-    match needs {
-        Needs::Refused(refusal) => refused(refusal),
-        Needs::Cells(count) => counted(count),
-    }
-}
-
-pub fn judge_reply(judged: Judged) -> Reply
-    ensures { λ r. ⌜ r ≡ of-judged judged ⌝ }
-{
-    match judged {
-        Judged::Refused(refusal) => refused(refusal),
-        Judged::Answer(j) => {
-            let verdict = j.verdict;
-            answered(verdict_number(verdict), j.readings as usize, j.end)
-        }
+        Checked::Refused(refusal) => refusal_reply(refusal),
+        Checked::Good => count_reply(0),
     }
 }
 
@@ -121,12 +43,12 @@ pub fn run_reply(ran: Ran) -> Reply
     ensures { λ r. ⌜ r ≡ of-ran ran ⌝ }
 {
     match ran {
-        Ran::Refused(refusal) => refused(refusal),
+        Ran::Refused(refusal) => refusal_reply(refusal),
         Ran::Answer {
             exit,
             steps,
             reached,
-        } => answered(exit_number(exit), steps as usize, reached),
+        } => answer_reply(exit_number(exit), steps as usize, reached),
     }
 }
 
@@ -134,8 +56,8 @@ pub fn build_reply(built: Built) -> Reply
     ensures { λ r. ⌜ r ≡ of-built built ⌝ }
 {
     match built {
-        Built::Refused(refusal) => refused(refusal),
-        Built::Image(long) => counted(long),
+        Built::Refused(refusal) => refusal_reply(refusal),
+        Built::Image(long) => count_reply(long),
     }
 }
 
@@ -144,9 +66,38 @@ pub fn read_reply(read: ReadGrammar) -> Reply
 {
     let refusal = read.refusal;
     if refusal.number != 0 {
-        return refused(refusal);
+        return refusal_reply(refusal);
     }
-    counted(read.length)
+    count_reply(read.length)
+}
+
+pub fn bundle_reply(report: Report) -> Reply
+    ensures { λ r. ⌜ r ≡ of-report report ⌝ }
+{
+    match report {
+        Report::Refused(refusal) => refusal_reply(refusal),
+        Report::Lines(count, _) => count_reply(count),
+    }
+}
+
+// The ten cells of the totals: a verdict's at its number, then refusals and readings. A refused call writes none.
+pub fn write_totals(cells: &mut [u64; 10], report: Report)
+    ensures { λ r. ⌜ now (cells .exit) ≡ totals-left report (now (cells .entry)) ⌝ }
+{
+    if let Report::Lines(_, t) = report {
+        *cells = [
+            0,
+            t.accepted,
+            t.ended,
+            t.stuck,
+            t.looping,
+            0,
+            0,
+            0,
+            t.refused,
+            t.readings,
+        ];
+    }
 }
 
 // Every cell of the answer is written; the number of the refusal, or 0, is returned.

@@ -49,9 +49,9 @@ judged-refused bs cs r a a-now b b-now e s =
     refused-as (judge-refusal bs cs (length a) (length b) .number) (judge-refusal bs cs (length a) (length b)) bs cs r a a-now b b-now e s
 
 -- no refusal of judging: none of image and capture
-capture-fine : (bs cs : List ℕ) (a b : ℕ) → judge-refusal bs cs a b .number ≡ 0 → capture-refusal bs (length cs) .number ≡ 0
+pub unrefused-capture : (bs cs : List ℕ) (a b : ℕ) → judge-refusal bs cs a b .number ≡ 0 → capture-refusal bs (length cs) .number ≡ 0
 unfolding judge-refusal
-capture-fine bs cs a b e = neither (capture-refusal bs (length cs)) _ (record { none-such = e }) .0 .none-such
+unrefused-capture bs cs a b e = neither (capture-refusal bs (length cs)) _ (record { none-such = e }) .0 .none-such
 
 -- WHAT AN ANSWER COMES TO
 pub record Answered (bs cs : List ℕ) (v : Verdict) (n : ℕ) (d : Config) (a a-now b b-now : List ℕ) : Type 0 where
@@ -80,7 +80,7 @@ pub answered :
 answered bs cs a a-now b b-now v n d bytes s =
     let e = answered-fine bs cs a a-now b b-now v n d s in
     record {
-      unrefused = unrefused-by bs cs bytes (capture-fine bs cs (length a) (length b) e);
+      unrefused = unrefused-by bs cs bytes (unrefused-capture bs cs (length a) (length b) e);
       right = judged-right bs cs (Answer (judgement v n d)) a a-now b b-now e s;
     }
 

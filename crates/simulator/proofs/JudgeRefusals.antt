@@ -10,15 +10,16 @@ use Rattle.refusal.specs.declared.Refusal.{Refusal}
 use Rattle.machine.specs.Run.{how-many}
 use Rattle.codec.specs.Bytes.{byte}
 use Rattle.image.specs.Image.{machine}
-use Rattle.image.proofs.CaptureRefused.{unrefused-by}
+use Rattle.image.proofs.CaptureRefused.{unrefused-by, image-first, then-long, then-fine}
 use Rattle.refusal.specs.First.{refusal, no-refusal, or-else, refuse-if}
-use Rattle.image.specs.Refusals.{capture-refusal}
+use Rattle.image.specs.Format
+use Rattle.image.specs.Refusals.{image-refusal, capture-refusal}
 use Rattle.simulator.specs.declared.Judgement.{Judgement}
 use Rattle.simulator.specs.declared.Judged.{Judged}
 use Rattle.simulator.specs.declared.Judged.the-variants.{Refused, Answer}
 use Rattle.simulator.specs.code.Checked.{Checked, Sized}
 use Rattle.simulator.proofs.Needing.{cells-are}
-use Rattle.simulator.specs.Calls.{judge-refusal, Judgement-right, Judge-as, Judge-says}
+use Rattle.simulator.specs.Calls.{cells-needed, judge-refusal, Judgement-right, Judge-as, Judge-says}
 
 module _ (bs cs : List ℕ) (a b : ℕ) where
   pub cells-refused : (capture-refusal bs (length cs) .number ≡ 0 → ⊥) → judge-refusal bs cs a b ≡ capture-refusal bs (length cs)
@@ -67,12 +68,27 @@ checked bs cs x y {n} sized bytes h k =
       work-long = length-take-le n y k ∙ enough-are sized;
     }
 
+-- image and capture are not refused, and so many cells are needed for them
+pub sized :
+    {bs cs : List ℕ} {n : ℕ} → image-refusal bs .number ≡ 0 → length cs ≤ Format.max-capture → n ≡ cells-needed bs (length cs) → Sized bs cs n
+sized {bs} {cs} good short counted =
+    record {
+      no-refusal = ap (λ (f : Refusal). f .number) (sym (then-fine bs (length cs) (image-refusal bs) refl good short));
+      counted = counted;
+    }
+
 module _ (bs cs x y : List ℕ) {r : Judged} where
-  pub cells-says :
-      {f : Refusal} → f ≡ capture-refusal bs (length cs) → (f .number ≡ 0 → ⊥) → r ≡ Refused f → Judge-says bs cs r x x y y
-  cells-says {f} e some q =
+  early-says : {f : Refusal} → f ≡ capture-refusal bs (length cs) → (f .number ≡ 0 → ⊥) → r ≡ Refused f → Judge-says bs cs r x x y y
+  early-says {f} e some q =
       let h : capture-refusal bs (length cs) .number ≡ 0 → ⊥ = λ z. some (ap (λ (g : Refusal). g .number) e ∙ z) in
       refused-says bs cs x y (cells-refused bs cs (length x) (length y) h ∙ sym e) some q
+
+  pub image-says : {f : Refusal} → f ≡ image-refusal bs → (f .number ≡ 0 → ⊥) → r ≡ Refused f → Judge-says bs cs r x x y y
+  image-says {f} e some q = early-says (image-first bs (length cs) f e some) some q
+
+  pub long-says :
+      image-refusal bs .number ≡ 0 → Format.max-capture < length cs → r ≡ Refused (refusal 7 (length cs)) → Judge-says bs cs r x x y y
+  long-says good h q = early-says (then-long bs (length cs) (image-refusal bs) refl good h) (λ z. omega arith) q
 
   module _ {n : ℕ} (sized : Sized bs cs n) where
     pub notes-says : length x < n → r ≡ Refused (refusal 8 n) → Judge-says bs cs r x x y y

@@ -1,12 +1,10 @@
 -- How many cells judging needs, by the capture's length alone; and the answer of the call `cells`, by its tests. Assumes nothing.
-use mathlib.Core.Path.{_≡_, refl, sym, ap, _∙_}
-use mathlib.Core.Bool.{Bool, true, false, cond}
+use mathlib.Core.Path.{_≡_, refl, ap}
 use mathlib.Core.List.{List}
 use Prim.Native.Nat.{ℕ, _+_, _*_, _≤_}
 use native.Mathlib.Omega.{arith}
-use lib.Dec.{eqb}
 use lib.ListN.{length, replicate, length-replicate}
-use borrow.Author.Tests.{eq-eqb, ne-eqb, eqb-true, eqb-false}
+use borrow.Author.Tests.{eq-eqb, ne-eqb}
 use Rattle.refusal.specs.declared.Refusal.{Refusal}
 use Rattle.image.specs.Format
 use Rattle.machine.specs.Run.{how-many}
@@ -51,20 +49,3 @@ module _ (f : Refusal) (n : ℕ) where
 
 pub needs-as : {f g : Refusal} (n : ℕ) {r : Needs} → f ≡ g → r ≡ needs f n → r ≡ needs g n
 needs-as n e h = rw (← e) h
-
--- what the call's answer says
-pub needs-refused : (f g : Refusal) (n : ℕ) → needs f n ≡ Refused g → (g ≡ f) × (g .number ≡ 0 → ⊥)
-unfolding needs
-needs-refused f g n e = go (eqb (f .number) 0) refl e
-  where
-    go : (t : Bool) → eqb (f .number) 0 ≡ t → cond t (Cells n) (Refused f) ≡ Refused g → (g ≡ f) × (g .number ≡ 0 → ⊥)
-    go true q h = absurd (let z : _≡_ {A = ℕ} 0 1 = cc in omega arith)
-    go false q h = let s : g ≡ f = cc in (s, λ z. eqb-false (f .number) 0 q (sym (ap (λ (x : Refusal). x .number) s) ∙ z))
-
-pub needs-so-many : (f : Refusal) (m n : ℕ) → needs f n ≡ Cells m → (f .number ≡ 0) × (m ≡ n)
-unfolding needs
-needs-so-many f m n e = go (eqb (f .number) 0) refl e
-  where
-    go : (t : Bool) → eqb (f .number) 0 ≡ t → cond t (Cells n) (Refused f) ≡ Cells m → (f .number ≡ 0) × (m ≡ n)
-    go true q h = (eqb-true _ _ q, cc)
-    go false q h = absurd (let z : _≡_ {A = ℕ} 0 1 = cc in omega arith)

@@ -9,12 +9,14 @@ use chain::Registers;
 use chain::numbers::reciprocals_of;
 use chain::step::step;
 use image::Sizes;
+use image::format::MAX_CAPTURE;
 use image::format::STATES_OFFSET;
 use image::format::SYMBOLS_OFFSET;
 use image::lookup;
 use machine::Config;
 use refusal::Refusal;
 use validator::check::capture_refusal;
+use validator::check::first_refusal;
 ghost use mathlib.Core.Path.{_≡_};
 ghost use Prim.Native.Nat.{_≤_};
 ghost use lib.ListN.{length, replicate};
@@ -157,14 +159,27 @@ fn judge_sized(
     Judged::Answer(judgement)
 }
 
+// Judges a capture by an image that is not refused: 7 to 9 are left to check.
+pub fn judge_by_checked(image: &[u8], capture: &[u8], notes: &mut [u32], work: &mut [u32]) -> Judged
+    requires { ⌜ image-refusal (now image) .number ≡ 0 ⌝ }
+    ensures { λ r. ⌜ Judge-says (now (image .entry)) (now (capture .entry)) r
+        (now (notes .entry)) (now (notes .exit)) (now (work .entry)) (now (work .exit)) ⌝ }
+{
+    let long = capture.len();
+    if MAX_CAPTURE < long {
+        return refused(7, long);
+    }
+    judge_sized(image, capture, cells_needed(image, long), notes, work)
+}
+
 // Judges a capture by an image: verdict, readings and end configuration, with the notes of every configuration in the lent cells, or a refusal.
 pub fn judge(image: &[u8], capture: &[u8], notes: &mut [u32], work: &mut [u32]) -> Judged
     ensures { λ r. ⌜ Judge-says (now (image .entry)) (now (capture .entry)) r
         (now (notes .entry)) (now (notes .exit)) (now (work .entry)) (now (work .exit)) ⌝ }
 {
-    let needs = cells(image, capture.len());
-    match needs {
-        Needs::Refused(refusal) => Judged::Refused(refusal),
-        Needs::Cells(count) => judge_sized(image, capture, count, notes, work),
+    let refusal = first_refusal(image);
+    if refusal.number != 0 {
+        return Judged::Refused(refusal);
     }
+    judge_by_checked(image, capture, notes, work)
 }

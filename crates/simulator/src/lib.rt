@@ -1,5 +1,6 @@
 // The judge: a simulator that memoises terminators, so that it reads each configuration once.
 pub mod judge;
+pub mod replies;
 
 use machine::Config;
 use machine::Verdict;

@@ -204,7 +204,7 @@ fn body_refusal(image: &[u8]) -> Refusal
 }
 
 // The first refusal of an image, or number 0.
-fn first_refusal(image: &[u8]) -> Refusal
+pub fn first_refusal(image: &[u8]) -> Refusal
     ensures { λ r. ⌜ r ≡ image-refusal (now (image .entry)) ⌝ }
 {
     let long = image.len();

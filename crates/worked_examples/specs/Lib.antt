@@ -1,3 +1,4 @@
--- The ten worked examples.
+-- The ten worked examples, and those of bundles.
 pub mod Examples
 pub mod ProgramLine
+pub mod BundleExamples

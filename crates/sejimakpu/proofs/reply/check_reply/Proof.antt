@@ -7,24 +7,24 @@ use Rattle.sejimakpu.proofs.reply.check_reply.Tie as tie
 enum-known-checked : tie.Need-enum-known-checked
 enum-known-checked c = search needs
 
-refused-requires : tie.Need-refused-requires
-refused-requires c κs = search needs
+refusal-reply-requires : tie.Need-refusal-reply-requires
+refusal-reply-requires c κs = search needs
 
 enum-told : tie.Need-enum-told
 enum-told c = search needs
 
-counted-requires : tie.Need-counted-requires
-counted-requires c κs = search needs
+count-reply-requires : tie.Need-count-reply-requires
+count-reply-requires c κs = search needs
 
 returns : tie.Need-returns
 unfolding of-checked
-returns c = rw (c .before .before .checked .given .1) (c .refused .ensures)
+returns c = rw (c .before .before .checked .given .1) (c .refusal-reply .ensures)
 
 returns-2 : tie.Need-returns-2
 unfolding of-checked
-returns-2 c = rw (c .before .enum-told .given .1) (c .counted .ensures)
+returns-2 c = rw (c .before .enum-told .given .1) (c .count-reply .ensures)
 
 pub check-reply-spec : {M : Type 1} → statement M
 check-reply-spec =
     tie.close
-    (tie.spec enum-known-checked refused-requires enum-told counted-requires returns returns-2)
+    (tie.spec enum-known-checked refusal-reply-requires enum-told count-reply-requires returns returns-2)

@@ -1,9 +1,9 @@
--- `sejimakpu::reply::verdict_number` meets its contract. Assumes nothing.
+-- `machine::replies::verdict_number` meets its contract. Assumes nothing.
 use mathlib.Core.Path.{refl}
 use Rattle.machine.specs.Replies.{verdict-number}
 use borrow.Author.Needs.{needs}
-use Rattle.sejimakpu.proofs.reply.verdict_number.Statement.{statement}
-use Rattle.sejimakpu.proofs.reply.verdict_number.Tie as tie
+use Rattle.machine.proofs.replies.verdict_number.Statement.{statement}
+use Rattle.machine.proofs.replies.verdict_number.Tie as tie
 
 enum-told : tie.Need-enum-told
 enum-told c = search needs

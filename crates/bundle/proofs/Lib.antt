@@ -1,0 +1,19 @@
+-- What is proved of bundles, by topic: the format and its check; lines and totals; the captures judged in order; what the call says.
+pub mod BundleConditions
+pub mod PairsRead
+pub mod PairsChecked
+pub mod CountChecked
+pub mod CallChecked
+pub mod Adding
+pub mod LineCells
+pub mod LinesWritten
+pub mod InOrder
+pub mod FewReadings
+pub mod SoFar
+pub mod BundleSaid
+pub mod CellsIndependent
+pub mod LineAlone
+pub mod AloneHolds
+pub mod LineSums
+pub mod Sums
+pub mod Reporting
