@@ -1,16 +1,17 @@
 /*
  * Sejimakpu: judges console captures by two-way pointer pushdown machines. For C99 and C++11.
  *
- * Link libsejimakpu.a (made by `rt staticlib sejimakpu`). Its eight functions are proved against their contracts in
+ * Link libsejimakpu.a (made by `rt staticlib sejimakpu`). Its nine functions are proved against their contracts in
  * crates/sejimakpu: each returns on every input, and what it answers is what the definitions in crates/NAME/specs say.
  * Call them by the inline functions below, which only replace null pointers.
  *
  * What C must keep to, because no function can test it:
  *   - a pointer with a length above 0 points to that many elements, aligned as its type asks;
  *   - memory that a call may write (grammar of read_grammar, image of build, build_text and judge_text, notes, work, stack,
- *     answer) overlaps nothing else that the call is given;
- *   - the grammar that read_grammar writes has room for SEJIMAKPU_MAX_GRAMMAR bytes.
- * A pointer with length 0 is not used, and may be null. So may the answer, where the returned number is all that is
+ *     lines and totals of judge_bundle, bundle of pack_bundle, answer) overlaps nothing else that the call is given;
+ *   - the grammar that read_grammar writes has room for SEJIMAKPU_MAX_GRAMMAR bytes, and the lines that judge_bundle
+ *     writes are an array of SEJIMAKPU_MAX_CAPTURES.
+ * A pointer with length 0 is not used, and may be null. So may the answer, the lines and the totals, where they are not
  * wanted. Everything else that can be passed is answered or refused.
  */
 #ifndef SEJIMAKPU_H
@@ -29,7 +30,7 @@ enum {
     SEJIMAKPU_ACCEPTED = 1,   /* the run removed its last entry, in a final state, with the head at the end of the capture */
     SEJIMAKPU_ENDED = 2,      /* the run removed its last entry otherwise */
     SEJIMAKPU_STUCK = 3,      /* the run came to a configuration that has no rule */
-    SEJIMAKPU_LOOPING = 4,    /* the run has no end; said by sejimakpu_judge alone */
+    SEJIMAKPU_LOOPING = 4,    /* the run has no end; said by judging alone */
     SEJIMAKPU_SPENT = 5,      /* the budget was used up before the run's end; said by sejimakpu_plain_run alone */
     SEJIMAKPU_DEEP = 6        /* a push found no stack cell; said by sejimakpu_plain_run alone */
 };
@@ -53,12 +54,17 @@ enum {
     SEJIMAKPU_TEXT_SYNTAX = 15,      /* a token that cannot stand where it is, bytes that form no token, a name that is
                                         repeated or never defined: its offset; or the text ends early: its length */
     SEJIMAKPU_TEXT_RULES = 16,       /* a typed grammar that needs over 31 rules: the text's length */
-    SEJIMAKPU_TEXT_DEPTH = 17        /* a seventeenth open parenthesis: its offset */
+    SEJIMAKPU_TEXT_DEPTH = 17,       /* a seventeenth open parenthesis: its offset */
+    SEJIMAKPU_BUNDLE = 18            /* a bundle's count, or a bundle too short for its count and pairs: 0; else a wrong pair
+                                        of offset and length: its place, 4 + 8 * i for pair i, the first */
 };
 
 /* The longest capture, in bytes, and the longest grammar. */
 #define SEJIMAKPU_MAX_CAPTURE 65535
 #define SEJIMAKPU_MAX_GRAMMAR 124
+
+/* The most captures of a bundle. */
+#define SEJIMAKPU_MAX_CAPTURES 64
 
 /* A length of image buffer that no grammar's image passes: 31 rules and 63 classes. */
 #define SEJIMAKPU_MAX_BUILT_IMAGE 82188
@@ -67,11 +73,30 @@ enum {
 typedef struct sejimakpu_answer {
     uint64_t place;   /* of a refusal */
     uint64_t verdict; /* SEJIMAKPU_ACCEPTED to SEJIMAKPU_DEEP; SEJIMAKPU_NO_VERDICT where refused */
-    uint64_t count;   /* readings of a judging, steps of a plain run, bytes of an image or a grammar, cells needed */
+    uint64_t count;   /* readings of a judging, steps of a plain run, bytes of an image or a grammar, cells needed,
+                         captures of a bundle */
     uint64_t state;   /* of the end configuration, or of the one reached; and so its head and symbol */
     uint64_t head;
     uint64_t symbol;
 } sejimakpu_answer;
+
+/* A capture's line in the report on a bundle: what sejimakpu_judge returns and answers for that capture alone. */
+typedef struct sejimakpu_line {
+    uint64_t refusal; /* 0 where the capture was judged; else 7, 8 or 9, and all but the place are 0 */
+    uint64_t place;   /* of the refusal */
+    uint64_t verdict; /* SEJIMAKPU_ACCEPTED to SEJIMAKPU_LOOPING; SEJIMAKPU_NO_VERDICT where refused */
+    uint64_t count;   /* readings */
+    uint64_t state;   /* of the end configuration; and so its head and symbol */
+    uint64_t head;
+    uint64_t symbol;
+} sejimakpu_line;
+
+/* The last line of that report: the sums over the captures' lines. */
+typedef struct sejimakpu_totals {
+    uint64_t verdicts[8]; /* at a verdict's number: how many lines have it; a refusal is no verdict, so that [0] is 0 */
+    uint64_t refusals;    /* how many lines are refusals */
+    uint64_t readings;    /* the sum of the readings */
+} sejimakpu_totals;
 
 /*
  * The archive's own functions. They take what the inline functions below take, and no pointer may be null, even with
@@ -104,6 +129,12 @@ uint32_t sejimakpu_judge_text_nonnull(const uint8_t *text, size_t text_length,
                                       uint32_t *notes, size_t notes_length,
                                       uint32_t *work, size_t work_length,
                                       sejimakpu_answer *answer);
+uint32_t sejimakpu_judge_bundle_nonnull(const uint8_t *image, size_t image_length,
+                                        const uint8_t *bundle, size_t bundle_length,
+                                        uint32_t *notes, size_t notes_length,
+                                        uint32_t *work, size_t work_length,
+                                        sejimakpu_line *lines, sejimakpu_totals *totals,
+                                        sejimakpu_answer *answer);
 
 /*
  * For the inline functions: the pointer, or one to an element that nobody reads or writes where the length is 0. A null
@@ -265,6 +296,80 @@ static inline uint32_t sejimakpu_judge_text(const uint8_t *text, size_t text_len
 }
 
 /*
+ * Judges every capture of a bundle by one image, in order: lines[i] is what sejimakpu_judge gives for capture i, the
+ * totals are the sums over these lines, and answer->count is the number of captures. Lines from that number on stay. The
+ * notes and work cells end as after judging the captures one after another; lend what sejimakpu_cells asks for the longest.
+ *
+ * A bundle is a count, 1 to SEJIMAKPU_MAX_CAPTURES, then that many pairs of offset and length, then the captures; numbers
+ * have 32 bits, the lowest byte first, and pair i stands at 4 + 8 * i. Each capture starts no earlier than the end of the
+ * one before, the first no earlier than the end of the pairs, and all end inside the bundle. Bytes between and after them
+ * are not looked at. sejimakpu_pack_bundle makes one.
+ *
+ * Refusals 1 to 6, then 18, before anything is judged; a refused call changes no note, no work cell, no line and no total.
+ * A capture's own refusal, 7 to 9, is its line: the others are judged, and the call is not refused.
+ */
+static inline uint32_t sejimakpu_judge_bundle(const uint8_t *image, size_t image_length,
+                                              const uint8_t *bundle, size_t bundle_length,
+                                              uint32_t *notes, size_t notes_length,
+                                              uint32_t *work, size_t work_length,
+                                              sejimakpu_line *lines, sejimakpu_totals *totals,
+                                              sejimakpu_answer *answer)
+{
+    sejimakpu_line unread_lines[SEJIMAKPU_MAX_CAPTURES];
+    sejimakpu_totals unread_totals;
+    sejimakpu_answer unread;
+    return sejimakpu_judge_bundle_nonnull(sejimakpu_input_bytes(image, image_length), image_length,
+                                          sejimakpu_input_bytes(bundle, bundle_length), bundle_length,
+                                          sejimakpu_lent_cells(notes, notes_length), notes_length,
+                                          sejimakpu_lent_cells(work, work_length), work_length,
+                                          lines ? lines : unread_lines, totals ? totals : &unread_totals,
+                                          answer ? answer : &unread);
+}
+
+/*
+ * For sejimakpu_pack_bundle: a number of 32 bits, the lowest byte first.
+ */
+static inline void sejimakpu_put_number(uint8_t *bytes, size_t number)
+{
+    for (int i = 0; i < 4; i++)
+        bytes[i] = (uint8_t)(number >> (8 * i) & 0xff);
+}
+
+/*
+ * The length of the bundle of these captures, one after another with nothing between them; where bundle_length is enough,
+ * the bundle is written, and later bytes stay. With less nothing is written, so that a first call with null and 0 asks for
+ * the length. 0 where there is no such bundle: no capture, over SEJIMAKPU_MAX_CAPTURES, or an offset or a length passes 32
+ * bits (or the whole passes a size_t); then nothing is written either. A capture of length 0 may be null. This function is
+ * not in the archive, and is not proved.
+ */
+static inline size_t sejimakpu_pack_bundle(const uint8_t *const *captures, const size_t *lengths, size_t count,
+                                           uint8_t *bundle, size_t bundle_length)
+{
+    if (count < 1 || count > SEJIMAKPU_MAX_CAPTURES)
+        return 0;
+    /* in 64 bits, because a size_t may have 32, which none of these numbers would pass */
+    uint64_t end = 4 + 8 * (uint64_t)count;
+    for (size_t i = 0; i < count; i++) {
+        const uint64_t offset = end, length = lengths[i];
+        if (offset > UINT32_MAX || length > UINT32_MAX || length > SIZE_MAX - offset)
+            return 0;
+        end += length;
+    }
+    if (bundle_length < end)
+        return (size_t)end;
+    sejimakpu_put_number(bundle, count);
+    size_t offset = 4 + 8 * count;
+    for (size_t i = 0; i < count; i++) {
+        sejimakpu_put_number(bundle + 4 + 8 * i, offset);
+        sejimakpu_put_number(bundle + 8 + 8 * i, lengths[i]);
+        for (size_t j = 0; j < lengths[i]; j++)
+            bundle[offset + j] = captures[i][j];
+        offset += lengths[i];
+    }
+    return (size_t)end;
+}
+
+/*
  * A verdict's word, as the program `judge` prints it; never null.
  */
 static inline const char *sejimakpu_verdict_word(uint64_t verdict)
@@ -304,6 +409,7 @@ static inline const char *sejimakpu_refusal_meaning(uint32_t refusal)
     case SEJIMAKPU_TEXT_SYNTAX: return "the text is wrong at that place, or ends early";
     case SEJIMAKPU_TEXT_RULES: return "the typed grammar needs over 31 rules";
     case SEJIMAKPU_TEXT_DEPTH: return "over 16 parentheses are open at once";
+    case SEJIMAKPU_BUNDLE: return "a bundle's count or a pair of offset and length is wrong";
     default: return "unknown refusal";
     }
 }
