@@ -1,5 +1,6 @@
 //! The benchmark's parts: an unverified twin of the proved judge, the workloads that both are given, and the measuring.
 pub mod backtracking_parser;
+pub mod bundles;
 pub mod clock;
 pub mod judging;
 pub mod layouts;

@@ -2,7 +2,7 @@
 //! the two do not agree; what it measures is for a reader to judge.
 use benchmark::judging::{Cells, Line};
 use benchmark::workloads::{self, SIZES};
-use benchmark::{judging, layouts, others, reading, report};
+use benchmark::{bundles, judging, layouts, others, reading, report};
 use std::env;
 
 /// Rounds over all lines, so that what else the machine does for a while falls on no line alone.
@@ -17,7 +17,8 @@ fastest: the same with a stack of them, as fast as we could make safe Rust.
 judge clears, twin clears: the time of a call with the same image and length on a capture whose first byte ends the run
   at once (checks, clearing, under 100 readings), over the time of the call. fill(0): both slices cleared by fill(0) and
   nothing else, over the time of the twin's call.
-Checking, building, the calls on a text, and judging once more are measured in several layouts (below). Reading: blanks
+Checking, building, the calls on a text, judging a bundle, and judging once more are measured in several layouts (below).
+  A bundle: 64 captures of lines, all lengths between two, in one call that checks the image once. Reading: blanks
   is the ring's text and then spaces, which is read; operators is one line of every operator, with no name but its own, which needs too many
   rules; names is texts of one length with more and more lines, each with a use of another.
 ";
@@ -37,6 +38,7 @@ fn short_calls() {
     others::images();
     reading::texts();
     reading::ring();
+    bundles::bundles();
     judging::in_a_layout();
 }
 

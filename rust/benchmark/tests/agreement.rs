@@ -1,4 +1,5 @@
 //! The twin, and its tuned forms, give the library's answers, notes and cells, on small cases drawn from a fixed sequence of numbers.
+use benchmark::bundles::report_the_same;
 use benchmark::twin;
 use sejimakpu::{MAX_BUILT_IMAGE, MAX_GRAMMAR};
 
@@ -208,6 +209,33 @@ fn on_texts() {
         assert_eq!(twin::judge_text(&text, &capture, &mut b.0, &mut b.1, &mut b.2), judged);
         assert!(a == b);
     }
+}
+
+#[test]
+fn on_bundles() {
+    let mut numbers = Numbers(0xE703_7ED1_A0B4_28DB);
+    let mut judged = 0;
+    for _ in 0..2000 {
+        let mut image = numbers.image();
+        let count = [1, 2, 5, 64][numbers.below(4)];
+        let captures: Vec<Vec<u8>> = (0..count).map(|_| numbers.capture()).collect();
+        let mut bundle = sejimakpu::pack_bundle(&captures).unwrap();
+        // Enough for 8 bytes, or not.
+        let cells = usize::from(image[24]) * (8 + 2 - numbers.below(4).saturating_sub(1)) * usize::from(image[26]);
+        numbers.spoil(&mut bundle);
+        if numbers.below(4) == 0 {
+            numbers.spoil(&mut image);
+        }
+        let few = |numbers: &mut Numbers| cells + 1 - numbers.below(3).min(cells);
+        let lent = (vec![7; few(&mut numbers)], vec![8; few(&mut numbers)]);
+        let (mut a, mut b) = (lent.clone(), lent);
+        let report = sejimakpu::judge_bundle(&image, &bundle, &mut a.0, &mut a.1);
+        let other = twin::judge_bundle(&image, &bundle, &mut b.0, &mut b.1);
+        assert!(report_the_same(&report, &other), "{report:?} and {other:?}");
+        assert!(a == b);
+        judged += usize::from(report.is_ok());
+    }
+    assert!((500..1900).contains(&judged), "{judged} bundles are right, and the others are not");
 }
 
 #[test]

@@ -1,6 +1,6 @@
 //! The workloads are what they say, at lengths far below those measured.
 use benchmark::backtracking_parser::{parse, TooManySteps};
-use benchmark::workloads::{self, backtracking, lines, texts};
+use benchmark::workloads::{self, backtracking, bundles::BUNDLES, lines, texts};
 use benchmark::{twin, workloads::building};
 use sejimakpu::{Judged, Reason, Refusal, Verdict, MAX_BUILT_IMAGE, MAX_GRAMMAR};
 
@@ -65,6 +65,20 @@ fn texts_are_read_to_their_end() {
         if n >= 300 {
             assert_eq!(twin::read_grammar(&names, &mut grammar), too_many, "{n}");
         }
+    }
+}
+
+#[test]
+fn bundles_of_all_lengths() {
+    let image = lines::workload().image;
+    for bundle in &BUNDLES {
+        let captures = bundle.make();
+        assert_eq!(captures.len(), 64);
+        let mut lengths: Vec<usize> = captures.iter().map(Vec::len).collect();
+        assert!(!lengths.is_sorted(), "short and long ones take turns");
+        lengths.sort_unstable();
+        assert_eq!((lengths[0], lengths[63]), (bundle.least, bundle.most));
+        assert!(captures.iter().all(|capture| judged(&image, capture).verdict == Verdict::Accepted));
     }
 }
 

@@ -1,5 +1,6 @@
 //! The comparing functions: what a call should have left behind and what it did, and the first difference in words.
 
+use crate::sides::raw::{Answer, Line};
 use model::answer::{Judged, Ran, Refusal};
 use std::fmt::{Debug, Display};
 
@@ -32,6 +33,18 @@ pub struct TextJudging {
     pub buffer: Vec<u8>,
 }
 
+/// What the archive's function for a bundle returned, and everything that it was lent, as numbers. The first and the last
+/// of the lines and of the totals were not lent, and stand beside what was.
+#[derive(Clone, Debug)]
+pub struct Bundling {
+    pub returned: u32,
+    pub answer: Answer,
+    pub lines: Vec<Line>,
+    pub totals: Vec<u64>,
+    pub notes: Vec<u32>,
+    pub work: Vec<u32>,
+}
+
 pub fn answers<A: PartialEq + Debug>(name: &str, expected: &A, got: &A) -> Option<String> {
     (expected != got).then(|| format!("{name}: expected {expected:?}, got {got:?}"))
 }
@@ -61,4 +74,22 @@ pub fn building(name: &str, expected: &Building, got: &Building) -> Option<Strin
 
 pub fn text_judging(expected: &TextJudging, got: &TextJudging) -> Option<String> {
     judging(&expected.judging, &got.judging).or_else(|| cells("buffer", &expected.buffer, &got.buffer))
+}
+
+pub fn bundling(expected: &Bundling, got: &Bundling) -> Option<String> {
+    let returned = |of: &Bundling| (of.returned, of.answer);
+    answers("judge bundle", &returned(expected), &returned(got))
+        .or_else(|| lines(&expected.lines, &got.lines))
+        .or_else(|| cells("totals", &expected.totals, &got.totals))
+        .or_else(|| cells("notes", &expected.notes, &got.notes))
+        .or_else(|| cells("work", &expected.work, &got.work))
+}
+
+/// Every line, those behind the last capture's too. The one before the first has number -1.
+fn lines(expected: &[Line], got: &[Line]) -> Option<String> {
+    if expected.len() != got.len() {
+        return Some(format!("expected {} lines, got {}", expected.len(), got.len()));
+    }
+    let (at, (expected, got)) = (-1..).zip(expected.iter().zip(got)).find(|(_, (expected, got))| expected != got)?;
+    answers(&format!("line {at}"), expected, got)
 }

@@ -1,12 +1,15 @@
-//! Every machine, every grammar and every text of the smallest sizes. Nothing is left to chance here: a case is a number,
-//! and its digits are the rules or the bytes.
+//! Every machine, every grammar, every text and every bundle of the smallest sizes. Nothing is left to chance here: a case is
+//! a number, and its digits are the rules or the bytes.
 
+use crate::bundles::deciding;
 use crate::edges::tools::{blank, set};
 use crate::findings::Findings;
 use crate::kinds::{grammar_on, text_on};
 use crate::rng::Rng;
 use crate::sides::{self, OldGrammar};
+use model::bundle;
 use model::image::write;
+use std::ops::RangeInclusive;
 
 /// Machines of one size, on captures of one length.
 pub struct Machines {
@@ -163,4 +166,48 @@ impl Texts {
             }
         }
     }
+}
+
+/// The lengths of the small bundles: up to three captures and some bytes for them.
+pub const BUNDLE_LENGTHS: RangeInclusive<usize> = 0..=30;
+
+/// The bytes behind the pairs, as many as fit.
+const BUNDLED: &[u8] = b"aelsaaalaeas.aasel";
+
+/// All bundles of so many bytes with up to three pairs, each number around its limits or past 32 bits.
+pub fn bundle_case(length: usize, found: &mut Findings, rng: &mut Rng) {
+    for count in [0, 1, 2, 3, 4, 64, 65, u32::MAX] {
+        let first = 4 + 8 * count as usize;
+        if count == 0 || length < first {
+            let mut bundle = bundle::write(count, &[(28, 1); 3], BUNDLED);
+            bundle.truncate(length);
+            small_bundle(found, rng, &bundle);
+            continue;
+        }
+        let pairs = some_pairs(first, length);
+        for number in 0..pairs.len().pow(count) {
+            let pair = |at| pairs[number / pairs.len().pow(at) % pairs.len()];
+            let chosen: Vec<(u32, u32)> = (0..count).map(pair).collect();
+            small_bundle(found, rng, &bundle::write(count, &chosen, &BUNDLED[..length - first]));
+            if found.differences.len() >= MANY {
+                return;
+            }
+        }
+    }
+}
+
+/// Pairs that start around the first place behind the pairs, or later, and end around the bundle's end, or before.
+fn some_pairs(first: usize, length: usize) -> Vec<(u32, u32)> {
+    let offsets = (first - 1..=length + 1).map(|offset| offset as u32).chain([0, 12, u32::MAX]);
+    let lengths = |offset: u32| {
+        // The last ones end where the pairs do and where the bundle does, past 32 bits for an offset behind that.
+        let past = [u32::MAX, (first as u32).wrapping_sub(offset), (length as u32).wrapping_sub(offset)];
+        (0..=length + 1 - first).map(|size| size as u32).chain(past)
+    };
+    offsets.flat_map(|offset| lengths(offset).map(move |size| (offset, size))).collect()
+}
+
+/// Judges with just the cells that four bytes need, so that a longer capture is refused.
+fn small_bundle(found: &mut Findings, rng: &mut Rng, bundle: &[u8]) {
+    let _ = sides::judge_bundle(found, rng, &deciding(), bundle, 12, 12);
 }

@@ -3,7 +3,7 @@
 use crate::damage::{damage, damage_rule};
 use crate::findings::Findings;
 use crate::rng::Rng;
-use crate::{compare, grammars, machines, program, sides, texts};
+use crate::{bundles, compare, grammars, machines, program, sides, texts};
 use model::answer::{Judged, Verdict};
 use model::grammar::Part;
 use model::parse::{parse, parse_from, Parsed};
@@ -31,6 +31,7 @@ pub const KINDS: &[Kind] = &[
     Kind { name: "texts", seed: 0x5e71_0008, share: 1500, case: text_case },
     Kind { name: "damaged-texts", seed: 0x5e71_0009, share: 900, case: damaged_text },
     Kind { name: "read-text", seed: 0x5e71_000a, share: 100, case: read_text_case },
+    Kind { name: "bundles", seed: 0x5e71_000b, share: 1200, case: bundles::case },
 ];
 
 /// Parsing that takes more calls is not compared: the judge has no such limit, plain recursion has.

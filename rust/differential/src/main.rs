@@ -5,6 +5,7 @@
 //! SEJIMAKPU_READ_TEXT of the one that reads texts. With a random kind and a number as arguments, or `edges` and a name,
 //! one case runs alone.
 
+mod bundles;
 mod compare;
 mod damage;
 mod edges;
@@ -30,7 +31,7 @@ use std::time::Instant;
 use std::{env, process};
 
 /// How many random cases run where SEJIMAKPU_CASES says nothing.
-const CASES: usize = 75_000;
+const CASES: usize = 82_200;
 
 fn main() -> ExitCode {
     let arguments: Vec<String> = env::args().skip(1).collect();
@@ -67,6 +68,7 @@ fn all(tally: &mut Tally, cases: usize) {
     small_machines(tally);
     small_grammars(tally);
     small_texts(tally);
+    small_bundles(tally);
     let shares: usize = KINDS.iter().map(|kind| kind.share).sum();
     for kind in KINDS {
         for case in 0..cases * kind.share / shares {
@@ -122,6 +124,16 @@ fn small_texts(tally: &mut Tally) {
             let mut rng = Rng::of_case(0x5e71_0040 + size as u64, number as u64);
             run(tally, "small-texts", &label, |found| texts.case(number, found, &mut rng));
         }
+    }
+}
+
+/// Every bundle of a few bytes, by what its count and its pairs say.
+fn small_bundles(tally: &mut Tally) {
+    for length in exhaustive::BUNDLE_LENGTHS {
+        let mut rng = Rng::of_case(0x5e71_0050, length as u64);
+        run(tally, "small-bundles", &format!("{length} bytes"), |found| {
+            exhaustive::bundle_case(length, found, &mut rng);
+        });
     }
 }
 

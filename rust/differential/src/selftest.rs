@@ -1,8 +1,13 @@
 //! The tests can fail: wrong answers made on purpose are told apart from right ones by the comparing functions.
 
-use crate::compare::{building, judging, running, text_judging, Building, Judging, Running, TextJudging};
+use crate::compare::{
+    answers, building, bundling, judging, running, text_judging, Building, Bundling, Judging, Running, TextJudging,
+};
 use crate::findings::{Findings, Tally};
+use crate::rng::Rng;
+use crate::sides::{old_bundling, put};
 use model::answer::{Config, Judged, Ran, Refusal, Verdict};
+use model::bundle::{self, Report};
 use model::{building as model_building, calls, grammar, image, plain, walk};
 use std::time::Duration;
 
@@ -96,6 +101,83 @@ fn a_wrong_judging_by_a_text_is_seen() {
     let mut wrong = right.clone();
     wrong.judging.work[0] ^= 1;
     assert!(text_judging(&right, &wrong).is_some());
+}
+
+/// C3 and C4 in one bundle with a capture for which there are too few cells, judged over old contents.
+fn right_bundling() -> (Report, Bundling) {
+    let image = model_building::build(&grammar::read(&[5, 0x61, 0x61, 0]).unwrap());
+    let bundle = bundle::write(3, &[(28, 1), (29, 1), (30, 2)], b"abaa");
+    let mut left = old_bundling(&mut Rng::of_case(1, 2), 47, 46);
+    let report = bundle::judge(
+        image::read(&image),
+        &bundle,
+        &mut left.notes,
+        &mut left.work,
+        |machine, capture, notes, work| {
+            calls::judge_answer(&walk::judge(machine, capture, 100).unwrap().outcome, notes, work)
+        },
+    );
+    put(&mut left, &report);
+    (report.unwrap(), left)
+}
+
+#[test]
+fn every_wrong_number_of_a_bundle_is_seen() {
+    let (report, right) = right_bundling();
+    assert_eq!((report.totals.accepted, report.totals.stuck, report.totals.refusals), (1, 1, 1));
+    assert_eq!(right.lines[1..4], [[0, 0, 1, 4, 2, 2, 0], [0, 0, 3, 3, 3, 1, 0], [8, 60, 0, 0, 0, 0, 0]]);
+    assert_eq!(right.totals[1..11], [0, 1, 0, 1, 0, 0, 0, 0, 1, 7]);
+    let seen = |spoil: &dyn Fn(&mut Bundling)| {
+        let mut wrong = right.clone();
+        assert_eq!(bundling(&right, &wrong), None);
+        spoil(&mut wrong);
+        bundling(&right, &wrong).is_some()
+    };
+    assert!(seen(&|wrong| wrong.returned = 18));
+    for field in 0..6 {
+        assert!(seen(&|wrong| wrong.answer[field] ^= 1));
+    }
+    // Those of the captures, those behind them, and one on either side of what was lent.
+    assert_eq!((right.lines.len(), right.totals.len()), (66, 12));
+    for (line, field) in (0..66).flat_map(|line| (0..7).map(move |field| (line, field))) {
+        assert!(seen(&|wrong| wrong.lines[line][field] ^= 1 << 63));
+    }
+    for field in 0..12 {
+        assert!(seen(&|wrong| wrong.totals[field] ^= 1 << 32));
+    }
+    for at in 0..47 {
+        assert!(seen(&|wrong| wrong.notes[at] ^= 1));
+        assert!(at == 46 || seen(&|wrong| wrong.work[at] ^= 1));
+    }
+    assert!(seen(&|wrong| wrong.lines.truncate(65)));
+}
+
+#[test]
+fn a_wrong_report_is_seen() {
+    let (right, _) = right_bundling();
+    let seen = |spoil: &dyn Fn(&mut Report)| {
+        let mut wrong = right.clone();
+        assert_eq!(answers("report", &right, &wrong), None);
+        spoil(&mut wrong);
+        answers("report", &right, &wrong).is_some()
+    };
+    assert!(seen(&|wrong| wrong.lines[1].as_mut().unwrap().readings += 1));
+    assert!(seen(&|wrong| wrong.lines[2] = Err(Refusal { number: 9, place: 60 })));
+    assert!(seen(&|wrong| wrong.lines.swap(0, 1)));
+    assert!(seen(&|wrong| wrong.lines.truncate(2)));
+    assert!(seen(&|wrong| wrong.totals.looping += 1));
+    assert!(seen(&|wrong| wrong.totals.refusals -= 1));
+    assert!(seen(&|wrong| wrong.totals.readings += 1 << 32));
+}
+
+#[test]
+fn a_refused_bundle_leaves_all_but_the_answer() {
+    let old = old_bundling(&mut Rng::of_case(3, 4), 9, 9);
+    let mut left = old.clone();
+    put(&mut left, &Err(Refusal { number: 18, place: 12 }));
+    assert_eq!((left.returned, left.answer), (18, [12, 0, 0, 0, 0, 0]));
+    (left.returned, left.answer) = (old.returned, old.answer);
+    assert_eq!(bundling(&old, &left), None);
 }
 
 #[test]

@@ -7,12 +7,12 @@ use std::fmt;
 #[derive(Clone, Copy, Debug, PartialEq, Eq, Hash)]
 pub enum Verdict {
     /// The run removed its last entry, in a final state, with the head at the end of the capture.
-    Accepted,
+    Accepted = 1,
     /// The run removed its last entry otherwise.
     Ended,
     /// The run came to a configuration that has no rule.
     Stuck,
-    /// The run has no end. Said by [`judge`](crate::judge) alone.
+    /// The run has no end. Never said by [`plain_run`](crate::plain_run).
     Looping,
     /// The budget was used up before the run's end. Said by [`plain_run`](crate::plain_run) alone.
     Spent,
@@ -32,6 +32,11 @@ impl Verdict {
             6 => Verdict::Deep,
             _ => return None,
         })
+    }
+
+    /// The number of the verdict, by which totals are counted.
+    pub(crate) fn number(self) -> usize {
+        self as usize
     }
 }
 

@@ -39,11 +39,14 @@ pub enum Reason {
     TextRules,
     /// 17: a seventeenth open parenthesis. The place is its offset.
     TextDepth,
+    /// 18: a bundle's count is not 1 to 64, or it is too short for its count and pairs: the place is 0; or a pair of offset
+    /// and length is wrong: the place is the first one's offset in the bundle.
+    Bundle,
 }
 
 impl Reason {
     /// In the order of their numbers.
-    pub(crate) const ALL: [Reason; 16] = [
+    pub(crate) const ALL: [Reason; 17] = [
         Reason::ImageShort,
         Reason::ImageDirectory,
         Reason::ImageCounts,
@@ -60,6 +63,7 @@ impl Reason {
         Reason::TextSyntax,
         Reason::TextRules,
         Reason::TextDepth,
+        Reason::Bundle,
     ];
 
     /// The reason of a number, if there is one.
@@ -94,11 +98,13 @@ impl fmt::Display for Reason {
             Reason::TextSyntax => "the text is wrong at that place, or ends early",
             Reason::TextRules => "the typed grammar needs over 31 rules",
             Reason::TextDepth => "over 16 parentheses are open at once",
+            Reason::Bundle => "a bundle's count or a pair of offset and length is wrong",
         })
     }
 }
 
-/// A refusal: nothing was judged, run, built or read, and nothing that was lent has changed.
+/// A refusal: nothing was judged, run, built or read, and nothing that was lent has changed. In a line of a
+/// [`Report`](crate::Report) it is of one capture, and the others were judged.
 #[derive(Clone, Copy, Debug, PartialEq, Eq, Hash)]
 pub struct Refusal {
     reason: Reason,
@@ -118,7 +124,7 @@ impl Refusal {
         self.reason
     }
 
-    /// The number in the table of refusals, 1 to 13 or 15 to 17.
+    /// The number in the table of refusals, 1 to 13 or 15 to 18.
     #[must_use]
     pub fn number(&self) -> u32 {
         self.reason.number()

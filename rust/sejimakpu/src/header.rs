@@ -25,6 +25,7 @@ fn verdicts() {
     let names = ["ACCEPTED", "ENDED", "STUCK", "LOOPING", "SPENT", "DEEP"];
     for (number, name) in (1..).zip(names) {
         let verdict = Verdict::of_number(number.into()).unwrap();
+        assert_eq!(verdict.number(), number as usize);
         assert_eq!(format!("{verdict:?}").to_uppercase(), name);
         named(name, number, &verdict.to_string());
     }
@@ -52,6 +53,7 @@ fn refusals() {
         "TEXT_SYNTAX",
         "TEXT_RULES",
         "TEXT_DEPTH",
+        "BUNDLE",
     ];
     assert_eq!(Reason::ALL.len(), names.len());
     // 14 is the programs' own.
@@ -62,13 +64,14 @@ fn refusals() {
         named(name, number, &reason.to_string());
     }
     assert_eq!(Reason::of_number(14), None);
-    assert_eq!(Reason::of_number(18), None);
+    assert_eq!(Reason::of_number(19), None);
 }
 
 #[test]
 fn limits() {
     for (name, number) in [
         ("MAX_CAPTURE", crate::MAX_CAPTURE),
+        ("MAX_CAPTURES", crate::MAX_CAPTURES),
         ("MAX_GRAMMAR", crate::MAX_GRAMMAR),
         ("MAX_BUILT_IMAGE", crate::MAX_BUILT_IMAGE),
     ] {

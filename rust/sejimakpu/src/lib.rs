@@ -1,8 +1,9 @@
 //! Judges console captures by two-way pointer pushdown machines.
 //!
-//! A thin, safe wrapper of the proved library: each function here is one call of it and decides nothing. What is
-//! proved, and what not, is told in the repository's README. Each gives [`Error::Refused`] where the input is not as it
-//! must be, and [`Error::Mismatch`] where another archive was linked than the one that this crate is made for.
+//! A thin, safe wrapper of the proved library: each function here but [`pack_bundle`] is one call of it and decides
+//! nothing. What is proved, and what not, is told in the repository's README. Each call gives [`Error::Refused`] where the
+//! input is not as it must be, and [`Error::Mismatch`] where another archive was linked than the one that this crate is
+//! made for.
 //!
 //! ```
 //! use sejimakpu::{Reason, Verdict};
@@ -31,16 +32,23 @@
 #![warn(missing_docs, clippy::missing_errors_doc, clippy::must_use_candidate)]
 
 mod answers;
+mod bundle;
 mod error;
 mod ffi;
 #[cfg(test)]
 mod header;
+mod pack;
 
 pub use answers::{Config, Judged, Ran, Verdict};
+pub use bundle::{judge_bundle, Lines, Report, Totals};
 pub use error::{Error, Reason, Refusal};
+pub use pack::{pack_bundle, PackError};
 
 /// The longest capture, in bytes.
 pub const MAX_CAPTURE: usize = 65_535;
+
+/// The most captures in a bundle.
+pub const MAX_CAPTURES: usize = 64;
 
 /// The longest grammar, in bytes: 31 rules.
 pub const MAX_GRAMMAR: usize = 124;
@@ -83,8 +91,7 @@ pub fn cells(image: &[u8], capture_length: usize) -> Result<usize, Error> {
 ///
 /// [`Error::Refused`]: refusals 1 to 9; a refused call changes no cell.
 pub fn judge(image: &[u8], capture: &[u8], notes: &mut [u32], work: &mut [u32]) -> Result<Judged, Error> {
-    let answer = ffi::answer_of(|answer| ffi::judge(image, capture, notes, work, answer))?;
-    Ok(Judged { verdict: answer.verdict()?, readings: answer.count()?, end: answer.config()? })
+    ffi::answer_of(|answer| ffi::judge(image, capture, notes, work, answer))?.judged()
 }
 
 /// Runs the machine step by step, at most `budget` steps, on a stack of lent cells. After an answer all cells are 0.
@@ -203,6 +210,5 @@ pub fn judge_text(
     notes: &mut [u32],
     work: &mut [u32],
 ) -> Result<Judged, Error> {
-    let answer = ffi::answer_of(|answer| ffi::judge_text(text, capture, image, notes, work, answer))?;
-    Ok(Judged { verdict: answer.verdict()?, readings: answer.count()?, end: answer.config()? })
+    ffi::answer_of(|answer| ffi::judge_text(text, capture, image, notes, work, answer))?.judged()
 }

@@ -61,8 +61,8 @@ fn refuse<T>(reason: Reason, place: usize) -> Result<T, Error> {
     Err(refused(reason, place))
 }
 
-fn number_at(image: &[u8], at: usize) -> u32 {
-    u32::from_le_bytes([image[at], image[at + 1], image[at + 2], image[at + 3]])
+pub(super) fn number_at(bytes: &[u8], at: usize) -> u32 {
+    u32::from_le_bytes([bytes[at], bytes[at + 1], bytes[at + 2], bytes[at + 3]])
 }
 
 fn check_directory(image: &[u8]) -> Result<(), Error> {

@@ -2,9 +2,9 @@
 //!
 //! What a step does is inlined into the loop: a call would keep the record in memory.
 use super::cells::{head_told, open_note, symbol_told, was_pushed, CLOSED, ENDLESS, NEW, OPEN_BIT};
-use super::check::{check, refused};
+use super::check::check;
 use super::machine::{Action, Machine};
-use sejimakpu::{Config, Error, Judged, Reason, Verdict, MAX_CAPTURE};
+use sejimakpu::{Config, Error, Judged, Reason, Refusal, Verdict, MAX_CAPTURE};
 
 const START: Config = Config { state: 0, head: 0, symbol: 0 };
 
@@ -177,13 +177,25 @@ pub(super) fn judge_by(
     work: &mut [u32],
 ) -> Result<Judged, Error> {
     check(image)?;
+    judge_capture(run, image, capture, notes, work).map_err(Error::from)
+}
+
+/// Judges by an image that has passed its check.
+#[inline(always)]
+pub(super) fn judge_capture(
+    run: Run,
+    image: &[u8],
+    capture: &[u8],
+    notes: &mut [u32],
+    work: &mut [u32],
+) -> Result<Judged, Refusal> {
     if capture.len() > MAX_CAPTURE {
-        return Err(refused(Reason::CaptureLong, capture.len()));
+        return Err(Refusal::new(Reason::CaptureLong, capture.len()));
     }
     let machine = Machine::new(image, capture);
     let cells = machine.configurations();
-    let notes = notes.get_mut(..cells).ok_or_else(|| refused(Reason::NotesShort, cells))?;
-    let work = work.get_mut(..cells).ok_or_else(|| refused(Reason::WorkShort, cells))?;
+    let notes = notes.get_mut(..cells).ok_or_else(|| Refusal::new(Reason::NotesShort, cells))?;
+    let work = work.get_mut(..cells).ok_or_else(|| Refusal::new(Reason::WorkShort, cells))?;
     Ok(cleared(run, &machine, notes, work))
 }
 
@@ -199,7 +211,7 @@ fn cleared(run: Run, machine: &Machine, notes: &mut [u32], work: &mut [u32]) -> 
     run(machine, notes, work)
 }
 
-fn run(machine: &Machine, notes: &mut [u32], work: &mut [u32]) -> Judged {
+pub(super) fn run(machine: &Machine, notes: &mut [u32], work: &mut [u32]) -> Judged {
     let mut record = Record::start();
     loop {
         if let Mode::Done(verdict) = record.mode {

@@ -3,6 +3,7 @@
 //! It is what the library would be without proofs, so it is written as one would write it: the record is changed in
 //! place, a machine is a view of the image, and the compiler's bounds checks stand where the library has proofs.
 mod build;
+mod bundle;
 mod cells;
 mod check;
 mod faults;
@@ -15,6 +16,7 @@ mod tokens;
 mod tuned;
 
 pub use build::build;
+pub use bundle::{judge_bundle, Report};
 pub use check::check;
 pub use judge::judge;
 pub use read::{build_text, judge_text, read_grammar};

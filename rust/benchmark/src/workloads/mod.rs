@@ -1,6 +1,7 @@
 //! The workloads: an image, and for each length a capture that makes the run go through all of it.
 pub mod backtracking;
 pub mod building;
+pub mod bundles;
 pub mod lines;
 pub mod looping;
 pub mod texts;

@@ -1,11 +1,13 @@
 //! The listed edges, each a case with a name. Where the document or plain counting tells the answer, it is written down
 //! here, so that the model is held against it too.
 
+mod bundles;
 mod inverted;
 mod long;
 mod numbers;
 mod program;
 mod refusals;
+mod reports;
 mod runs;
 mod sizes;
 mod table;
@@ -45,5 +47,7 @@ pub fn all() -> Vec<Edge> {
     numbers::add(&mut edges);
     program::add(&mut edges);
     texts::add(&mut edges);
+    bundles::add(&mut edges);
+    reports::add(&mut edges);
     edges.0
 }

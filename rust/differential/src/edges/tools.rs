@@ -5,6 +5,7 @@ use crate::findings::Findings;
 use crate::rng::Rng;
 use crate::sides;
 use model::answer::{Config, Judged, Refusal, Verdict};
+use model::bundle::Line;
 use model::image::{write, Parts};
 use model::{building, grammar};
 
@@ -76,8 +77,7 @@ pub fn expect(
 ) {
     let got = judge(found, rng, image, capture);
     let readings = readings.or(got.ok().map(|judged| judged.readings)).unwrap_or(0);
-    let end = Config { state: end.0, head: end.1, symbol: end.2 };
-    let told = Ok(Judged { verdict, readings, end });
+    let told = Ok(Judged { verdict, readings, end: config(end) });
     found.note(compare::answers("judge, as told", &told, &got), &[("image", image), ("capture", capture)]);
 }
 
@@ -104,4 +104,21 @@ pub fn doubling(rules: u8, kind: u8, last: [u8; 4]) -> Vec<u8> {
     let mut bytes: Vec<u8> = (1..rules).flat_map(|next| [kind, next, next, 0]).collect();
     bytes.extend(last);
     bytes
+}
+
+pub fn config((state, head, symbol): (usize, usize, usize)) -> Config {
+    Config { state, head, symbol }
+}
+
+/// A line of a machine that stays in state 0 with symbol 0.
+pub fn reported(verdict: Verdict, readings: usize, head: usize) -> Line {
+    Ok(Judged { verdict, readings, end: config((0, head, 0)) })
+}
+
+/// Judging a bundle is refused so, however many cells there are.
+pub fn bundle_refused(found: &mut Findings, rng: &mut Rng, image: &[u8], bundle: &[u8], number: u32, place: usize) {
+    for cells in [0, 40] {
+        let got = sides::judge_bundle(found, rng, image, bundle, cells, cells);
+        refused(found, "judge bundle", got, number, place);
+    }
 }

@@ -1,9 +1,15 @@
-//! The archive's functions, as `include/sejimakpu.h` declares them. All `unsafe` of the crate is here.
+//! The archive's functions, as `include/sejimakpu.h` declares them. All `unsafe` of the crate is here and in [`bundle`].
 //!
 //! What makes each call sound: a slice's pointer is never null, is aligned, and is good for the slice's length, also
 //! where that is 0; what the archive may write is borrowed by `&mut`, so that it overlaps nothing else; and the archive
 //! keeps no pointer after the call and does not unwind.
-use crate::{Config, Error, Reason, Refusal, Verdict, MAX_GRAMMAR};
+mod bundle;
+#[cfg(test)]
+mod tests;
+
+use crate::{Config, Error, Judged, Reason, Refusal, Verdict, MAX_GRAMMAR};
+
+pub(crate) use bundle::{judge_bundle, Line};
 
 /// A call's answer, field by field as in C.
 #[repr(C)]
@@ -40,10 +46,14 @@ impl Answer {
         })
     }
 
-    /// Why there is no answer, by the number that the call returned.
-    fn refusal(&self, returned: u32) -> Result<Refusal, Error> {
-        let unknown = Error::Mismatch { field: "refusal", value: returned.into() };
-        Ok(Refusal::new(Reason::of_number(returned).ok_or(unknown)?, number("place", self.place)?))
+    pub fn judged(&self) -> Result<Judged, Error> {
+        Ok(Judged { verdict: self.verdict()?, readings: self.count()?, end: self.config()? })
+    }
+
+    /// Why there is no answer, by the number of the refusal.
+    fn refusal(&self, value: u64) -> Result<Refusal, Error> {
+        let reason = u32::try_from(value).ok().and_then(Reason::of_number);
+        Ok(Refusal::new(reason.ok_or(Error::Mismatch { field: "refusal", value })?, number("place", self.place)?))
     }
 }
 
@@ -52,7 +62,7 @@ pub(crate) fn answer_of(call: impl FnOnce(&mut Answer) -> u32) -> Result<Answer,
     let mut answer = Answer::default();
     match call(&mut answer) {
         0 => Ok(answer),
-        returned => Err(answer.refusal(returned)?.into()),
+        returned => Err(answer.refusal(returned.into())?.into()),
     }
 }
 
@@ -203,122 +213,5 @@ pub(crate) fn judge_text(
             work.len(),
             answer,
         )
-    }
-}
-
-#[cfg(test)]
-mod tests {
-    use super::*;
-
-    /// What stood in the answer before: no field of an answer or of a refusal can be this.
-    const OLD: u64 = u64::MAX;
-
-    const UNWRITTEN: Answer = Answer { place: OLD, verdict: OLD, count: OLD, state: OLD, head: OLD, symbol: OLD };
-
-    /// The number returned, and every field, after a call that found old contents in the answer.
-    fn told(call: impl FnOnce(&mut Answer) -> u32) -> [u64; 7] {
-        let mut answer = UNWRITTEN;
-        let returned = call(&mut answer);
-        let Answer { place, verdict, count, state, head, symbol } = answer;
-        [returned.into(), place, verdict, count, state, head, symbol]
-    }
-
-    /// The image of the empty grammar: C1's.
-    fn image() -> [u8; 468] {
-        let mut image = [0; 468];
-        assert_eq!(told(|answer| build(&[4, 0, 0, 0], &mut image, answer)), [0, 0, 0, 468, 0, 0, 0]);
-        image
-    }
-
-    #[test]
-    fn build_writes_every_field() {
-        let mut image = [9; 467];
-        assert_eq!(told(|answer| build(&[4, 0, 0, 0], &mut image, answer)), [13, 468, 0, 0, 0, 0, 0]);
-        assert_eq!(image, [9; 467]);
-    }
-
-    #[test]
-    fn check_writes_every_field() {
-        let image = image();
-        assert_eq!(told(|answer| check(&image, answer)), [0; 7]);
-        assert_eq!(told(|answer| check(&image[..31], answer)), [1, 31, 0, 0, 0, 0, 0]);
-    }
-
-    #[test]
-    fn cells_writes_every_field() {
-        let image = image();
-        assert_eq!(told(|answer| cells(&image, 0, answer)), [0, 0, 0, 30, 0, 0, 0]);
-        assert_eq!(told(|answer| cells(&image, 65_536, answer)), [7, 65_536, 0, 0, 0, 0, 0]);
-    }
-
-    #[test]
-    fn judge_writes_every_field() {
-        let (image, mut notes, mut work) = (image(), [7; 30], [7; 30]);
-        let mut judge = |cells| told(|answer| judge(&image, &[], &mut notes[..cells], &mut work, answer));
-        assert_eq!(judge(29), [8, 30, 0, 0, 0, 0, 0]);
-        assert_eq!(judge(30), [0, 0, 1, 3, 2, 1, 0]);
-    }
-
-    #[test]
-    fn plain_run_writes_every_field() {
-        let (image, mut stack) = (image(), [7; 2]);
-        let mut run = |budget, cells| told(|answer| plain_run(&image, &[], budget, &mut stack[..cells], answer));
-        assert_eq!(run(3, 0), [10, 0, 0, 0, 0, 0, 0]);
-        assert_eq!(run(3, 2), [0, 0, 1, 3, 2, 1, 0]);
-        assert_eq!(run(2, 2), [0, 0, 5, 2, 2, 1, 0]);
-        assert_eq!(run(3, 1), [0, 0, 6, 0, 0, 0, 0]);
-    }
-
-    #[test]
-    fn read_grammar_writes_every_field() {
-        let mut grammar = [9; MAX_GRAMMAR];
-        let mut read = |text: &[u8]| told(|answer| read_grammar(text, &mut grammar, answer));
-        assert_eq!(read(b"a=b;"), [15, 2, 0, 0, 0, 0, 0]);
-        assert_eq!(read(b"a=.++++++++;"), [16, 12, 0, 0, 0, 0, 0]);
-        assert_eq!(read(b"a=((((((((((((((((("), [17, 18, 0, 0, 0, 0, 0]);
-        assert_eq!(read(b"a=.;"), [0, 0, 0, 4, 0, 0, 0]);
-        assert_eq!((&grammar[..4], &grammar[4..]), (&[5, 0, 255, 0][..], &[9; 120][..]));
-    }
-
-    #[test]
-    fn build_text_writes_every_field() {
-        let mut lent = [9; 468];
-        let mut built = |text: &[u8], room| told(|answer| build_text(text, &mut lent[..room], answer));
-        assert_eq!(built(b"", 468), [15, 0, 0, 0, 0, 0, 0]);
-        assert_eq!(built(b"a=empty;", 467), [13, 468, 0, 0, 0, 0, 0]);
-        assert_eq!(built(b"a=empty;", 468), [0, 0, 0, 468, 0, 0, 0]);
-        assert_eq!(lent, image());
-    }
-
-    #[test]
-    fn judge_text_writes_every_field() {
-        let (mut lent, mut notes, mut work) = ([9; 468], [7; 30], [7; 30]);
-        let mut judged = |text: &[u8], room, cells| {
-            told(|answer| judge_text(text, &[], &mut lent[..room], &mut notes[..cells], &mut work, answer))
-        };
-        assert_eq!(judged(b"a=empty", 468, 30), [15, 7, 0, 0, 0, 0, 0]);
-        assert_eq!(judged(b"a=empty;", 467, 30), [13, 468, 0, 0, 0, 0, 0]);
-        assert_eq!(judged(b"a=empty;", 468, 29), [8, 30, 0, 0, 0, 0, 0]);
-        assert_eq!(judged(b"a=empty;", 468, 30), [0, 0, 1, 3, 2, 1, 0]);
-        assert_eq!(lent, image());
-    }
-
-    /// What another archive might give is an error, and no panic.
-    #[test]
-    fn unknown_numbers_are_a_mismatch() {
-        let of = |field, value| Error::Mismatch { field, value };
-        for verdict in [0, 7, OLD] {
-            assert_eq!(Answer { verdict, ..UNWRITTEN }.verdict(), Err(of("verdict", verdict)));
-        }
-        assert_eq!(UNWRITTEN.count::<u32>(), Err(of("count", OLD)));
-        let zero = Answer::default();
-        assert_eq!(Answer { state: 1 << 32, ..zero }.config(), Err(of("state", 1 << 32)));
-        assert_eq!(Answer { head: 1 << 32, ..zero }.config(), Err(of("head", 1 << 32)));
-        assert_eq!(Answer { symbol: 1 << 32, ..zero }.config(), Err(of("symbol", 1 << 32)));
-        for unknown in [14, 18, u32::MAX] {
-            assert_eq!(answer_of(|_| unknown).err(), Some(of("refusal", unknown.into())));
-        }
-        assert_eq!(answer_of(|_| 13).err(), Some(Refusal::new(Reason::ImageBufferShort, 0).into()));
-        assert_eq!(answer_of(|_| 17).err(), Some(Refusal::new(Reason::TextDepth, 0).into()));
     }
 }

@@ -1,12 +1,19 @@
 //! The two sides of a comparison: each function here calls the library and the model with the same inputs and the same
 //! lent cells, and notes a difference.
 
+mod bundle;
+pub mod raw;
+
 use crate::compare::{self, Building, Judging, Running, TextJudging};
 use crate::findings::Findings;
 use crate::rng::Rng;
 use model::answer::{Config, Judged, Ran, Refusal, Verdict};
 use model::machine::Machine;
 use model::{calls, image, summary, walk};
+
+pub use bundle::{judge_bundle, pack_bundle};
+#[cfg(test)]
+pub use bundle::{old_bundling, put};
 
 /// Runs up to so many steps are judged by walking too.
 const WALK_LIMIT: usize = 100_000;
