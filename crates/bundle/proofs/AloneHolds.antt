@@ -1,7 +1,7 @@
 -- Captures judged in order are captures judged alone: the lines are those of each alone on the cells as they were lent, and the cells are a fold over what each writes. Assumes nothing.
 use mathlib.Core.Path.{_≡_, refl, sym, ap, _∙_}
 use mathlib.Core.List.{List, [], _∷_, _++_, map}
-use Prim.Native.Nat.{ℕ, zero, suc, _≤_}
+use Prim.Native.Nat.{ℕ, suc, _≤_}
 use native.Mathlib.Decide.{ℕ-discrete}
 use native.Mathlib.Omega.{arith}
 use lib.ListN.{length, take, drop, replicate, length-replicate}
@@ -12,25 +12,14 @@ use Rattle.image.specs.Image.{machine}
 use Rattle.simulator.specs.declared.Judged.{Judged}
 use Rattle.simulator.specs.declared.Judged.the-variants.{Refused, Answer}
 use Rattle.simulator.specs.declared.Judgement.{Judgement}
-use Rattle.simulator.specs.Calls.{judge-refusal, Judged-right, Judge-as, Judge-says}
+use Rattle.simulator.specs.Calls.{judge-refusal, Judged-right, Judge-says}
 use Rattle.simulator.proofs.Answered.{judged-right, judged-refused}
+use Rattle.simulator.proofs.JudgeRefusals.{as-refused, as-right}
 use Rattle.simulator.proofs.Determined.{judge-determined}
 use Rattle.bundle.specs.Format.{count, capture}
 use Rattle.bundle.specs.Calls.{In-order, done, next}
 use Rattle.bundle.specs.Alone.{Alone, done as none-left, refused, answered, written-over}
-use Rattle.bundle.proofs.InOrder.{lengths-kept}
-
--- the contract from its cases
-says-refused : (k : ℕ) (f : Refusal) (bs cs a b : List ℕ) → (k ≡ 0 → ⊥) → Judge-as k f bs cs (Refused f) a a b b
-unfolding Judge-as
-says-refused zero f bs cs a b n = absurd (n refl)
-says-refused (suc k) f bs cs a b n = (refl, refl, refl)
-
-says-right :
-    (k : ℕ) (f : Refusal) (bs cs : List ℕ) (r : Judged) (a x b y : List ℕ) → k ≡ 0 → Judged-right bs cs r a x b y → Judge-as k f bs cs r a x b y
-unfolding Judge-as
-says-right zero f bs cs r a x b y e s = s
-says-right (suc k) f bs cs r a x b y e s = absurd (omega arith)
+use Rattle.simulator.proofs.LengthsKept.{lengths-kept}
 
 -- ONE CAPTURE on the cells c and d, and alone on a and b
 data Step (bs cs a b : List ℕ) (r : Judged) (c c-now d d-now : List ℕ) : Type 0 where
@@ -54,7 +43,7 @@ step bs cs a b r c c-now d d-now p q s = go (ℕ-discrete (judge-refusal bs cs (
     go (no n) =
         let f = judged-refused bs cs r c c-now d d-now n s in
         step-refused (judge-refusal bs cs (length a) (length b)) (f .0 ∙ ap Refused same)
-        (says-refused (judge-refusal bs cs (length a) (length b) .number) (judge-refusal bs cs (length a) (length b)) bs cs a b (λ e. n (ap (λ (z : Refusal). z .number) same ∙ e)))
+        (as-refused (judge-refusal bs cs (length a) (length b) .number) (λ e. n (ap (λ (z : Refusal). z .number) same ∙ e)) bs cs a b refl)
         (f .1) (f .2)
     go (yes e) =
         let f = judged-right bs cs r c c-now d d-now e s in
@@ -66,8 +55,7 @@ step bs cs a b r c c-now d d-now p q s = go (ℕ-discrete (judge-refusal bs cs (
         in
         let alone′ : Judged-right bs cs (Answer (f .judgement)) a (ns ++ drop (length ns) a) b (f .work ++ drop n b) = rw long alone in
         step-answered (f .judgement) ns (f .work ++ drop n b) (f .answers) long
-        (says-right (judge-refusal bs cs (length a) (length b) .number) (judge-refusal bs cs (length a) (length b)) bs cs (Answer (f .judgement)) a
-        (ns ++ drop (length ns) a) b (f .work ++ drop n b) (ap (λ (z : Refusal). z .number) (sym same) ∙ e) alone′)
+        (as-right (judge-refusal bs cs (length a) (length b) .number) (ap (λ (z : Refusal). z .number) (sym same) ∙ e) (judge-refusal bs cs (length a) (length b)) bs cs alone′)
         (rw long (f .notes-now)) (rw (length-replicate {A = ℕ} (length ns) 0, long) (f .work-now ∙ ap (λ (w : List ℕ). w ++ drop n d) (f .right .work-zero)))
 
 -- FROM CAPTURE i ON

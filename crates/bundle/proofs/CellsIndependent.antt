@@ -15,7 +15,7 @@ use Rattle.simulator.proofs.Determined.{judge-independent}
 use Rattle.bundle.specs.declared.Report.{Report}
 use Rattle.bundle.specs.Format.{count, capture, call-refusal}
 use Rattle.bundle.specs.Calls.{In-order, done, next, Bundle-says}
-use Rattle.bundle.proofs.InOrder.{lengths-kept}
+use Rattle.simulator.proofs.LengthsKept.{lengths-kept}
 use Rattle.bundle.proofs.BundleSaid.{bundle-judged}
 
 -- two lists agree in a cell

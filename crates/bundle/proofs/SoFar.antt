@@ -17,7 +17,7 @@ use Rattle.bundle.specs.Calls.{In-order, done, next, Bundle-judged}
 use Rattle.bundle.specs.code.Judging.{Listed, Call-checked, Room-after, with-line}
 use Rattle.bundle.proofs.LineCells.{lines-long as cells-of-lines}
 use Rattle.bundle.proofs.LinesWritten.{line-behind}
-use Rattle.bundle.proofs.InOrder.{lengths-kept}
+use Rattle.simulator.proofs.LengthsKept.{lengths-kept}
 use Rattle.bundle.proofs.Adding.{room-added, room-for}
 use Rattle.bundle.proofs.FewReadings.{readings-few}
 

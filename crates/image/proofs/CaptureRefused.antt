@@ -2,6 +2,7 @@
 use mathlib.Core.Path.{_≡_}
 use mathlib.Core.List.{List}
 use Prim.Native.Nat.{ℕ, _<_, _≤_}
+use lib.Dec.{ltb}
 use lib.ListN.{length}
 use borrow.Author.Tests.{lt-ltb, le-ltb, ltb-false, eq-eqb, ne-eqb}
 use Rattle.refusal.specs.declared.Refusal.{Refusal}
@@ -30,6 +31,10 @@ module _ (bs : List ℕ) (n : ℕ) (f : Refusal) (e : f ≡ image-refusal bs) wh
   image-first h = simp (← e, ne-eqb _ _ h)
 
   module _ (good : f .number ≡ 0) where
+    pub then-length : {g : Refusal} → g ≡ refuse-if (ltb Format.max-capture n) (refusal 7 n) → g ≡ capture-refusal bs n
+    unfolding capture-refusal or-else
+    then-length q = simp (← e, eq-eqb _ _ good) q
+
     pub then-long : Format.max-capture < n → refusal 7 n ≡ capture-refusal bs n
     unfolding capture-refusal or-else refuse-if
     then-long h = simp (← e, eq-eqb _ _ good, lt-ltb _ _ h)

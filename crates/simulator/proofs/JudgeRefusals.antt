@@ -3,6 +3,7 @@ use mathlib.Core.Path.{_≡_, refl, sym, ap, _∙_}
 use mathlib.Core.List.{List, _++_}
 use Prim.Native.Nat.{ℕ, zero, suc, _<_, _≤_}
 use native.Mathlib.Omega.{arith}
+use lib.Dec.{ltb}
 use lib.ListN.{length, take, drop}
 use lib.Seq.{length-take-le}
 use borrow.Author.Tests.{lt-ltb, le-ltb, eq-eqb, ne-eqb}
@@ -10,7 +11,7 @@ use Rattle.refusal.specs.declared.Refusal.{Refusal}
 use Rattle.machine.specs.Run.{how-many}
 use Rattle.codec.specs.Bytes.{byte}
 use Rattle.image.specs.Image.{machine}
-use Rattle.image.proofs.CaptureRefused.{unrefused-by, image-first, then-long, then-fine}
+use Rattle.image.proofs.CaptureRefused.{unrefused-by, image-first, capture-fine, then-length}
 use Rattle.refusal.specs.First.{refusal, no-refusal, or-else, refuse-if}
 use Rattle.image.specs.Format
 use Rattle.image.specs.Refusals.{image-refusal, capture-refusal}
@@ -19,7 +20,7 @@ use Rattle.simulator.specs.declared.Judged.{Judged}
 use Rattle.simulator.specs.declared.Judged.the-variants.{Refused, Answer}
 use Rattle.simulator.specs.code.Checked.{Checked, Sized}
 use Rattle.simulator.proofs.Needing.{cells-are}
-use Rattle.simulator.specs.Calls.{cells-needed, judge-refusal, Judgement-right, Judge-as, Judge-says}
+use Rattle.simulator.specs.Calls.{cells-needed, judge-refusal, Judgement-right, Judged-right, Judge-as, Judge-says}
 
 module _ (bs cs : List ℕ) (a b : ℕ) where
   pub cells-refused : (capture-refusal bs (length cs) .number ≡ 0 → ⊥) → judge-refusal bs cs a b ≡ capture-refusal bs (length cs)
@@ -40,12 +41,19 @@ module _ (bs cs : List ℕ) (a b : ℕ) where
       unfolding judge-refusal or-else refuse-if
       not-refused h = rw (eq-eqb _ _ fine-so-far, le-ltb _ _ enough, le-ltb _ _ h)
 
--- what the call says: a refusal with its cells as they were
-as-refused :
+-- what the call says: a refusal with its cells as they were, or a right answer
+pub as-refused :
     (n : ℕ) → (n ≡ 0 → ⊥) → (bs cs x y : List ℕ) {r : Judged} {f : Refusal} → r ≡ Refused f → Judge-as n f bs cs r x x y y
 unfolding Judge-as
 as-refused zero h bs cs x y e = absurd (h refl)
 as-refused (suc n) h bs cs x y e = (e, refl, refl)
+
+pub as-right :
+    (n : ℕ) → n ≡ 0 → (f : Refusal) (bs cs : List ℕ) {r : Judged} {a x b y : List ℕ} → Judged-right bs cs r a x b y →
+    Judge-as n f bs cs r a x b y
+unfolding Judge-as
+as-right zero e f bs cs s = s
+as-right (suc n) e f bs cs s = absurd (omega (arith, e))
 
 refused-says :
     (bs cs x y : List ℕ) {r : Judged} {f : Refusal} → judge-refusal bs cs (length x) (length y) ≡ f → (f .number ≡ 0 → ⊥) →
@@ -69,13 +77,15 @@ checked bs cs x y {n} sized bytes h k =
     }
 
 -- image and capture are not refused, and so many cells are needed for them
-pub sized :
-    {bs cs : List ℕ} {n : ℕ} → image-refusal bs .number ≡ 0 → length cs ≤ Format.max-capture → n ≡ cells-needed bs (length cs) → Sized bs cs n
-sized {bs} {cs} good short counted =
-    record {
-      no-refusal = ap (λ (f : Refusal). f .number) (sym (then-fine bs (length cs) (image-refusal bs) refl good short));
-      counted = counted;
-    }
+module _ (bs : List ℕ) (n : ℕ) (good : image-refusal bs .number ≡ 0) {f : Refusal} (q : f ≡ refuse-if (ltb Format.max-capture n) (refusal 7 n)) (none : f .number ≡ 0) where
+  length-fine : capture-refusal bs n .number ≡ 0
+  length-fine = ap (λ (g : Refusal). g .number) (sym (then-length bs n (image-refusal bs) refl good q)) ∙ none
+
+  pub length-short : (image-refusal bs .number ≡ 0) × (n ≤ Format.max-capture)
+  length-short = capture-fine bs n length-fine
+
+  pub sized : (cs : List ℕ) → n ≡ length cs → {k : ℕ} → k ≡ cells-needed bs n → Sized bs cs k
+  sized cs e counted = record { no-refusal = rw (← e) length-fine; counted = rw (← e) counted }
 
 module _ (bs cs x y : List ℕ) {r : Judged} where
   early-says : {f : Refusal} → f ≡ capture-refusal bs (length cs) → (f .number ≡ 0 → ⊥) → r ≡ Refused f → Judge-says bs cs r x x y y
@@ -87,8 +97,9 @@ module _ (bs cs x y : List ℕ) {r : Judged} where
   image-says {f} e some q = early-says (image-first bs (length cs) f e some) some q
 
   pub long-says :
-      image-refusal bs .number ≡ 0 → Format.max-capture < length cs → r ≡ Refused (refusal 7 (length cs)) → Judge-says bs cs r x x y y
-  long-says good h q = early-says (then-long bs (length cs) (image-refusal bs) refl good h) (λ z. omega arith) q
+      image-refusal bs .number ≡ 0 → {f : Refusal} → f ≡ refuse-if (ltb Format.max-capture (length cs)) (refusal 7 (length cs)) →
+      (f .number ≡ 0 → ⊥) → r ≡ Refused f → Judge-says bs cs r x x y y
+  long-says good {f} q some e = early-says (then-length bs (length cs) (image-refusal bs) refl good q) some e
 
   module _ {n : ℕ} (sized : Sized bs cs n) where
     pub notes-says : length x < n → r ≡ Refused (refusal 8 n) → Judge-says bs cs r x x y y

@@ -8,4 +8,5 @@ pub mod JudgeRefusals
 pub mod Determined
 pub mod ConditionsMet
 pub mod Answered
+pub mod LengthsKept
 pub mod JudgingRight

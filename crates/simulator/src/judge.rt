@@ -9,7 +9,6 @@ use chain::Registers;
 use chain::numbers::reciprocals_of;
 use chain::step::step;
 use image::Sizes;
-use image::format::MAX_CAPTURE;
 use image::format::STATES_OFFSET;
 use image::format::SYMBOLS_OFFSET;
 use image::lookup;
@@ -17,6 +16,7 @@ use machine::Config;
 use refusal::Refusal;
 use validator::check::capture_refusal;
 use validator::check::first_refusal;
+use validator::check::length_refusal;
 ghost use mathlib.Core.Path.{_≡_};
 ghost use Prim.Native.Nat.{_≤_};
 ghost use lib.ListN.{length, replicate};
@@ -166,8 +166,9 @@ pub fn judge_by_checked(image: &[u8], capture: &[u8], notes: &mut [u32], work: &
         (now (notes .entry)) (now (notes .exit)) (now (work .entry)) (now (work .exit)) ⌝ }
 {
     let long = capture.len();
-    if MAX_CAPTURE < long {
-        return refused(7, long);
+    let refusal = length_refusal(long);
+    if refusal.number != 0 {
+        return Judged::Refused(refusal);
     }
     judge_sized(image, capture, cells_needed(image, long), notes, work)
 }

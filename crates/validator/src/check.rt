@@ -29,8 +29,8 @@ ghost use Prim.Native.Nat.{_+_, _*_, _^_, _<_, _≤_};
 ghost use lib.Dec.{ltb};
 ghost use lib.ListN.{length};
 ghost use Rattle.codec.specs.Numbers.{pair-width};
-ghost use Rattle.image.specs.Format.{map-offset, map-length, rules-offset, max-states};
-ghost use Rattle.refusal.specs.First.{refusal, no-refusal};
+ghost use Rattle.image.specs.Format.{map-offset, map-length, rules-offset, max-states, max-capture};
+ghost use Rattle.refusal.specs.First.{refusal, no-refusal, refuse-if};
 ghost use Rattle.image.specs.Refusals.{pair-is, directory as directory-of, count-wrong, counts as counts-of, map-from, rule-count, body-refusal, image-refusal, capture-refusal};
 ghost use Rattle.refusal.specs.Checking.{checked};
 ghost use Rattle.validator.specs.code.Checking.{Counts-checked};
@@ -237,14 +237,10 @@ pub fn check_image(image: &[u8]) -> Checked
     }
 }
 
-// The first refusal of 1 to 7, of an image and a capture of n bytes, or number 0.
-pub fn capture_refusal(image: &[u8], n: usize) -> Refusal
-    ensures { λ r. ⌜ r ≡ capture-refusal (now (image .entry)) n ⌝ }
+// Refusal 7, of a capture of n bytes, or number 0.
+pub fn length_refusal(n: usize) -> Refusal
+    ensures { λ r. ⌜ r ≡ refuse-if (ltb max-capture n) (refusal 7 n) ⌝ }
 {
-    let refusal = first_refusal(image);
-    if refusal.number != 0 {
-        return refusal;
-    }
     if MAX_CAPTURE < n {
         return Refusal {
             number: 7,
@@ -255,4 +251,15 @@ pub fn capture_refusal(image: &[u8], n: usize) -> Refusal
         number: 0,
         place: 0,
     }
+}
+
+// The first refusal of 1 to 7, of an image and a capture of n bytes, or number 0.
+pub fn capture_refusal(image: &[u8], n: usize) -> Refusal
+    ensures { λ r. ⌜ r ≡ capture-refusal (now (image .entry)) n ⌝ }
+{
+    let refusal = first_refusal(image);
+    if refusal.number != 0 {
+        return refusal;
+    }
+    length_refusal(n)
 }

@@ -1,20 +1,28 @@
 -- `simulator::judge::judge_by_checked` meets its contract. Assumes nothing.
-use Rattle.simulator.proofs.JudgeRefusals.{long-says, sized}
+use mathlib.Core.Path.{refl}
+use Rattle.simulator.proofs.JudgeRefusals.{length-short, sized, long-says}
 use borrow.Author.Needs.{needs}
 use Rattle.simulator.proofs.judge.judge_by_checked.Statement.{statement}
 use Rattle.simulator.proofs.judge.judge_by_checked.Tie as tie
 
-refused-requires : tie.Need-refused-requires
-refused-requires c κs = search needs
+length-refusal-requires : tie.Need-length-refusal-requires
+length-refusal-requires c κs = search needs
 
 returns : tie.Need-returns
-returns c = long-says _ _ _ _ (c .before .before .before .before .before .before .pre) (c .before .if1 .taken) (c .refused .ensures)
+returns c =
+    let back4 = c .before .before .before .before in
+    long-says _ _ _ _ (back4 .before .before .before .pre) (c .before .before .length-refusal .ensures) (c .if1 .taken) refl
 
 cells-needed-requires : tie.Need-cells-needed-requires
-cells-needed-requires c κs = search needs
+cells-needed-requires c κs =
+    let back4 = c .before .before .before .before in
+    length-short _ _ (back4 .before .before .before .pre) (c .before .before .length-refusal .ensures) (c .if1 .left)
 
 judge-sized-requires : tie.Need-judge-sized-requires
-judge-sized-requires c κs = sized (c .before .before .before .before .before .before .before .before .pre) (c .before .before .before .if1 .left) (c .before .before .cells-needed .ensures)
+judge-sized-requires c κs =
+    let back4 = c .before .before .before .before in
+    let back8 = back4 .before .before .before .before in
+    sized _ _ (back8 .before .before .pre) (back4 .before .length-refusal .ensures) (c .before .before .before .if1 .left) _ refl (c .before .before .cells-needed .ensures)
 
 same-length : tie.Need-same-length
 same-length c = search needs
@@ -29,7 +37,7 @@ pub judge-by-checked-spec : {M : Type 1} → statement M
 judge-by-checked-spec =
     tie.close
     (tie.spec
-    refused-requires
+    length-refusal-requires
     returns
     cells-needed-requires
     judge-sized-requires
