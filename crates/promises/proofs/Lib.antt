@@ -1,3 +1,5 @@
 -- The proofs of the promises: each cites the crate that proves it.
 pub mod Told
+pub mod NotLooping
+pub mod TextNotLooping
 pub mod Proved

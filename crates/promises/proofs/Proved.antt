@@ -41,6 +41,7 @@ use Rattle.syntax.proofs.ReadingExact.{unambiguous, reading-exact}
 use Rattle.syntax_theory.proofs.TypedRight.{typed-right}
 use Rattle.typed.proofs.ReadRight.{nothing-read, good-read, read-determined}
 use Rattle.typed.proofs.Determined.{build-text-determined, build-text-independent, judge-text-determined, judge-text-independent}
+use Rattle.typed.proofs.RecursionDetermined.{text-recursion-determined}
 use Rattle.typed.proofs.TypedJudged.{typed-accepts, typed-stuck, typed-loops, typed-judged}
 use Rattle.bundle.proofs.BundleConditions.{bundle-answer, call-answer, captures-inside}
 use Rattle.bundle.proofs.AloneHolds.{as-alone}
@@ -51,7 +52,18 @@ use Rattle.bundle.proofs.Reporting.{bundle-refuses, bundle-answers, bundle-dete
 use Rattle.worked_examples.proofs.ExamplesHold.{examples-hold, c1-image, c1-cells, c1-plain-runs}
 use Rattle.worked_examples.proofs.ProgramPrints.{endless-printed}
 use Rattle.worked_examples.proofs.BundlesHold.{bundle-examples, capture-example, totals-example, cells-example}
+use Rattle.worked_examples.proofs.RecursionHolds.{recursion-examples}
+use Rattle.grammar.specs.Grammar.{rules, expression}
+use Rattle.grammar.proofs.GrammarGood.{good-grammar}
+use Rattle.recursion.proofs.NothingLeast.{nothing-exact, nothing-least}
+use Rattle.recursion.proofs.ClosureRight.{leads-on-exact}
+use Rattle.recursion.proofs.RecursionRows.{recursion-answer}
+use Rattle.recursion_theory.proofs.Consumed.{nothing-matched}
+use Rattle.recursion_theory.proofs.FirstParts.{no-result, met-loops}
+use Rattle.recursion_theory.proofs.Harmless.{fails-first-harmless, never-reached-harmless}
 use Rattle.promises.specs.Promises.{Promises}
+use Rattle.promises.proofs.NotLooping.{never-looping, judged-not-looping, line-not-looping, bundle-not-looping}
+use Rattle.promises.proofs.TextNotLooping.{recursion-named, typed-results, text-not-looping}
 use Rattle.promises.proofs.Told.{judge-refuses, run-refuses, build-refuses, answer-refuses, build-text-refuses, judge-text-refuses, judge-answers, run-answers, accepted-told, line-accepted}
 
 pub promises : Promises
@@ -167,4 +179,21 @@ promises =
       capture-example = capture-example;
       totals-example = totals-example;
       cells-example = cells-example;
+      recursion-refused = recursion-answer;
+      nothing-exact = λ gs k good h. nothing-exact (expression gs) (rules gs) (good-grammar gs good .parts) k h;
+      nothing-least = nothing-least;
+      nothing-matched = nothing-matched;
+      leads-exact = λ gs k l good h. leads-on-exact gs good k l h;
+      never-looping = never-looping;
+      judged-not-looping = judged-not-looping;
+      line-not-looping = line-not-looping;
+      bundle-not-looping = bundle-not-looping;
+      text-recursion-determined = text-recursion-determined;
+      recursion-named = recursion-named;
+      typed-results = typed-results;
+      text-not-looping = text-not-looping;
+      tried-first-fails = λ E k back cs i o. no-result back cs i o;
+      tried-first-endless = met-loops;
+      recursion-harmless = (fails-first-harmless, never-reached-harmless);
+      recursion-examples = recursion-examples;
     }

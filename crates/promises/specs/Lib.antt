@@ -5,4 +5,5 @@ pub mod ThirdDemand
 pub mod Users
 pub mod Typed
 pub mod Bundles
+pub mod Recursion
 pub mod Promises

@@ -5,6 +5,7 @@ use Rattle.promises.specs.ThirdDemand as Third
 use Rattle.promises.specs.Users as Users
 use Rattle.promises.specs.Typed as Typed
 use Rattle.promises.specs.Bundles as Bundles
+use Rattle.promises.specs.Recursion as Recursion
 
 pub record Promises : Type 0 where
   -- the first demand: refusals, and what follows from the input alone
@@ -123,3 +124,21 @@ pub record Promises : Type 0 where
   pub capture-example : Bundles.Capture-example
   pub totals-example : Bundles.Totals-example
   pub cells-example : Bundles.Cells-example
+  -- left recursion found before the shift
+  pub recursion-refused : Recursion.Recursion-refused
+  pub nothing-exact : Recursion.Nothing-exact
+  pub nothing-least : Recursion.Nothing-least
+  pub nothing-matched : Recursion.Nothing-matched
+  pub leads-exact : Recursion.Leads-exact
+  pub never-looping : Recursion.Never-looping
+  pub judged-not-looping : Recursion.Judged-not-looping
+  pub line-not-looping : Recursion.Line-not-looping
+  pub bundle-not-looping : Recursion.Bundle-not-looping
+  pub text-recursion-determined : Recursion.Text-recursion-determined
+  pub recursion-named : Recursion.Recursion-named
+  pub typed-results : Recursion.Typed-results
+  pub text-not-looping : Recursion.Text-not-looping
+  pub tried-first-fails : Recursion.Tried-first-fails
+  pub tried-first-endless : Recursion.Tried-first-endless
+  pub recursion-harmless : Recursion.Recursion-harmless
+  pub recursion-examples : Recursion.Recursion-examples

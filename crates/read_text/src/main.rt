@@ -1,17 +1,21 @@
-// The program: reads a typed grammar from standard input, and writes the grammar's bytes, or the line of a refusal.
+// The program: reads a typed grammar from standard input, and writes the grammar's bytes, or the line of a refusal. With an argument it writes the line of what the check for left recursion says.
 use reader::reading::read;
 use refusal::Refusal;
+use text::put_passes;
+use text::put_recursion;
 use text::put_refusal;
 use transfer::Stop;
 use transfer::cut_short;
 use transfer::failed;
 use transfer::read_on;
 use transfer::write_on;
-ghost use Prim.Native.Nat.{_≤_};
-ghost use lib.ListN.{length, take};
-ghost use Rattle.text.specs.Line.{refusal-line};
+use typed::left_recursion::TextRecursion;
+use typed::left_recursion::check_text_recursion;
+ghost use mathlib.Core.Bool.{true, false};
+ghost use lib.ListN.{take};
+ghost use Rattle.text.specs.Line.{refusal-line, recursion-line, passes-line};
 ghost use Rattle.refusal.specs.First.{refusal};
-ghost use Rattle.read_text.specs.Program.{max-text, Holds, Buffer, Text-says, Writes};
+ghost use Rattle.read_text.specs.Program.{Holds, Buffer, Text-says, Writes};
 
 // The longest text, in bytes.
 const MAX_TEXT: usize = 65536;
@@ -49,10 +53,39 @@ fn unread() -> Output
     no_text()
 }
 
-// What is written for a text that is not too long: its grammar's bytes, or its refusal's line.
+// The line of a grammar with no rule that leads back to itself.
+fn passing() -> Output
+    ensures { λ r. ⌜ Holds r passes-line ⌝ }
+{
+    let mut bytes = [0u8; 124];
+    let length = put_passes(&mut bytes);
+    Output { bytes, length }
+}
+
+// The line of a rule that leads back to itself, and of its line's name.
+fn recursive(rule: usize, name: usize) -> Output
+    ensures { λ r. ⌜ Holds r (recursion-line rule name) ⌝ }
+{
+    let mut bytes = [0u8; 124];
+    let length = put_recursion(&mut bytes, rule, name);
+    Output { bytes, length }
+}
+
+// What is written for a text that is checked.
+fn check_of_text(text: &[u8]) -> Output
+    ensures { λ r. ⌜ Text-says true (now (text .entry)) r ⌝ }
+{
+    let checked = check_text_recursion(text);
+    match checked {
+        TextRecursion::Passes => passing(),
+        TextRecursion::Refused(refusal) => refused(refusal),
+        TextRecursion::Recursive(rule, name) => recursive(rule, name),
+    }
+}
+
+// What is written for a text that is read: its grammar's bytes, or its refusal's line.
 fn output_of_text(text: &[u8]) -> Output
-    requires { ⌜ length (now text) ≤ max-text ⌝ }
-    ensures { λ r. ⌜ Text-says (now (text .entry)) r ⌝ }
+    ensures { λ r. ⌜ Text-says false (now (text .entry)) r ⌝ }
 {
     let answer = read(text);
     let refusal = answer.refusal;
@@ -65,9 +98,9 @@ fn output_of_text(text: &[u8]) -> Output
 }
 
 // What is written for the input that stands at the start of its buffer, by how reading it stopped.
-fn output_of(input: &[u8], stop: Stop) -> Output
+fn output_of(input: &[u8], stop: Stop, checks: bool) -> Output
     requires { ⌜ Buffer (now input) stop ⌝ }
-    ensures { λ r. ⌜ Writes (stop .last) (take (stop .count) (now (input .entry))) r ⌝ }
+    ensures { λ r. ⌜ Writes checks (stop .last) (take (stop .count) (now (input .entry))) r ⌝ }
 {
     if failed(stop) {
         return unread();
@@ -76,6 +109,9 @@ fn output_of(input: &[u8], stop: Stop) -> Output
     if MAX_TEXT < count {
         return no_text();
     }
+    if checks {
+        return check_of_text(&input[..count]);
+    }
     output_of_text(&input[..count])
 }
 
@@ -83,7 +119,8 @@ fn output_of(input: &[u8], stop: Stop) -> Output
 fn main() {
     let mut input = [0u8; 65537];
     let stop = read_on(&mut input);
-    let output = output_of(&input, stop);
+    let checks = 1 < os::arg_count();
+    let output = output_of(&input, stop, checks);
     let bytes = output.bytes;
     let long = output.length;
     let end = write_on(&bytes[..long]);

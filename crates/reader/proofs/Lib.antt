@@ -13,4 +13,5 @@ pub mod Ways
 pub mod Tables
 pub mod Lining
 pub mod AllLines
+pub mod Owning
 pub mod ReadRight

@@ -128,6 +128,7 @@ pub fn lines_at(text: &[u8], at: usize, lines: usize) -> Lines
         next: lines,
         left: 0,
     };
+    let mut ends = [0u8; 31];
     let mut place = at;
     let mut k: usize = 0;
     while k < lines {
@@ -137,13 +138,17 @@ pub fn lines_at(text: &[u8], at: usize, lines: usize) -> Lines
             return Lines {
                 fits: false,
                 rules: all_rules(bytes, numbering),
+                ends,
             };
         }
+        let next = numbering.next;
+        ends[k] = next as u8;
         place = read.at;
         k += 1;
     }
     Lines {
         fits: true,
         rules: all_rules(bytes, numbering),
+        ends,
     }
 }

@@ -5,6 +5,7 @@ pub mod emitter;
 pub mod expressions;
 pub mod lookahead;
 pub mod operators;
+pub mod owners;
 pub mod reading;
 
 use refusal::Refusal;
@@ -54,10 +55,11 @@ pub struct LineRead {
     pub numbering: Numbering,
 }
 
-// The lines of a text, read into rules. They fit if 31 rules are enough.
+// The lines of a text, read into rules, and for each line the number after its last helper rule. They fit if 31 rules are enough.
 pub struct Lines {
     pub fits: bool,
     pub rules: Rules,
+    pub ends: [u8; 31],
 }
 
 // What reading a text answers: a refusal, or number 0 and a grammar of so many bytes. The bytes after those are 0.
@@ -65,4 +67,11 @@ pub struct ReadGrammar {
     pub refusal: Refusal,
     pub length: usize,
     pub bytes: [u8; 124],
+}
+
+// The same, and what reading knows of the lines: how many there are, and for each the number after its last helper rule.
+pub struct ReadText {
+    pub grammar: ReadGrammar,
+    pub lines: usize,
+    pub ends: [u8; 31],
 }

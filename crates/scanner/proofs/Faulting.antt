@@ -14,10 +14,10 @@ use Rattle.refusal.specs.declared.Refusal.{Refusal}
 use Rattle.refusal.specs.First.{refusal}
 use Rattle.syntax.specs.declared.Sign.{Sign}
 use Rattle.syntax.specs.declared.Sign.the-variants.{Operand, Before, After, Slash, Opening, Closing, Equals, Semicolon}
-use Rattle.syntax.specs.Tokens.{Token, name, sign, range, unknown, Lexeme, same, token-at, lexemes, tokens}
+use Rattle.syntax.specs.Tokens.{Token, name, sign, range, unknown, Lexeme, same, token-at, lexemes, tokens, is-semicolon, ends-line}
 use Rattle.syntax.specs.Faults.{Spot, at-line, at-equals, inside, Next, to, wrong, to-if, by-sign, is-equals, not-in, next, name-of, defined-after, at-end, first-wrong, fault}
 use Rattle.syntax.specs.Compile.{index-of}
-use Rattle.syntax.specs.code.Heads.{is-semicolon, ends-line, head-of, heads-from, heads}
+use Rattle.syntax.specs.code.Heads.{head-of, heads-from, heads}
 use Rattle.scanner.specs.declared.Spot as Code
 use Rattle.scanner.specs.declared.Step.the-variants.{To, Wrong}
 use Rattle.scanner.specs.declared.faults.Moved.{Moved}
@@ -60,7 +60,7 @@ leads-if true s h = on h
 leads-if false s h = off-15
 
 leads-equals : (s : Sign) → Leads (is-semicolon s) (to-if (is-equals s) (inside false 0))
-unfolding to-if is-equals is-semicolon begins
+unfolding to-if is-equals begins
 leads-equals (Operand a) = off-15
 leads-equals (Before p) = off-15
 leads-equals (After x) = off-15
@@ -71,7 +71,7 @@ leads-equals Equals = on refl
 leads-equals Semicolon = off-15
 
 leads-sign : (s : Sign) (c : Bool) (k : ℕ) → Leads (is-semicolon s) (by-sign s c k)
-unfolding by-sign is-semicolon begins
+unfolding by-sign begins
 leads-sign (Operand a) c k = on refl
 leads-sign (Before p) c k = on refl
 leads-sign (After x) c k = leads-if c (inside true k) refl
@@ -100,13 +100,13 @@ leads ns (inside c k) (sign s) = leads-sign s c k
 leads ns (inside c k) (range l h) = on refl
 leads ns (inside c k) unknown = off-15
 
-begins-next : (ns : List (List ℕ)) (s : Spot) (t : Token) (u : Spot) → next ns s t ≡ to u → ends-line t ≡ begins u
+pub begins-next : (ns : List (List ℕ)) (s : Spot) (t : Token) (u : Spot) → next ns s t ≡ to u → ends-line t ≡ begins u
 begins-next ns s t u e = go (subst (Leads (ends-line t)) e (leads ns s t))
   where
     go : {b : Bool} → Leads b (to u) → b ≡ begins u
     go (on h) = sym h
 
-wrong-some : (ns : List (List ℕ)) (s : Spot) (t : Token) (m : ℕ) → next ns s t ≡ wrong m → m ≡ 0 → ⊥
+pub wrong-some : (ns : List (List ℕ)) (s : Spot) (t : Token) (m : ℕ) → next ns s t ≡ wrong m → m ≡ 0 → ⊥
 wrong-some ns s t m e = go (subst (Leads (ends-line t)) e (leads ns s t))
   where
     go : {b : Bool} → Leads b (wrong m) → m ≡ 0 → ⊥
@@ -147,11 +147,11 @@ advance hs k (inside c o) t ts u e h q = no-name k hs _ q h
 
 -- THE EARLIEST FAULT, after a token
 module _ (ns : List (List ℕ)) (s : Spot) (l : Lexeme) (ls : List Lexeme) (n : ℕ) where
-  fault-later : (u : Spot) → next ns s (l .token) ≡ to u → first-wrong ns s (l ∷ ls) n ≡ first-wrong (defined-after ns s (l .token)) u ls n
+  pub fault-later : (u : Spot) → next ns s (l .token) ≡ to u → first-wrong ns s (l ∷ ls) n ≡ first-wrong (defined-after ns s (l .token)) u ls n
   unfolding first-wrong
   fault-later u e = rw (e, first-wrong)
 
-  fault-here : (m : ℕ) → next ns s (l .token) ≡ wrong m → first-wrong ns s (l ∷ ls) n ≡ refusal m (l .offset)
+  pub fault-here : (m : ℕ) → next ns s (l .token) ≡ wrong m → first-wrong ns s (l ∷ ls) n ≡ refusal m (l .offset)
   unfolding first-wrong
   fault-here m e = rw (e, first-wrong)
 

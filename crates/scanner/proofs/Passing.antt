@@ -10,8 +10,8 @@ use native.Mathlib.Omega.{arith}
 use lib.ListN.{length, drop}
 use borrow.Author.Tests.{ne-eqb}
 use Rattle.codec.specs.Bytes.{byte}
-use Rattle.syntax.specs.Tokens.{Token, letter, letters, word, sign-of, range-there, token-at, width-at, skipped, tokens}
-use Rattle.syntax.specs.code.Heads.{is-semicolon, ends-line, head-of, heads-from}
+use Rattle.syntax.specs.Tokens.{Token, letter, letters, word, sign-of, range-there, token-at, width-at, skipped, tokens, ends-line}
+use Rattle.syntax.specs.code.Heads.{head-of, heads-from}
 use Rattle.scanner.specs.code.Scanning.{tokens-at}
 use Rattle.scanner.specs.code.Naming.{stops, Passes-heads}
 use Rattle.scanner.proofs.Lexing.{front, no-letters, letters-more, letters-stop, lexemes-end, lexemes-skipped, lexemes-token, width-there}
@@ -27,11 +27,11 @@ cond-false true = refl
 cond-false false = refl
 
 word-goes-on : (ls : List ℕ) → ends-line (word ls) ≡ false
-unfolding word ends-line is-semicolon
+unfolding word ends-line
 word-goes-on ls = simp (ends-cond, cond-false)
 
 sign-goes-on : (b : ℕ) → (b ≡ 59 → ⊥) → ends-line (sign-of b) ≡ false
-unfolding sign-of ends-line is-semicolon
+unfolding sign-of ends-line
 sign-goes-on b d = simp (ne-eqb b 59 d, ends-cond, cond-false)
 
 -- THE HEADS FROM INSIDE A LINE ON
@@ -100,7 +100,7 @@ module _ (text : List ℕ) (i : ℕ) (more : i < length text) where
       go false q = left-byte (λ s. omega arith) q ∙ ap (λ (n : ℕ). left-from text (i + n)) (sym (sign-token text i (rw e) (sym q) .1))
 
   left-semicolon : byte text i ≡ 59 → left-from text i ≡ heads-from true (tokens-at text (i + 1))
-  unfolding skipped letter range-there sign-of ends-line is-semicolon
+  unfolding skipped letter range-there sign-of ends-line
   left-semicolon e = left-sign text i more (rw e) (rw e) (rw (front text i, e)) ∙ rw e
 
 -- PASSING, from one place inside a line to another, and to where the next line begins

@@ -81,7 +81,7 @@ pub data No-name : Token → Type 0 where
   a-range : {low high : ℕ} → No-name (range low high)
   no-token : No-name unknown
 
-never-name : {n : List ℕ} → No-name (name n) → ⊥
+pub never-name : {n : List ℕ} → No-name (name n) → ⊥
 never-name = λ x. elim x [ ]
 
 neither : (c : Bool) {t u : Token} → No-name t → No-name u → No-name (cond c t u)

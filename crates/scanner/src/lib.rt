@@ -1,5 +1,6 @@
 // The scanner of grammars as text, and what is found by it without any syntax tree: the lines by name, and the earliest fault of a text.
 pub mod faults;
+pub mod lines;
 pub mod names;
 pub mod tokens;
 pub mod undefined;

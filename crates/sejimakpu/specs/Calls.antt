@@ -14,11 +14,14 @@ use Rattle.builder.specs.Calls.{Build-says}
 use Rattle.simulator.specs.Replies.{of-needs, of-judged}
 use Rattle.interpreter.specs.Replies.{of-ran}
 use Rattle.builder.specs.Replies.{of-built}
+use Rattle.recursion.specs.Computed.{recursion-refusal}
 use Rattle.reader.specs.declared.ReadGrammar.{ReadGrammar}
 use Rattle.reader.specs.Calls.{Read-tells}
 use Rattle.grammar_judge.specs.Calls.{Lent}
 use Rattle.typed.specs.Calls.{Build-text-says, Judge-text-says}
-use Rattle.typed.specs.Replies.{of-read, grammar-left}
+use Rattle.typed.specs.declared.left_recursion.TextRecursion.{TextRecursion}
+use Rattle.typed.specs.Recursion.{Text-recursion-says}
+use Rattle.typed.specs.Replies.{of-read, grammar-left, of-text-recursion}
 use Rattle.bundle.specs.declared.Report.{Report}
 use Rattle.bundle.specs.Calls.{Bundle-says}
 use Rattle.bundle.specs.Replies.{of-report, totals-left}
@@ -49,6 +52,16 @@ pub record Build-tells (grammar image image-now : List ℕ) (returned : ℕ) (an
   pub built : Built
   pub says : Build-says grammar built image image-now
   pub tells : Reply-written (of-built built) returned answer
+
+-- the check of a grammar for left recursion
+abbrev pub Check-recursion-tells : (grammar : List ℕ) → (returned : ℕ) → (answer : List ℕ) → Type 0
+Check-recursion-tells grammar = Reply-written (of-checked (checked (recursion-refusal grammar)))
+
+-- the same of a typed grammar
+pub record Check-text-recursion-tells (text : List ℕ) (returned : ℕ) (answer : List ℕ) : Type 0 where
+  pub checked : TextRecursion
+  pub says : Text-recursion-says text checked
+  pub tells : Reply-written (of-text-recursion checked) returned answer
 
 -- reading a text: the grammar's bytes at the start of the buffer, later ones as they were; refused, none changes
 pub record Read-grammar-tells (text grammar grammar-now : List ℕ) (returned : ℕ) (answer : List ℕ) : Type 0 where

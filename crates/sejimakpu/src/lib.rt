@@ -6,11 +6,13 @@ use builder::build::build_image;
 use bundle::judging::judge_bundle;
 use interpreter::plain_run;
 use reader::reading::read;
+use recursion::check::check_recursion;
 use reply::build_reply;
 use reply::bundle_reply;
 use reply::check_reply;
 use reply::read_reply;
 use reply::run_reply;
+use reply::text_recursion_reply;
 use reply::write_reply;
 use reply::write_totals;
 use simulator::judge::cells;
@@ -19,13 +21,14 @@ use simulator::replies::cells_reply;
 use simulator::replies::judge_reply;
 use typed::build_text;
 use typed::judge_text;
+use typed::left_recursion::check_text_recursion;
 use validator::check::check_image;
 ghost use mathlib.Core.List.{_++_};
 ghost use mathlib.Core.Path.{_≡_};
 ghost use Prim.Native.Nat.{_≤_};
 ghost use lib.ListN.{length, drop};
 ghost use Rattle.grammar_judge.specs.Calls.{lent};
-ghost use Rattle.sejimakpu.specs.Calls.{Check-tells, Cells-tells, Judge-tells, Run-tells, Build-tells, Read-grammar-tells, Build-text-tells, Judge-text-tells, Judge-bundle-tells};
+ghost use Rattle.sejimakpu.specs.Calls.{Check-tells, Cells-tells, Judge-tells, Run-tells, Build-tells, Check-recursion-tells, Read-grammar-tells, Build-text-tells, Judge-text-tells, Check-text-recursion-tells, Judge-bundle-tells};
 
 // Whether an image is good.
 #[no_mangle]
@@ -89,6 +92,14 @@ pub extern "C" fn sejimakpu_build_nonnull(
     write_reply(answer, build_reply(built))
 }
 
+// Whether a grammar is right, and no rule of it leads back to itself.
+#[no_mangle]
+pub extern "C" fn sejimakpu_check_recursion_nonnull(grammar: &[u8], answer: &mut [u64; 6]) -> u32
+    ensures { λ r. ⌜ Check-recursion-tells (now (grammar .entry)) r (now (answer .exit)) ⌝ }
+{
+    write_reply(answer, check_reply(check_recursion(grammar)))
+}
+
 // Bytes at the start of a buffer, and the later ones as they were.
 fn put_front(buffer: &mut [u8], bytes: &[u8])
     requires { ⌜ length (now bytes) ≤ length (now buffer) ⌝ }
@@ -145,6 +156,15 @@ pub extern "C" fn sejimakpu_judge_text_nonnull(
 {
     let judged = judge_text(text, capture, image, notes, work);
     write_reply(answer, judge_reply(judged))
+}
+
+// Whether a typed grammar is read, and no rule of it leads back to itself.
+#[no_mangle]
+pub extern "C" fn sejimakpu_check_text_recursion_nonnull(text: &[u8], answer: &mut [u64; 6]) -> u32
+    ensures { λ r. ⌜ Check-text-recursion-tells (now (text .entry)) r (now (answer .exit)) ⌝ }
+{
+    let checked = check_text_recursion(text);
+    write_reply(answer, text_recursion_reply(checked))
 }
 
 // Judging the captures of a bundle: 64 lines of seven cells are lent, and ten cells for their totals.

@@ -3,6 +3,7 @@ use builder::Built;
 use bundle::Report;
 use interpreter::Exit;
 use interpreter::Ran;
+use machine::Config;
 use machine::Reply;
 use machine::halting::halt_verdict;
 use machine::replies::answer_reply;
@@ -10,13 +11,15 @@ use machine::replies::count_reply;
 use machine::replies::refusal_reply;
 use machine::replies::verdict_number;
 use reader::ReadGrammar;
+use recursion::check::LEFT_RECURSION;
 use refusal::Checked;
+use typed::left_recursion::TextRecursion;
 ghost use mathlib.Core.Path.{_≡_};
 ghost use Rattle.machine.specs.Replies.{of-checked};
 ghost use Rattle.bundle.specs.Replies.{of-report, totals-left};
 ghost use Rattle.interpreter.specs.Replies.{exit-number as number-of-exit, of-ran};
 ghost use Rattle.builder.specs.Replies.{of-built};
-ghost use Rattle.typed.specs.Replies.{of-read};
+ghost use Rattle.typed.specs.Replies.{of-read, of-text-recursion};
 ghost use Rattle.sejimakpu.specs.Cells.{Reply-written};
 
 // An exit's number: the verdict's where the run halts, and two more.
@@ -69,6 +72,27 @@ pub fn read_reply(read: ReadGrammar) -> Reply
         return refusal_reply(refusal);
     }
     count_reply(read.length)
+}
+
+// A rule that leads back to itself: 19, the rule's number, and the offset of its line's name as a count.
+pub fn text_recursion_reply(checked: TextRecursion) -> Reply
+    ensures { λ r. ⌜ r ≡ of-text-recursion checked ⌝ }
+{
+    match checked {
+        TextRecursion::Passes => count_reply(0),
+        TextRecursion::Refused(refusal) => refusal_reply(refusal),
+        TextRecursion::Recursive(rule, name) => Reply {
+            refusal: LEFT_RECURSION,
+            place: rule,
+            verdict: 0,
+            count: name,
+            end: Config {
+                state: 0,
+                head: 0,
+                symbol: 0,
+            },
+        },
+    }
 }
 
 pub fn bundle_reply(report: Report) -> Reply

@@ -8,4 +8,5 @@ pub mod OneTree
 pub mod FaultsRight
 pub mod ReadingExact
 pub mod Counting
+pub mod RuleLines
 pub mod Encoding

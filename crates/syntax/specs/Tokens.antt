@@ -17,6 +17,23 @@ pub data Token : Type 0 where
   range : (low high : ℕ) → Token
   unknown : Token
 
+abbrev pub is-semicolon : Sign → Bool
+is-semicolon (Operand a) = false
+is-semicolon (Before p) = false
+is-semicolon (After x) = false
+is-semicolon Slash = false
+is-semicolon Opening = false
+is-semicolon Closing = false
+is-semicolon Equals = false
+is-semicolon Semicolon = true
+
+-- whether a line begins after a token
+unfoldable pub ends-line : Token → Bool
+ends-line (name n) = false
+ends-line (sign s) = is-semicolon s
+ends-line (range l h) = false
+ends-line unknown = false
+
 pub record Lexeme : Type 0 where
   pub offset : ℕ
   pub token : Token

@@ -1,4 +1,6 @@
 // Calls on grammars as text: a text is read, and the image of its grammar built, or a capture judged by it.
+pub mod left_recursion;
+
 use builder::Built;
 use builder::build::build_planned;
 use builder::planning::plan_of;

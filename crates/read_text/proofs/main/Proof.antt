@@ -11,6 +11,9 @@ slice-aggregate-read-on c = search needs
 read-on-requires : tie.Need-read-on-requires
 read-on-requires c κs = search needs
 
+arg-count-requires : tie.Need-arg-count-requires
+arg-count-requires c κs = search needs
+
 slice-aggregate-output-of : tie.Need-slice-aggregate-output-of
 slice-aggregate-output-of c = search needs
 
@@ -47,6 +50,7 @@ main-spec =
     (tie.spec
     slice-aggregate-read-on
     read-on-requires
+    arg-count-requires
     slice-aggregate-output-of
     output-of-requires
     array-share-prefix-bytes

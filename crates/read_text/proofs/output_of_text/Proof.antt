@@ -18,7 +18,7 @@ returns c =
     let got = test .before .before .before in
     record {
       output = _;
-      right = refuses (got .before .before .pre) (text-refused _ _ (got .read .ensures) (test .if1 .taken));
+      right = refuses (text-refused _ _ (got .read .ensures) (test .if1 .taken));
       held = c .refused .ensures;
     }
 
@@ -29,7 +29,7 @@ returns-2 c =
     let there = grammar-read _ _ (got .read .ensures) (test .if1 .left) in
     record {
       output = _;
-      right = gives (got .before .before .pre) (there .says);
+      right = gives (there .says);
       held = record { is = refl; within = there .fits };
     }
 

@@ -4,23 +4,25 @@ use mathlib.Core.Bool.{Bool, true, false, cond}
 use mathlib.Core.List.{List, [], _∷_, _++_}
 use Prim.Native.Nat.{ℕ, suc, _+_, _-_, _<_, _≤_}
 use lib.Dec.{leb}
-use lib.ListN.{length}
+use lib.ListN.{length, getD}
 use Rattle.grammar.specs.Grammar.{max-rules}
 use Rattle.grammar.specs.declared.Expression.the-variants.{Sequence, Choice, Empty}
 use Rattle.syntax.specs.declared.Node.{Node}
 use Rattle.syntax.specs.declared.Node.the-variants.{Numbered, Operator, Repetition}
 use Rattle.syntax.specs.declared.Sign.the-variants.{Equals, Semicolon}
 use Rattle.syntax.specs.Tokens.{Token, name, sign}
-use Rattle.syntax.specs.Trees.{Tree, Definition, choices, Derives, Reads, max-depth}
+use Rattle.syntax.specs.Trees.{Tree, Definition, choices, Derives, Reads, Legal-text, max-depth}
 use Rattle.syntax.specs.Needs.{line-need, needs}
 use Rattle.syntax.specs.Compile.{compile, line-rule, line-helpers, named-from, helpers-from, encode}
+use Rattle.syntax.specs.RuleLines.{first-helper, Line-of-rule}
 use Rattle.syntax.specs.code.Heads.{heads}
 use Rattle.reader.specs.declared.Rules.{Rules}
 use Rattle.reader.specs.declared.LineRead as Code
 use Rattle.reader.specs.declared.Lines.{Lines}
+use Rattle.reader.specs.declared.ReadText.{ReadText}
 use Rattle.reader.specs.code.Building.{rules-of, rule-put, put-rules, advanced, placed-at}
 use Rattle.reader.specs.code.Operators.{Part}
-use Rattle.reader.specs.Calls.{padded}
+use Rattle.reader.specs.Calls.{padded, Read-tells}
 use Rattle.scanner.specs.code.Scanning.{tokens-at}
 use Rattle.reader.specs.code.Levels.{Name-room}
 
@@ -82,13 +84,33 @@ pub record Lines-room (text : List ℕ) (lines : ℕ) : Type 0 where
   pub few : lines ≤ max-rules
   pub names : length (heads text) ≡ lines
 
+-- the numbers after the helper rules of the first k lines
+abbrev pub Ends-kept : (ds : List Definition) → (k : ℕ) → (ends : List ℕ) → Type 0
+Ends-kept ds k ends = (j : ℕ) → j < k → getD ends j 0 ≡ first-helper ds (suc j)
+
 pub record Lines-right (text : List ℕ) (ds : List Definition) (r : Lines) : Type 0 where
   pub fits : r .fits ≡ leb (needs ds) max-rules
   pub count : needs ds ≤ max-rules → r .rules .next ≡ needs ds
   pub bytes :
       needs ds ≤ max-rules →
       r .rules .bytes ≡ padded (encode (named-from (heads text) 0 (length ds) ds ++ helpers-from (heads text) 0 (length ds) ds))
+  pub ends : needs ds ≤ max-rules → Ends-kept ds (length ds) (r .ends)
 
 -- whatever so many lines the tokens from a place on are
 abbrev pub Lines-read : (text : List ℕ) → (at lines : ℕ) → Lines → Type 0
 Lines-read text i n r = (ds : List Definition) → Reads max-depth (tokens-at text i) ds → length ds ≡ n → Lines-right text ds r
+
+-- WHAT READING KEEPS OF THE LINES: how many there are, and where each line's rules end
+pub record Lines-kept (ds : List Definition) (lines : ℕ) (numbers : List ℕ) : Type 0 where
+  pub count : lines ≡ length ds
+  pub ends : Ends-kept ds (length ds) numbers
+
+-- a text that was read: whatever lines it is, they are kept
+pub record Text-read (text : List ℕ) (r : ReadText) : Type 0 where
+  pub tells : Read-tells text (r .grammar)
+  pub few : r .grammar .refusal .number ≡ 0 → r .lines ≤ max-rules
+  pub kept : r .grammar .refusal .number ≡ 0 → (ds : List Definition) → Legal-text text ds → Lines-kept ds (r .lines) (r .ends)
+
+-- the line that a rule is of, whatever lines were kept
+abbrev pub Rule-of-line : (lines : ℕ) → (ends : List ℕ) → (rule line : ℕ) → Type 0
+Rule-of-line n ends k line = (ds : List Definition) → Lines-kept ds n ends → k < needs ds → Line-of-rule ds k line

@@ -8,7 +8,7 @@ use lib.ListN.{length, drop}
 use Rattle.codec.specs.Bytes.{byte, section}
 use Rattle.syntax.specs.declared.Token as Code
 use Rattle.syntax.specs.declared.Token.the-variants.{Name, Sign, Range, Unknown}
-use Rattle.syntax.specs.Tokens.{Token, Lexeme, name, sign, range, unknown, tokens, lexemes-from, skipped, same, empty-word, fail-word, word, token-at, width-at}
+use Rattle.syntax.specs.Tokens.{Token, Lexeme, name, sign, range, unknown, is-semicolon, tokens, lexemes-from, skipped, same, empty-word, fail-word, word, token-at, width-at}
 use Rattle.scanner.specs.declared.Lexeme as Scanner
 use Rattle.scanner.specs.declared.Scanned.{Scanned}
 use Rattle.scanner.specs.declared.Scanned.the-variants.{Found, End}
@@ -27,6 +27,13 @@ token-of text o (Name k) = name (section text o k)
 token-of text o (Sign s) = sign s
 token-of text o (Range r) = range (r .low) (r .high)
 token-of text o Unknown = unknown
+
+-- whether a line begins after the scanner's token
+abbrev pub ends : Code.Token → Bool
+ends (Name k) = false
+ends (Sign s) = is-semicolon s
+ends (Range r) = false
+ends Unknown = false
 
 -- whether letters are a reserved word
 unfoldable pub reserved : (letters : List ℕ) → Bool

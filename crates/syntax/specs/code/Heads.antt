@@ -2,26 +2,7 @@
 use mathlib.Core.Bool.{Bool, true, false}
 use mathlib.Core.List.{List, [], _∷_}
 use Prim.Native.Nat.{ℕ}
-use Rattle.syntax.specs.declared.Sign.{Sign}
-use Rattle.syntax.specs.declared.Sign.the-variants.{Operand, Before, After, Slash, Opening, Closing, Equals, Semicolon}
-use Rattle.syntax.specs.Tokens.{Token, name, sign, range, unknown, lexemes, tokens}
-
-unfoldable pub is-semicolon : Sign → Bool
-is-semicolon (Operand a) = false
-is-semicolon (Before p) = false
-is-semicolon (After x) = false
-is-semicolon Slash = false
-is-semicolon Opening = false
-is-semicolon Closing = false
-is-semicolon Equals = false
-is-semicolon Semicolon = true
-
--- whether a line begins after a token
-unfoldable pub ends-line : Token → Bool
-ends-line (name n) = false
-ends-line (sign s) = is-semicolon s
-ends-line (range l h) = false
-ends-line unknown = false
+use Rattle.syntax.specs.Tokens.{Token, name, sign, range, unknown, ends-line, lexemes, tokens}
 
 -- the name that a line begins with, where the token is one and begins a line
 unfoldable pub head-of : (begins : Bool) → Token → List (List ℕ) → List (List ℕ)

@@ -1,10 +1,10 @@
--- `reader::reading::read` meets its contract: the checks in their order, then the grammar. Assumes nothing.
+-- `reader::reading::read_lines` meets its contract: the checks in their order, then the grammar. Assumes nothing.
 use native.Mathlib.Omega.{arith}
 use borrow.Author.Tests.{not-true, not-false}
 use Rattle.reader.proofs.ReadRight.{read-fault, read-undefined, read-many-lines, read-room, read-many-rules, read-next, read-grammar}
 use borrow.Author.Needs.{needs}
-use Rattle.reader.proofs.reading.read.Statement.{statement}
-use Rattle.reader.proofs.reading.read.Tie as tie
+use Rattle.reader.proofs.reading.read_lines.Statement.{statement}
+use Rattle.reader.proofs.reading.read_lines.Tie as tie
 
 check-text-requires : tie.Need-check-text-requires
 check-text-requires c κs = search needs
@@ -39,14 +39,26 @@ refused-requires-4 c κs = search needs
 returns-4 : tie.Need-returns-4
 returns-4 c = read-many-rules _ _ (c .before .before .before .before .before .before .before .before .before .before .before .before .check-text .ensures) (c .before .before .before .before .before .before .before .before .before .if1 .left) _ (c .before .before .before .before .before .before .before .before .undefined-of .ensures) (c .before .before .before .before .before .before .if2 .left) _ (c .before .before .before .lines-of .ensures) (not-true _ (c .before .if4 .taken)) _ (c .refused4 .ensures)
 
-mul-t13 : tie.Need-mul-t13
-mul-t13 c = omega (arith, read-next _ _ (c .before .before .before .before .before .before .before .before .before .before .before .before .before .check-text .ensures) (c .before .before .before .before .before .before .before .before .before .before .if1 .left) _ (c .before .before .before .before .before .before .before .before .before .undefined-of .ensures) (c .before .before .before .before .before .before .before .if2 .left) _ (c .before .before .before .before .lines-of .ensures) (not-false _ (c .before .before .if4 .left)))
+mul-t14 : tie.Need-mul-t14
+mul-t14 c =
+    let fits = c .before .before .before in
+    let read = fits .before .before in
+    let defined = read .before .before .before in
+    let undefined = defined .before .before in
+    let checked = undefined .before .before .before .before in
+    omega (arith, read-next _ _ (checked .check-text .ensures) (undefined .before .if1 .left) _ (undefined .undefined-of .ensures) (defined .if2 .left) _ (read .lines-of .ensures) (not-false _ (fits .if4 .left)))
 
 returns-5 : tie.Need-returns-5
-returns-5 c = read-grammar _ _ (c .before .before .before .before .before .before .before .before .before .before .before .before .before .check-text .ensures) (c .before .before .before .before .before .before .before .before .before .before .if1 .left) _ (c .before .before .before .before .before .before .before .before .before .undefined-of .ensures) (c .before .before .before .before .before .before .before .if2 .left) _ (c .before .before .before .before .lines-of .ensures) (not-false _ (c .before .before .if4 .left))
+returns-5 c =
+    let fits = c .before .before .before in
+    let read = fits .before .before in
+    let defined = read .before .before .before in
+    let undefined = defined .before .before in
+    let checked = undefined .before .before .before .before in
+    read-grammar _ _ (checked .check-text .ensures) (undefined .before .if1 .left) _ (undefined .undefined-of .ensures) (defined .if2 .left) _ (read .lines-of .ensures) (not-false _ (fits .if4 .left))
 
-pub read-spec : {M : Type 1} → statement M
-read-spec =
+pub read-lines-spec : {M : Type 1} → statement M
+read-lines-spec =
     tie.close
     (tie.spec
     check-text-requires
@@ -60,5 +72,5 @@ read-spec =
     lines-of-requires
     refused-requires-4
     returns-4
-    mul-t13
+    mul-t14
     returns-5)

@@ -1,0 +1,2 @@
+-- What only the code needs: sets of rules as numbers.
+pub mod Sets

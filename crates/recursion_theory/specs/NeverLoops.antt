@@ -1,0 +1,17 @@
+-- What a grammar without left recursion has: a result of every rule at every place of a capture, and a machine that never loops. Assumes nothing: these are definitions.
+use mathlib.Core.List.{List}
+use mathlib.Core.Option.{Option}
+use Prim.Native.Nat.{ℕ, _<_}
+use Rattle.machine.specs.declared.Config.{Config}
+use Rattle.machine.specs.declared.Verdict.the-variants.{Looping}
+use Rattle.machine.specs.Verdicts.{Says, Goes-on}
+use Rattle.image.specs.Image.{machine}
+use Rattle.grammar.specs.Grammar.{rules, expression}
+use Rattle.grammar.specs.Parsing.{Parses}
+use Rattle.builder.specs.Image.{built}
+
+-- A GRAMMAR THAT PASSES: every rule has a result at every place, the run of its machine halts, and no verdict on it is looping
+pub record Never-loops (gs cs : List ℕ) : Type 0 where
+  pub results : (k i : ℕ) → k < rules gs → (o : Option ℕ) × Parses (expression gs) cs k i o
+  pub halts : Goes-on (machine (built gs) cs) → ⊥
+  pub not-looping : (d : Config) → Says (machine (built gs) cs) Looping d → ⊥

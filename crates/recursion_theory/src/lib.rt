@@ -1,0 +1,1 @@
+// The theory of grammars without left recursion: see proofs/. No code.
