@@ -5,8 +5,8 @@
  *
  * takes 1 to 64 captures, prints a line for each with the file's name, then the totals, and leaves with status 0 if all
  * are accepted, 1 if one is not, 2 if one or the call was refused, a file could not be read or the lines not be written. A
- * grammar file whose name ends in .peg is a typed grammar; any other is a grammar's bytes. Compile it with -I include, and
- * link libsejimakpu.a.
+ * grammar file whose name ends in .peg is a typed grammar; any other is a grammar's bytes. A grammar by which some capture
+ * may be looping has a warning first. Compile it with -I include, and link libsejimakpu.a.
  */
 #include "sejimakpu.h"
 
@@ -55,6 +55,27 @@ static int is_typed(const char *name)
     return length >= 4 && strcmp(name + length - 4, ".peg") == 0;
 }
 
+/* Warns where a rule leads back to itself, by the number of the rule or the name of its line: the captures are judged all
+   the same. What else the checks refuse is refused by building too, which ends the program. */
+static void warn_grammar(const uint8_t *grammar, size_t length)
+{
+    sejimakpu_answer answer;
+    uint32_t refusal = sejimakpu_check_recursion(grammar, length, &answer);
+    if (refusal == SEJIMAKPU_LEFT_RECURSION)
+        fprintf(stderr, "shift: warning: rule %" PRIu64 ": %s\n", answer.place, sejimakpu_refusal_meaning(refusal));
+}
+
+static void warn_text(const uint8_t *text, size_t length)
+{
+    sejimakpu_answer answer;
+    uint32_t refusal = sejimakpu_check_text_recursion(text, length, &answer);
+    if (refusal == SEJIMAKPU_LEFT_RECURSION) {
+        const char *name = (const char *)text + answer.count; /* which = follows, after blanks or none */
+        int letters = (int)strspn(name, "abcdefghijklmnopqrstuvwxyz");
+        fprintf(stderr, "shift: warning: line %.*s: %s\n", letters, name, sejimakpu_refusal_meaning(refusal));
+    }
+}
+
 /* Builds the image of the grammar in a file, and answers its length. */
 static size_t image_of(const char *name, uint8_t *image, size_t room)
 {
@@ -67,9 +88,11 @@ static size_t image_of(const char *name, uint8_t *image, size_t room)
             fprintf(stderr, "shift: %s is longer than %d bytes\n", name, MAX_TEXT);
             exit(NOT_JUDGED);
         }
+        warn_text(text, length);
         or_stop(sejimakpu_build_text(text, length, image, room, &answer), &answer);
     } else {
         size_t length = bytes_of(name, grammar, SEJIMAKPU_MAX_GRAMMAR);
+        warn_grammar(grammar, length);
         or_stop(sejimakpu_build(grammar, length, image, room, &answer), &answer);
     }
     return answer.count;

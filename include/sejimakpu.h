@@ -1,7 +1,7 @@
 /*
  * Sejimakpu: judges console captures by two-way pointer pushdown machines. For C99 and C++11.
  *
- * Link libsejimakpu.a (made by `rt staticlib sejimakpu`). Its nine functions are proved against their contracts in
+ * Link libsejimakpu.a (made by `rt staticlib sejimakpu`). Its eleven functions are proved against their contracts in
  * crates/sejimakpu: each returns on every input, and what it answers is what the definitions in crates/NAME/specs say.
  * Call them by the inline functions below, which only replace null pointers.
  *
@@ -55,8 +55,10 @@ enum {
                                         repeated or never defined: its offset; or the text ends early: its length */
     SEJIMAKPU_TEXT_RULES = 16,       /* a typed grammar that needs over 31 rules: the text's length */
     SEJIMAKPU_TEXT_DEPTH = 17,       /* a seventeenth open parenthesis: its offset */
-    SEJIMAKPU_BUNDLE = 18            /* a bundle's count, or a bundle too short for its count and pairs: 0; else a wrong pair
+    SEJIMAKPU_BUNDLE = 18,           /* a bundle's count, or a bundle too short for its count and pairs: 0; else a wrong pair
                                         of offset and length: its place, 4 + 8 * i for pair i, the first */
+    SEJIMAKPU_LEFT_RECURSION = 19    /* a grammar rule that leads back to itself before anything is consumed: its number, the
+                                        lowest; said by the two checks of a grammar alone */
 };
 
 /* The longest capture, in bytes, and the longest grammar. */
@@ -74,7 +76,7 @@ typedef struct sejimakpu_answer {
     uint64_t place;   /* of a refusal */
     uint64_t verdict; /* SEJIMAKPU_ACCEPTED to SEJIMAKPU_DEEP; SEJIMAKPU_NO_VERDICT where refused */
     uint64_t count;   /* readings of a judging, steps of a plain run, bytes of an image or a grammar, cells needed,
-                         captures of a bundle */
+                         captures of a bundle; of refusal 19 of a text the offset of a name */
     uint64_t state;   /* of the end configuration, or of the one reached; and so its head and symbol */
     uint64_t head;
     uint64_t symbol;
@@ -135,6 +137,8 @@ uint32_t sejimakpu_judge_bundle_nonnull(const uint8_t *image, size_t image_lengt
                                         uint32_t *work, size_t work_length,
                                         sejimakpu_line *lines, sejimakpu_totals *totals,
                                         sejimakpu_answer *answer);
+uint32_t sejimakpu_check_recursion_nonnull(const uint8_t *grammar, size_t grammar_length, sejimakpu_answer *answer);
+uint32_t sejimakpu_check_text_recursion_nonnull(const uint8_t *text, size_t text_length, sejimakpu_answer *answer);
 
 /*
  * For the inline functions: the pointer, or one to an element that nobody reads or writes where the length is 0. A null
@@ -327,6 +331,37 @@ static inline uint32_t sejimakpu_judge_bundle(const uint8_t *image, size_t image
 }
 
 /*
+ * Checks a grammar for left recursion, before any capture is judged: refusals 11 and 12, then 19 with the number of the
+ * lowest rule that leads back to itself before anything is consumed.
+ *
+ * A rule may match nothing if it is empty, a not, a sequence of two such, or a choice with one such; these are the least
+ * such set. A sequence leads to its first part, and to its second if the first may match nothing; a choice leads to both
+ * parts, a not to its own.
+ *
+ * A grammar that passes never gives the verdict looping, on any capture. One with 19 need not give it on any: it may be that
+ * no capture takes that way back, as where the rule is never met. So 19 is a warning: no other call refuses such a grammar.
+ */
+static inline uint32_t sejimakpu_check_recursion(const uint8_t *grammar, size_t grammar_length, sejimakpu_answer *answer)
+{
+    sejimakpu_answer unread;
+    return sejimakpu_check_recursion_nonnull(sejimakpu_input_bytes(grammar, grammar_length), grammar_length,
+                                             answer ? answer : &unread);
+}
+
+/*
+ * Checks a typed grammar for left recursion, as sejimakpu_check_recursion does the bytes that sejimakpu_read_grammar gives:
+ * refusals 15 to 17 as there, then 19 with the rule's number in that grammar. With 19 answer->count is the offset in the
+ * text of the name of the line that the rule is of: a named rule's own line, and for a helper rule the line for whose
+ * expression it was made. Otherwise the count is 0.
+ */
+static inline uint32_t sejimakpu_check_text_recursion(const uint8_t *text, size_t text_length, sejimakpu_answer *answer)
+{
+    sejimakpu_answer unread;
+    return sejimakpu_check_text_recursion_nonnull(sejimakpu_input_bytes(text, text_length), text_length,
+                                                  answer ? answer : &unread);
+}
+
+/*
  * For sejimakpu_pack_bundle: a number of 32 bits, the lowest byte first.
  */
 static inline void sejimakpu_put_number(uint8_t *bytes, size_t number)
@@ -410,6 +445,7 @@ static inline const char *sejimakpu_refusal_meaning(uint32_t refusal)
     case SEJIMAKPU_TEXT_RULES: return "the typed grammar needs over 31 rules";
     case SEJIMAKPU_TEXT_DEPTH: return "over 16 parentheses are open at once";
     case SEJIMAKPU_BUNDLE: return "a bundle's count or a pair of offset and length is wrong";
+    case SEJIMAKPU_LEFT_RECURSION: return "a rule of the grammar leads back to itself before anything is consumed";
     default: return "unknown refusal";
     }
 }

@@ -1,7 +1,7 @@
 /*
- * Tests of the header's inline functions, as C and as C++, but for bundles: header_bundle.c and header_packing.c test those.
- * Linked with --wrap for each of the archive's functions, so that every pointer that reaches the archive is seen here. Prints
- * what does not hold, and leaves with status 1 if anything does.
+ * Tests of the header's inline functions, as C and as C++, but for bundles, which header_bundle.c and header_packing.c test,
+ * and left recursion, which header_recursion.c tests. Linked with --wrap for each of the archive's functions, so that every
+ * pointer that reaches the archive is seen here. Prints what does not hold, and leaves with status 1 if anything does.
  */
 #include "sejimakpu.h"
 
@@ -295,7 +295,7 @@ static void judge_text(const char *name, uint32_t expected, const uint8_t *bytes
 
 static int is_refusal(uint32_t r)
 {
-    return r <= 13 || (15 <= r && r <= 18);
+    return r <= 13 || (15 <= r && r <= 19);
 }
 
 static void words(void)
@@ -308,8 +308,8 @@ static void words(void)
     expect(strcmp(sejimakpu_verdict_word(UINT64_C(0x100000001)), "unknown") == 0, "verdict 2^32 + 1", "has a word");
     for (uint32_t r = 0; r < 100; r++) {
         int has_meaning = strcmp(sejimakpu_refusal_meaning(r), "unknown refusal") != 0;
-        expect(has_meaning || !is_refusal(r), "a refusal up to 18 but for 14", "has no meaning");
-        expect(!has_meaning || is_refusal(r), "14, or a number above 18", "has a meaning");
+        expect(has_meaning || !is_refusal(r), "a refusal up to 19 but for 14", "has no meaning");
+        expect(!has_meaning || is_refusal(r), "14, or a number above 19", "has a meaning");
         for (uint32_t other = 0; other < r && has_meaning; other++) {
             expect(strcmp(sejimakpu_refusal_meaning(r), sejimakpu_refusal_meaning(other)) != 0,
                    sejimakpu_refusal_meaning(r), "stands for two refusals");

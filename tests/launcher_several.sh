@@ -87,7 +87,7 @@ program 'case $(tail -c 1) in a) echo ended 5 0 0 0 ;; b) echo looping 7 0 0 0 ;
 says 'every kind of line' 2 \
     "ended 5 0 0 0 $a${feed}looping 7 0 0 0 $b${feed}refused 9 1000 $c${feed}stuck 11 0 0 0 $work/1090.capture${feed}ended 5 0 0 0 $a$feed$(totals 0 2 1 1 1 28)" '' \
     "$stand/judge" "$work/a.grammar" "$a" "$b" "$c" "$work/1090.capture" "$a"
-stand_in read_text 'printf x >>"${0%/*}/reads"; printf "\004\000\000\000"'
+reader 'printf x >>"${0%/*}/reads"; printf "\004\000\000\000"'
 says 'a text for several' 1 "ended 5 0 0 0 $a${feed}looping 7 0 0 0 $b$feed$(totals 0 1 0 1 0 12)" '' "$stand/judge" "$work/short.peg" "$a" "$b"
 same 'a text for several is read once' 0 x cat "$stand/target/bin/reads"
 rm "$stand/target/bin/reads"
