@@ -7,6 +7,7 @@ pub mod layouts;
 pub mod measure;
 pub mod others;
 pub mod reading;
+pub mod recursion;
 pub mod report;
 pub mod table;
 pub mod targets;

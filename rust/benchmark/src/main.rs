@@ -2,7 +2,7 @@
 //! the two do not agree; what it measures is for a reader to judge.
 use benchmark::judging::{Cells, Line};
 use benchmark::workloads::{self, SIZES};
-use benchmark::{bundles, judging, layouts, others, reading, report};
+use benchmark::{bundles, judging, layouts, others, reading, recursion, report};
 use std::env;
 
 /// Rounds over all lines, so that what else the machine does for a while falls on no line alone.
@@ -17,10 +17,14 @@ fastest: the same with a stack of them, as fast as we could make safe Rust.
 judge clears, twin clears: the time of a call with the same image and length on a capture whose first byte ends the run
   at once (checks, clearing, under 100 readings), over the time of the call. fill(0): both slices cleared by fill(0) and
   nothing else, over the time of the twin's call.
-Checking, building, the calls on a text, judging a bundle, and judging once more are measured in several layouts (below).
+Checking, building, the calls on a text, the checks for left recursion, judging a bundle, and judging once more are measured
+  in several layouts (below).
   A bundle: 64 captures of lines, all lengths between two, in one call that checks the image once. Reading: blanks
   is the ring's text and then spaces, which is read; operators is one line of every operator, with no name but its own, which needs too many
-  rules; names is texts of one length with more and more lines, each with a use of another.
+  rules; names is texts of one length with more and more lines, each with a use of another. Left recursion: lines and
+  ranges are the grammars that are built, of a few rules and of the most; alternatives is ten of them, each a byte and then all
+  again; next and before are 31 rules that each wait for the next one, or for the one before, to match nothing; first and last
+  are 31 that lead one to the next, and the last back to the first, or to itself.
 ";
 
 fn main() {
@@ -38,6 +42,8 @@ fn short_calls() {
     others::images();
     reading::texts();
     reading::ring();
+    recursion::grammars();
+    recursion::texts();
     bundles::bundles();
     judging::in_a_layout();
 }

@@ -31,17 +31,23 @@ impl Numbers {
 
     fn grammar(&mut self) -> Vec<u8> {
         let m = 1 + self.below(6);
-        let mut grammar = Vec::new();
-        for _ in 0..m {
-            grammar.extend(match self.below(6) {
-                0 | 1 => [1, self.byte(m), self.byte(m), 0],
-                2 => [2, self.byte(m), self.byte(m), 0],
-                3 => [3, self.byte(m), 0, 0],
-                4 => [4, 0, 0, 0],
-                _ => [5, b'a' + self.byte(3), b'a' + self.byte(3), 0],
-            });
+        (0..m).flat_map(|_| self.grammar_rule(m)).collect()
+    }
+
+    fn grammar_rule(&mut self, m: usize) -> [u8; 4] {
+        match self.below(6) {
+            0 | 1 => [1, self.byte(m), self.byte(m), 0],
+            2 => [2, self.byte(m), self.byte(m), 0],
+            3 => [3, self.byte(m), 0, 0],
+            4 => [4, 0, 0, 0],
+            _ => [5, b'a' + self.byte(3), b'a' + self.byte(3), 0],
         }
-        grammar
+    }
+
+    /// Of up to 31 rules, of which most name none, so that many lead nowhere back.
+    fn sparse_grammar(&mut self) -> Vec<u8> {
+        let (m, leaf) = (1 + self.below(31), [5, b'a', b'b', 0]);
+        (0..m).flat_map(|_| if self.below(5) == 0 { self.grammar_rule(m) } else { leaf }).collect()
     }
 
     /// A good image, most of whose rules lead somewhere.
@@ -209,6 +215,29 @@ fn on_texts() {
         assert_eq!(twin::judge_text(&text, &capture, &mut b.0, &mut b.1, &mut b.2), judged);
         assert!(a == b);
     }
+}
+
+#[test]
+fn on_left_recursion() {
+    let mut numbers = Numbers(0x8EBC_6AF0_9C88_C6E3);
+    let (mut passed, mut named) = (0, 0);
+    for case in 0..4000 {
+        let mut grammar = if case % 2 == 0 { numbers.grammar() } else { numbers.sparse_grammar() };
+        numbers.spoil(&mut grammar);
+        let mut text = numbers.text();
+        numbers.spoil(&mut text);
+        let checked = [sejimakpu::check_recursion(&grammar), sejimakpu::check_text_recursion(&text)];
+        assert_eq!(
+            [twin::check_recursion(&grammar), twin::check_text_recursion(&text)],
+            checked,
+            "{grammar:?} {text:?}"
+        );
+        for checked in checked {
+            passed += usize::from(checked.is_ok());
+            named += usize::from(checked.is_err_and(|error| error.refusal().unwrap().number() == 19));
+        }
+    }
+    assert!(passed > 500 && named > 2000, "{passed} pass, and {named} are refused by 19");
 }
 
 #[test]

@@ -1,6 +1,6 @@
 //! The workloads are what they say, at lengths far below those measured.
 use benchmark::backtracking_parser::{parse, TooManySteps};
-use benchmark::workloads::{self, backtracking, bundles::BUNDLES, lines, texts};
+use benchmark::workloads::{self, backtracking, bundles::BUNDLES, lines, recursion, texts};
 use benchmark::{twin, workloads::building};
 use sejimakpu::{Judged, Reason, Refusal, Verdict, MAX_BUILT_IMAGE, MAX_GRAMMAR};
 
@@ -65,6 +65,29 @@ fn texts_are_read_to_their_end() {
         if n >= 300 {
             assert_eq!(twin::read_grammar(&names, &mut grammar), too_many, "{n}");
         }
+    }
+}
+
+#[test]
+fn left_recursion() {
+    for grammar in recursion::grammars() {
+        let refusal = grammar.named.map(|rule| Refusal::new(Reason::LeftRecursion, rule).into());
+        assert_eq!(twin::check_recursion(grammar.rules.as_flattened()).err(), refusal, "{}", grammar.name);
+        assert!(grammar.rules.len() == if grammar.name == "lines" { 12 } else { 31 }, "{}", grammar.name);
+    }
+    // The ring's lines are rules 0 to 7; one more is rule 8, and the star in it is the last three rules, from 17 on.
+    let refusals = [
+        None,
+        None,
+        Some(Refusal::new(Reason::TextRules, 16_000)),
+        Some(Refusal::new(Reason::LeftRecursion, 8).with_name(texts::RING.len())),
+        Some(Refusal::new(Reason::LeftRecursion, 17).with_name(texts::RING.len())),
+    ];
+    let texts = recursion::texts();
+    assert_eq!(texts.len(), refusals.len());
+    for (text, refusal) in texts.iter().zip(refusals) {
+        assert_eq!(twin::check_text_recursion(&text.text).err(), refusal.map(Into::into), "{}", text.name);
+        assert_eq!(refusal.map_or(0, |refusal| refusal.number()), text.refusal);
     }
 }
 

@@ -45,6 +45,14 @@ pub struct Bundling {
     pub work: Vec<u32>,
 }
 
+/// What an archive's function that checks for left recursion returned, and the numbers of its answer. The first and the last
+/// were not lent, and stand beside what was.
+#[derive(Clone, Copy, Debug)]
+pub struct Checking {
+    pub returned: u32,
+    pub cells: [u64; 8],
+}
+
 pub fn answers<A: PartialEq + Debug>(name: &str, expected: &A, got: &A) -> Option<String> {
     (expected != got).then(|| format!("{name}: expected {expected:?}, got {got:?}"))
 }
@@ -83,6 +91,11 @@ pub fn bundling(expected: &Bundling, got: &Bundling) -> Option<String> {
         .or_else(|| cells("totals", &expected.totals, &got.totals))
         .or_else(|| cells("notes", &expected.notes, &got.notes))
         .or_else(|| cells("work", &expected.work, &got.work))
+}
+
+pub fn checking(name: &str, expected: &Checking, got: &Checking) -> Option<String> {
+    answers(name, &expected.returned, &got.returned)
+        .or_else(|| cells(&format!("answer of {name}, with a fence"), &expected.cells, &got.cells))
 }
 
 /// Every line, those behind the last capture's too. The one before the first has number -1.

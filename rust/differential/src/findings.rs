@@ -1,5 +1,6 @@
 //! What one case finds, and the count of all cases.
 
+use crate::recursion::Seen;
 use model::answer::Verdict;
 use std::collections::BTreeMap;
 use std::fmt::Write;
@@ -22,6 +23,7 @@ pub struct Findings {
     pub walked: usize,
     pub repeating: usize,
     pub parsed: usize,
+    pub recursion: Seen,
 }
 
 impl Findings {
@@ -55,6 +57,7 @@ struct Count {
     walked: usize,
     repeating: usize,
     parsed: usize,
+    recursion: Seen,
     time: Duration,
 }
 
@@ -87,6 +90,7 @@ impl Tally {
         count.walked += found.walked;
         count.repeating += found.repeating;
         count.parsed += found.parsed;
+        count.recursion.add(&found.recursion);
         count.time += time;
         for verdict in &found.verdicts {
             *count.verdicts.entry(verdict.to_string()).or_default() += 1;
@@ -111,6 +115,11 @@ impl Tally {
         self.kinds.iter().map(|(_, count)| count.cases).sum()
     }
 
+    /// What the checks for left recursion of one kind came to.
+    pub fn recursion(&mut self, kind: &'static str) -> Seen {
+        self.count(kind).recursion.clone()
+    }
+
     /// The counts, and as the last line those of all kinds together.
     pub fn print(&self) {
         for (name, count) in &self.kinds {
@@ -125,6 +134,9 @@ impl Tally {
             }
             if count.parsed > 0 {
                 write!(line, "; {} parsed", count.parsed).unwrap();
+            }
+            if let Some(words) = count.recursion.words() {
+                write!(line, "; {words}").unwrap();
             }
             println!("{line}");
         }

@@ -60,7 +60,7 @@ pub fn of_rules(rng: &mut Rng, rules: usize) -> Vec<u8> {
     bytes
 }
 
-fn leaf(rng: &mut Rng) -> [u8; 4] {
+pub fn leaf(rng: &mut Rng) -> [u8; 4] {
     if rng.percent(20) {
         return [4, 0, 0, 0];
     }
@@ -77,7 +77,7 @@ fn leaf(rng: &mut Rng) -> [u8; 4] {
     [5, one.min(other), one.max(other), 0]
 }
 
-fn wild_rule(rng: &mut Rng, rules: usize) -> [u8; 4] {
+pub fn wild_rule(rng: &mut Rng, rules: usize) -> [u8; 4] {
     let (b, c) = (rng.below(rules) as u8, rng.below(rules) as u8);
     match rng.weighted(&[8, 8, 2, 1, 3]) {
         0 => [1, b, c, 0],
@@ -87,7 +87,7 @@ fn wild_rule(rng: &mut Rng, rules: usize) -> [u8; 4] {
     }
 }
 
-fn ending_rule(rng: &mut Rng, rule: usize, rules: usize) -> [u8; 4] {
+pub fn ending_rule(rng: &mut Rng, rule: usize, rules: usize) -> [u8; 4] {
     // Mostly near ones: several rules then come to the same one at the same place.
     let reach = if rng.percent(70) { 3 } else { rules };
     let last = (rule + reach).min(rules - 1);

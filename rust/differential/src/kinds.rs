@@ -3,7 +3,7 @@
 use crate::damage::{damage, damage_rule};
 use crate::findings::Findings;
 use crate::rng::Rng;
-use crate::{bundles, compare, grammars, machines, program, sides, texts};
+use crate::{bundles, compare, grammars, machines, program, recursion, sides, texts};
 use model::answer::{Judged, Verdict};
 use model::grammar::Part;
 use model::parse::{parse, parse_from, Parsed};
@@ -32,7 +32,12 @@ pub const KINDS: &[Kind] = &[
     Kind { name: "damaged-texts", seed: 0x5e71_0009, share: 900, case: damaged_text },
     Kind { name: "read-text", seed: 0x5e71_000a, share: 100, case: read_text_case },
     Kind { name: "bundles", seed: 0x5e71_000b, share: 1200, case: bundles::case },
+    Kind { name: RECURSION, seed: 0x5e71_000c, share: 1500, case: recursion::case },
+    Kind { name: "damaged-recursion", seed: 0x5e71_000d, share: 500, case: recursion::damaged },
 ];
+
+/// Its cases are looked at together too.
+pub const RECURSION: &str = "recursion";
 
 /// Parsing that takes more calls is not compared: the judge has no such limit, plain recursion has.
 const PARSE_CALLS: usize = 20_000;
@@ -94,8 +99,10 @@ pub fn grammar_on(found: &mut Findings, rng: &mut Rng, bytes: &[u8], capture: &[
     let room = building::build(&parts).len() + rng.below(17);
     let Ok(image) = sides::build(found, rng, bytes, room) else { return };
     let _ = sides::check(found, &image);
+    let passed = recursion::check(found, rng, bytes).is_ok();
     if let Some(judged) = judge_with_spare_cells(found, rng, &image, capture) {
         parses_so(found, &parts, bytes, capture, judged);
+        recursion::ends(found, passed, judged.verdict, &[("grammar", bytes), ("capture", capture)]);
     }
     some_plain_run(found, rng, &image, capture, long);
 }
@@ -256,10 +263,12 @@ pub fn text_on(found: &mut Findings, rng: &mut Rng, text: &[u8], capture: &[u8])
     let lent = sides::Lent { image, notes: cells + rng.below(9), work: cells + rng.below(9) };
     let built = sides::build_text(found, rng, text, image);
     let judged = sides::judge_text(found, rng, text, capture, lent);
+    let passed = recursion::check_text(found, rng, text, &read);
     if let (Ok(bytes), Ok(image), Ok(judged)) = (read, built, judged) {
         same_as_bytes(found, rng, text, &bytes, &image);
         few_readings(found, &bytes, capture, judged);
         means_so(found, text, capture, judged, &parts);
+        recursion::ends(found, passed, judged.verdict, &[("text", text), ("capture", capture)]);
     }
 }
 

@@ -16,6 +16,7 @@ mod kinds;
 mod lively;
 mod machines;
 mod program;
+mod recursion;
 mod rng;
 #[cfg(test)]
 mod selftest;
@@ -23,7 +24,7 @@ mod sides;
 mod texts;
 
 use findings::{Findings, Tally};
-use kinds::KINDS;
+use kinds::{KINDS, RECURSION};
 use rng::Rng;
 use std::panic::{catch_unwind, AssertUnwindSafe};
 use std::process::ExitCode;
@@ -31,7 +32,7 @@ use std::time::Instant;
 use std::{env, process};
 
 /// How many random cases run where SEJIMAKPU_CASES says nothing.
-const CASES: usize = 82_200;
+const CASES: usize = 94_200;
 
 fn main() -> ExitCode {
     let arguments: Vec<String> = env::args().skip(1).collect();
@@ -69,11 +70,17 @@ fn all(tally: &mut Tally, cases: usize) {
     small_grammars(tally);
     small_texts(tally);
     small_bundles(tally);
+    small_recursion(tally);
     let shares: usize = KINDS.iter().map(|kind| kind.share).sum();
     for kind in KINDS {
         for case in 0..cases * kind.share / shares {
             run_random(tally, kind, case as u64);
         }
+    }
+    // Fewer cases than usual may leave a rule out.
+    if cases >= CASES {
+        let seen = tally.recursion(RECURSION);
+        run(tally, RECURSION, "all together", |found| seen.enough(found, 31));
     }
 }
 
@@ -135,6 +142,21 @@ fn small_bundles(tally: &mut Tally) {
             exhaustive::bundle_case(length, found, &mut rng);
         });
     }
+}
+
+/// Every grammar of up to three rules, by what its rules lead to.
+fn small_recursion(tally: &mut Tally) {
+    const KIND: &str = "small-recursion";
+    for rules in 1..=recursion::SMALL {
+        for number in 0..recursion::small_count(rules) {
+            let bytes = recursion::small_grammar(rules, number);
+            let label = format!("{rules} rules, number {number}");
+            let mut rng = Rng::of_case(0x5e71_0060 + rules as u64, number as u64);
+            run(tally, KIND, &label, |found| recursion::small_case(found, &mut rng, &bytes));
+        }
+    }
+    let seen = tally.recursion(KIND);
+    run(tally, KIND, "all together", |found| seen.enough_small(found));
 }
 
 fn run_random(tally: &mut Tally, kind: &kinds::Kind, number: u64) {

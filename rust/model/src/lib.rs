@@ -14,6 +14,7 @@ pub mod machine;
 pub mod parse;
 pub mod plain;
 pub mod program;
+pub mod recursion;
 pub mod run;
 pub mod summary;
 pub mod text;

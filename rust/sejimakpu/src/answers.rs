@@ -12,7 +12,8 @@ pub enum Verdict {
     Ended,
     /// The run came to a configuration that has no rule.
     Stuck,
-    /// The run has no end. Never said by [`plain_run`](crate::plain_run).
+    /// The run has no end. Never said by [`plain_run`](crate::plain_run), nor of a grammar that passes
+    /// [`check_recursion`](crate::check_recursion).
     Looping,
     /// The budget was used up before the run's end. Said by [`plain_run`](crate::plain_run) alone.
     Spent,

@@ -42,11 +42,14 @@ pub enum Reason {
     /// 18: a bundle's count is not 1 to 64, or it is too short for its count and pairs: the place is 0; or a pair of offset
     /// and length is wrong: the place is the first one's offset in the bundle.
     Bundle,
+    /// 19: a rule of the grammar leads back to itself before anything is consumed. The place is the lowest such rule's
+    /// number; in a text [`Refusal::name`] tells of its line.
+    LeftRecursion,
 }
 
 impl Reason {
     /// In the order of their numbers.
-    pub(crate) const ALL: [Reason; 17] = [
+    pub(crate) const ALL: [Reason; 18] = [
         Reason::ImageShort,
         Reason::ImageDirectory,
         Reason::ImageCounts,
@@ -64,6 +67,7 @@ impl Reason {
         Reason::TextRules,
         Reason::TextDepth,
         Reason::Bundle,
+        Reason::LeftRecursion,
     ];
 
     /// The reason of a number, if there is one.
@@ -99,6 +103,7 @@ impl fmt::Display for Reason {
             Reason::TextRules => "the typed grammar needs over 31 rules",
             Reason::TextDepth => "over 16 parentheses are open at once",
             Reason::Bundle => "a bundle's count or a pair of offset and length is wrong",
+            Reason::LeftRecursion => "a rule of the grammar leads back to itself before anything is consumed",
         })
     }
 }
@@ -109,13 +114,20 @@ impl fmt::Display for Reason {
 pub struct Refusal {
     reason: Reason,
     place: usize,
+    name: Option<usize>,
 }
 
 impl Refusal {
     /// A refusal as the library would give it, for code that stands in for the library.
     #[must_use]
     pub fn new(reason: Reason, place: usize) -> Self {
-        Refusal { reason, place }
+        Refusal { reason, place, name: None }
+    }
+
+    /// The same with a [`name`](Refusal::name), also for code that stands in for the library.
+    #[must_use]
+    pub fn with_name(self, name: usize) -> Self {
+        Refusal { name: Some(name), ..self }
     }
 
     /// Why.
@@ -124,7 +136,7 @@ impl Refusal {
         self.reason
     }
 
-    /// The number in the table of refusals, 1 to 13 or 15 to 18.
+    /// The number in the table of refusals, 1 to 13 or 15 to 19.
     #[must_use]
     pub fn number(&self) -> u32 {
         self.reason.number()
@@ -135,12 +147,23 @@ impl Refusal {
     pub fn place(&self) -> usize {
         self.place
     }
+
+    /// The offset in the text of the name of the line that the rule is of: of 19 by
+    /// [`check_text_recursion`](crate::check_text_recursion) alone.
+    #[must_use]
+    pub fn name(&self) -> Option<usize> {
+        self.name
+    }
 }
 
-/// Number and place as the program prints them, then the reason in words.
+/// Number and place as the program prints them, then the reason in words, and where there is a name, its offset.
 impl fmt::Display for Refusal {
     fn fmt(&self, f: &mut fmt::Formatter<'_>) -> fmt::Result {
-        write!(f, "refused {} {}: {}", self.number(), self.place, self.reason)
+        write!(f, "refused {} {}: {}", self.number(), self.place, self.reason)?;
+        match self.name {
+            Some(name) => write!(f, " (the line named at {name})"),
+            None => Ok(()),
+        }
     }
 }
 
@@ -191,3 +214,23 @@ impl fmt::Display for Error {
 }
 
 impl error::Error for Error {}
+
+#[cfg(test)]
+mod tests {
+    use super::*;
+
+    #[test]
+    fn refusals_in_words() {
+        let refusal = Refusal::new(Reason::LeftRecursion, 3);
+        let words = "refused 19 3: a rule of the grammar leads back to itself before anything is consumed";
+        assert_eq!((refusal.number(), refusal.place(), refusal.name()), (19, 3, None));
+        assert_eq!((refusal.to_string(), Error::from(refusal).to_string()), (words.into(), words.into()));
+
+        let named = refusal.with_name(12);
+        let words = format!("{words} (the line named at 12)");
+        assert_eq!((named.reason(), named.place(), named.name()), (Reason::LeftRecursion, 3, Some(12)));
+        assert_eq!((named.to_string(), Error::from(named).to_string()), (words.clone(), words));
+        assert_ne!(named, refusal);
+        assert_eq!(Error::from(named).refusal(), Some(named));
+    }
+}

@@ -54,6 +54,7 @@ fn refusals() {
         "TEXT_RULES",
         "TEXT_DEPTH",
         "BUNDLE",
+        "LEFT_RECURSION",
     ];
     assert_eq!(Reason::ALL.len(), names.len());
     // 14 is the programs' own.
@@ -64,7 +65,7 @@ fn refusals() {
         named(name, number, &reason.to_string());
     }
     assert_eq!(Reason::of_number(14), None);
-    assert_eq!(Reason::of_number(19), None);
+    assert_eq!(Reason::of_number(20), None);
 }
 
 #[test]

@@ -38,11 +38,13 @@ mod ffi;
 #[cfg(test)]
 mod header;
 mod pack;
+mod recursion;
 
 pub use answers::{Config, Judged, Ran, Verdict};
 pub use bundle::{judge_bundle, Lines, Report, Totals};
 pub use error::{Error, Reason, Refusal};
 pub use pack::{pack_bundle, PackError};
+pub use recursion::{check_recursion, check_text_recursion};
 
 /// The longest capture, in bytes.
 pub const MAX_CAPTURE: usize = 65_535;

@@ -81,7 +81,7 @@ fn pop(state: u8, direction: u8) -> [u8; 4] {
     [3, state, 0, direction]
 }
 
-fn check_grammar(grammar: &[u8]) -> Result<&[[u8; 4]], Error> {
+pub(super) fn check_grammar(grammar: &[u8]) -> Result<&[[u8; 4]], Error> {
     let (rules, part) = grammar.as_chunks::<4>();
     if rules.is_empty() || grammar.len() > MAX_GRAMMAR || !part.is_empty() {
         return Err(refused(Reason::GrammarLength, grammar.len()));

@@ -7,7 +7,7 @@ use super::judge::judge_checked;
 use super::tokens::{Reader, Token};
 use sejimakpu::{Error, Judged, Reason, MAX_CAPTURE, MAX_GRAMMAR};
 
-const MAX_RULES: usize = MAX_GRAMMAR / 4;
+pub(super) const MAX_RULES: usize = MAX_GRAMMAR / 4;
 
 /// More prefixes, parts or alternatives than this need over 31 rules.
 const MAX_PARTS: usize = MAX_RULES + 1;
@@ -23,14 +23,21 @@ enum Node {
     Repetition(u8),
 }
 
+/// A line that is read: the offset of its name, and the rules so far, its helper rules the last of them.
+#[derive(Clone, Copy, Default)]
+pub(super) struct Line {
+    pub name: usize,
+    pub end: usize,
+}
+
 /// A grammar, by value.
-struct Grammar {
+pub(super) struct Grammar {
     rules: [[u8; 4]; MAX_RULES],
     count: usize,
 }
 
 impl Grammar {
-    fn rules(&self) -> &[[u8; 4]] {
+    pub fn rules(&self) -> &[[u8; 4]] {
         &self.rules[..self.count]
     }
 
@@ -175,16 +182,17 @@ impl Descent<'_> {
     }
 
     /// A name, =, an expression and ; each.
-    fn lines(mut self, lines: u32) -> Result<Grammar, TooMany> {
+    fn lines(mut self, lines: u32, mut note: impl FnMut(Line)) -> Result<Grammar, TooMany> {
         if lines as usize > MAX_RULES {
             return Err(TooMany);
         }
         self.grammar.count = lines as usize;
         for line in 0..lines as u8 {
-            self.reader.next();
+            let name = self.reader.next().map_or(0, |(offset, _)| offset);
             self.reader.next();
             let node = self.choice()?;
             self.grammar.place_line(line, node)?;
+            note(Line { name, end: self.grammar.count });
             self.reader.next();
         }
         Ok(self.grammar)
@@ -192,10 +200,15 @@ impl Descent<'_> {
 }
 
 fn read(text: &[u8]) -> Result<Grammar, Error> {
+    read_lines(text, |_| ())
+}
+
+/// Reads a text, and tells of each line as it is read.
+pub(super) fn read_lines(text: &[u8], note: impl FnMut(Line)) -> Result<Grammar, Error> {
     let lines = check_text(text)?;
     let grammar = Grammar { rules: [[0; 4]; MAX_RULES], count: 0 };
     let descent = Descent { text, reader: Reader::new(text), grammar };
-    descent.lines(lines).map_err(|TooMany| refused(Reason::TextRules, text.len()))
+    descent.lines(lines, note).map_err(|TooMany| refused(Reason::TextRules, text.len()))
 }
 
 /// Reads a text, as [`sejimakpu::read_grammar`] does.

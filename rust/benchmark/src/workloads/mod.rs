@@ -4,6 +4,7 @@ pub mod building;
 pub mod bundles;
 pub mod lines;
 pub mod looping;
+pub mod recursion;
 pub mod texts;
 pub mod two_way;
 
@@ -46,6 +47,10 @@ pub mod rule {
 
     pub const fn choice(b: u8, c: u8) -> [u8; 4] {
         [2, b, c, 0]
+    }
+
+    pub const fn not(b: u8) -> [u8; 4] {
+        [3, b, 0, 0]
     }
 
     pub const fn range(first: u8, last: u8) -> [u8; 4] {

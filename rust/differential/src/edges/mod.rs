@@ -6,6 +6,8 @@ mod inverted;
 mod long;
 mod numbers;
 mod program;
+mod recursion;
+mod recursive_texts;
 mod refusals;
 mod reports;
 mod runs;
@@ -49,5 +51,7 @@ pub fn all() -> Vec<Edge> {
     texts::add(&mut edges);
     bundles::add(&mut edges);
     reports::add(&mut edges);
+    recursion::add(&mut edges);
+    recursive_texts::add(&mut edges);
     edges.0
 }

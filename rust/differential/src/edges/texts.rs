@@ -16,6 +16,8 @@ fn text_refused(found: &mut Findings, rng: &mut Rng, text: &[u8], number: u32, p
     let old = sides::old_grammar(rng);
     let got = sides::read_grammar(found, &old, text);
     refused(found, "read grammar", got, number, place);
+    let got = sides::check_text_recursion(found, rng, text);
+    refused(found, "check text recursion", got.map_err(|got| got.refusal), number, place);
     for (image, cells) in [(82_188, 1000), (82_188, 0), (0, 1000), (0, 0)] {
         let got = sides::build_text(found, rng, text, image);
         refused(found, "build text", got, number, place);

@@ -3,6 +3,7 @@
 
 mod bundle;
 pub mod raw;
+mod recursion;
 
 use crate::compare::{self, Building, Judging, Running, TextJudging};
 use crate::findings::Findings;
@@ -14,6 +15,9 @@ use model::{calls, image, summary, walk};
 pub use bundle::{judge_bundle, pack_bundle};
 #[cfg(test)]
 pub use bundle::{old_bundling, put};
+pub use recursion::{check_recursion, check_text_recursion};
+#[cfg(test)]
+pub use recursion::{old_checking, put_checked};
 
 /// Runs up to so many steps are judged by walking too.
 const WALK_LIMIT: usize = 100_000;
@@ -21,6 +25,7 @@ const WALK_LIMIT: usize = 100_000;
 /// The library's refusal as the model's. Any other error says that the comparison is with the wrong archive.
 fn refusal(of: sejimakpu::Error) -> Refusal {
     let refusal = of.refusal().unwrap_or_else(|| panic!("{of}"));
+    assert_eq!(refusal.name(), None, "one call alone tells a name");
     Refusal { number: refusal.number(), place: refusal.place() }
 }
 

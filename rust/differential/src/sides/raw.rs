@@ -1,5 +1,6 @@
-//! The archive's own function for a bundle, called over old contents. The wrapper lends fresh lines and totals, and keeps
-//! the lines behind the last one, and what a refused call leaves, to itself.
+//! Some of the archive's own functions, called over old contents. For a bundle the wrapper lends fresh lines and totals, and
+//! keeps the lines behind the last one, and what a refused call leaves, to itself; for left recursion it keeps all but place
+//! and name.
 
 /// In C these are structs of 64-bit numbers alone, so arrays lie in the same way.
 pub type Answer = [u64; 6];
@@ -23,6 +24,8 @@ extern "C" {
         totals: *mut Totals,
         answer: *mut Answer,
     ) -> u32;
+    fn sejimakpu_check_recursion_nonnull(grammar: *const u8, grammar_length: usize, answer: *mut Answer) -> u32;
+    fn sejimakpu_check_text_recursion_nonnull(text: *const u8, text_length: usize, answer: *mut Answer) -> u32;
 }
 
 pub fn judge_bundle(
@@ -51,4 +54,14 @@ pub fn judge_bundle(
             answer,
         )
     }
+}
+
+pub fn check_recursion(grammar: &[u8], answer: &mut Answer) -> u32 {
+    // SAFETY: pointer and length are those of one slice; only `answer` is written, and the archive keeps no pointer.
+    unsafe { sejimakpu_check_recursion_nonnull(grammar.as_ptr(), grammar.len(), answer) }
+}
+
+pub fn check_text_recursion(text: &[u8], answer: &mut Answer) -> u32 {
+    // SAFETY: pointer and length are those of one slice; only `answer` is written, and the archive keeps no pointer.
+    unsafe { sejimakpu_check_text_recursion_nonnull(text.as_ptr(), text.len(), answer) }
 }

@@ -38,6 +38,8 @@ struct Reader<'a> {
     nodes: Vec<Node>,
     uses: Vec<(usize, &'a [u8])>,
     numbers: HashMap<&'a [u8], usize>,
+    /// The offset of each line's name.
+    names: Vec<usize>,
     bodies: Vec<usize>,
     spot: Spot,
     /// The last one is the innermost. Empty outside of expressions.
@@ -50,6 +52,7 @@ pub fn read(text: &[u8]) -> Result<Typed, Refusal> {
         nodes: Vec::new(),
         uses: Vec::new(),
         numbers: HashMap::new(),
+        names: Vec::new(),
         bodies: Vec::new(),
         spot: Spot::Line,
         frames: Vec::new(),
@@ -66,7 +69,7 @@ pub fn read(text: &[u8]) -> Result<Typed, Refusal> {
 impl<'a> Reader<'a> {
     fn take(&mut self, offset: usize, token: Token<'a>) -> Result<(), Fault> {
         match (&self.spot, token) {
-            (Spot::Line, Token::Name(name)) => self.begin(name),
+            (Spot::Line, Token::Name(name)) => self.begin(offset, name),
             (Spot::Equals, Token::Equals) => {
                 self.spot = Spot::Expression;
                 self.frames.push(Frame::default());
@@ -77,11 +80,12 @@ impl<'a> Reader<'a> {
         }
     }
 
-    fn begin(&mut self, name: &'a [u8]) -> Result<(), Fault> {
+    fn begin(&mut self, offset: usize, name: &'a [u8]) -> Result<(), Fault> {
         let number = self.numbers.len();
         if self.numbers.insert(name, number).is_some() {
             return Err(SYNTAX);
         }
+        self.names.push(offset);
         self.spot = Spot::Equals;
         Ok(())
     }
@@ -211,6 +215,6 @@ impl<'a> Reader<'a> {
                 }
             }
         }
-        Ok(Typed { nodes: self.nodes, bodies: self.bodies })
+        Ok(Typed { nodes: self.nodes, bodies: self.bodies, names: self.names })
     }
 }

@@ -38,11 +38,12 @@ pub enum Node {
     Choice(usize, usize),
 }
 
-/// A text whose every name is defined: all parts, and the whole expression of each line.
+/// A text whose every name is defined: all parts, the whole expression of each line, and the offset of each line's name.
 #[derive(Clone, Debug, PartialEq, Eq)]
 pub struct Typed {
     pub nodes: Vec<Node>,
     pub bodies: Vec<usize>,
+    pub names: Vec<usize>,
 }
 
 /// The most rules that a grammar may have.
@@ -72,7 +73,12 @@ impl Typed {
 
     /// The bytes of the grammar, for a text that needs no more rules than a grammar may have.
     pub fn grammar(&self) -> Vec<u8> {
-        numbering::rules(self).into_iter().flat_map(numbering::bytes).collect()
+        numbering::rules(self).into_iter().flat_map(|rule| numbering::bytes(rule.part)).collect()
+    }
+
+    /// For each rule of the grammar the line that it is of: its own, or the one whose expression needs it.
+    pub fn line_of_each_rule(&self) -> Vec<usize> {
+        numbering::rules(self).into_iter().map(|rule| rule.line).collect()
     }
 }
 

@@ -4,25 +4,37 @@
 use super::{Node, Prefix, Suffix, Typed};
 use crate::grammar::Part;
 
-/// The rules so far: a line's own is put in its place when its expression is met, which is the last of its parts.
-struct Rules(Vec<Part>);
+/// A rule, and the line that it is of.
+#[derive(Clone, Copy)]
+pub struct Rule {
+    pub part: Part,
+    pub line: usize,
+}
 
-pub fn rules(typed: &Typed) -> Vec<Part> {
-    let mut rules = Rules(vec![Part::Empty; typed.bodies.len()]);
+/// The rules so far: a line's own is put in its place when its expression is met, which is the last of its parts.
+struct Rules {
+    rules: Vec<Rule>,
+    /// The line that the parts now met are of.
+    line: usize,
+}
+
+pub fn rules(typed: &Typed) -> Vec<Rule> {
+    let of_lines = (0..typed.bodies.len()).map(|line| Rule { part: Part::Empty, line });
+    let mut rules = Rules { rules: of_lines.collect(), line: 0 };
     let mut numbers = Vec::new();
-    let mut lines = typed.bodies.iter().enumerate().peekable();
     for (index, &node) in typed.nodes.iter().enumerate() {
-        let line = lines.next_if(|&(_, &body)| body == index).map(|(line, _)| line);
-        let number = rules.number(&numbers, node, line);
+        let is_last = typed.bodies[rules.line] == index;
+        let number = rules.number(&numbers, node, is_last.then_some(rules.line));
         numbers.push(number);
+        rules.line += is_last as usize;
     }
-    rules.0
+    rules.rules
 }
 
 impl Rules {
-    fn add(&mut self, rule: Part) -> usize {
-        self.0.push(rule);
-        self.0.len() - 1
+    fn add(&mut self, part: Part) -> usize {
+        self.rules.push(Rule { part, line: self.line });
+        self.rules.len() - 1
     }
 
     /// Puts a part's own rules, the last at the line's number where it is all of a line; answers the part's number.
@@ -51,7 +63,7 @@ impl Rules {
         };
         match line {
             Some(line) => {
-                self.0[line] = own;
+                self.rules[line].part = own;
                 line
             }
             None => self.add(own),
@@ -63,7 +75,7 @@ impl Rules {
         let choice = line.unwrap_or_else(|| self.add(Part::Empty));
         let sequence = self.add(Part::Sequence(operand, choice));
         let empty = self.add(Part::Empty);
-        self.0[choice] = Part::Choice(sequence, empty);
+        self.rules[choice].part = Part::Choice(sequence, empty);
         choice
     }
 }

@@ -160,7 +160,7 @@ mod tests {
             assert_eq!(Answer { count: captures as u64, ..UNWRITTEN }.captures(), Ok(captures));
         }
         let zero = Line::default();
-        for refusal in [14, 19, 1 << 32 | 8, OLD] {
+        for refusal in [14, 20, 1 << 32 | 8, OLD] {
             assert_eq!(Line { refusal, ..zero }.judged(), Err(of("refusal", refusal)));
         }
         for verdict in [0, 7, OLD] {

@@ -1,15 +1,18 @@
-//! The archive's functions, as `include/sejimakpu.h` declares them. All `unsafe` of the crate is here and in [`bundle`].
+//! The archive's functions, as `include/sejimakpu.h` declares them. All `unsafe` of the crate is here, in [`bundle`] and in
+//! [`recursion`].
 //!
 //! What makes each call sound: a slice's pointer is never null, is aligned, and is good for the slice's length, also
 //! where that is 0; what the archive may write is borrowed by `&mut`, so that it overlaps nothing else; and the archive
 //! keeps no pointer after the call and does not unwind.
 mod bundle;
+mod recursion;
 #[cfg(test)]
 mod tests;
 
 use crate::{Config, Error, Judged, Reason, Refusal, Verdict, MAX_GRAMMAR};
 
 pub(crate) use bundle::{judge_bundle, Line};
+pub(crate) use recursion::{check_recursion, check_text_recursion};
 
 /// A call's answer, field by field as in C.
 #[repr(C)]
@@ -59,10 +62,25 @@ impl Answer {
 
 /// Makes a call: its answer, or why there is none.
 pub(crate) fn answer_of(call: impl FnOnce(&mut Answer) -> u32) -> Result<Answer, Error> {
+    answer_or(call, Answer::refusal)
+}
+
+/// The same of a call on a text, whose refusal 19 has the offset of a name in the place of a count.
+pub(crate) fn named_answer_of(call: impl FnOnce(&mut Answer) -> u32) -> Result<Answer, Error> {
+    answer_or(call, |answer, returned| match answer.refusal(returned)? {
+        refusal if refusal.reason() == Reason::LeftRecursion => Ok(refusal.with_name(answer.count()?)),
+        refusal => Ok(refusal),
+    })
+}
+
+fn answer_or(
+    call: impl FnOnce(&mut Answer) -> u32,
+    refusal: impl FnOnce(&Answer, u64) -> Result<Refusal, Error>,
+) -> Result<Answer, Error> {
     let mut answer = Answer::default();
     match call(&mut answer) {
         0 => Ok(answer),
-        returned => Err(answer.refusal(returned.into())?.into()),
+        returned => Err(refusal(&answer, returned.into())?.into()),
     }
 }
 

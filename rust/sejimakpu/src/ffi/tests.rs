@@ -94,6 +94,29 @@ fn judge_text_writes_every_field() {
     assert_eq!(lent, image());
 }
 
+#[test]
+fn check_recursion_writes_every_field() {
+    let check = |grammar: &[u8]| told(|answer| check_recursion(grammar, answer));
+    assert_eq!(check(&[]), [11, 0, 0, 0, 0, 0, 0]);
+    assert_eq!(check(&[1, 0, 0, 0, 4, 0, 1, 0]), [12, 4, 0, 0, 0, 0, 0]);
+    // The place is a rule's number, and no offset.
+    assert_eq!(check(&[4, 0, 0, 0, 3, 1, 0, 0]), [19, 1, 0, 0, 0, 0, 0]);
+    assert_eq!(check(&[1, 0, 0, 0]), [19, 0, 0, 0, 0, 0, 0]);
+    assert_eq!(check(&[4, 0, 0, 0]), [0; 7]);
+}
+
+#[test]
+fn check_text_recursion_writes_every_field() {
+    let check = |text: &[u8]| told(|answer| check_text_recursion(text, answer));
+    assert_eq!(check(b"a=a;b"), [15, 5, 0, 0, 0, 0, 0]);
+    assert_eq!(check(b"a=a.++++++++;"), [16, 13, 0, 0, 0, 0, 0]);
+    assert_eq!(check(b"a=((((((((((((((((("), [17, 18, 0, 0, 0, 0, 0]);
+    assert_eq!(check(b"a=a;"), [19, 0, 0, 0, 0, 0, 0]);
+    // The lines' own rules, 2 and 3 of a, and 4 to 6 of the star in b, whose first leads back.
+    assert_eq!(check(b"a=.?; b=a* .;"), [19, 4, 0, 6, 0, 0, 0]);
+    assert_eq!(check(b"a=.;"), [0; 7]);
+}
+
 /// What another archive might give is an error, and no panic.
 #[test]
 fn unknown_numbers_are_a_mismatch() {
@@ -106,10 +129,31 @@ fn unknown_numbers_are_a_mismatch() {
     assert_eq!(Answer { state: 1 << 32, ..zero }.config(), Err(of("state", 1 << 32)));
     assert_eq!(Answer { head: 1 << 32, ..zero }.config(), Err(of("head", 1 << 32)));
     assert_eq!(Answer { symbol: 1 << 32, ..zero }.config(), Err(of("symbol", 1 << 32)));
-    for unknown in [14, 19, u32::MAX] {
+    for unknown in [14, 20, u32::MAX] {
         assert_eq!(answer_of(|_| unknown).err(), Some(of("refusal", unknown.into())));
     }
     assert_eq!(answer_of(|_| 13).err(), Some(Refusal::new(Reason::ImageBufferShort, 0).into()));
     assert_eq!(answer_of(|_| 17).err(), Some(Refusal::new(Reason::TextDepth, 0).into()));
     assert_eq!(answer_of(|_| 18).err(), Some(Refusal::new(Reason::Bundle, 0).into()));
+    assert_eq!(answer_of(|_| 19).err(), Some(Refusal::new(Reason::LeftRecursion, 0).into()));
+}
+
+/// A name is told with refusal 19 alone, and by the call that gives one.
+#[test]
+fn names_are_told_with_left_recursion_alone() {
+    let wrote = |number, place, count| {
+        move |answer: &mut Answer| {
+            *answer = Answer { place, count, ..Answer::default() };
+            number
+        }
+    };
+    let recursion = Refusal::new(Reason::LeftRecursion, 3);
+    assert_eq!(named_answer_of(wrote(19, 3, 12)).err(), Some(recursion.with_name(12).into()));
+    assert_eq!(named_answer_of(wrote(19, 3, 0)).err(), Some(recursion.with_name(0).into()));
+    assert_eq!(answer_of(wrote(19, 3, 12)).err(), Some(recursion.into()));
+    let syntax = Refusal::new(Reason::TextSyntax, 3);
+    assert_eq!(named_answer_of(wrote(15, 3, 12)).err(), Some(syntax.into()));
+    let unknown = Error::Mismatch { field: "refusal", value: 20 };
+    assert_eq!(named_answer_of(wrote(20, 3, 12)).err(), Some(unknown));
+    assert!(named_answer_of(wrote(0, 0, 0)).is_ok());
 }

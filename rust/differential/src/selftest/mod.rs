@@ -1,5 +1,7 @@
 //! The tests can fail: wrong answers made on purpose are told apart from right ones by the comparing functions.
 
+mod recursion;
+
 use crate::compare::{
     answers, building, bundling, judging, running, text_judging, Building, Bundling, Judging, Running, TextJudging,
 };
