@@ -1,6 +1,6 @@
 -- What was read is as long as reading says, and what is held at the start of the program's buffer is what is to be written. Assumes nothing.
 use mathlib.Core.Path.{_≡_, sym, ap, subst, _∙_}
-use mathlib.Core.Bool.{Bool, true, false}
+use mathlib.Core.Bool.{Bool}
 use mathlib.Core.List.{List}
 use Prim.Native.Nat.{ℕ, _≤_}
 use native.Mathlib.Nat.{le-trans}
@@ -9,14 +9,10 @@ use lib.ListN.{length, take}
 use lib.Seq.{take-at, length-take-le}
 use Rattle.text.specs.Line.{max-line, Lined}
 use Rattle.text.proofs.Writing.{written-whole, count-within}
-use Rattle.typed.specs.declared.left_recursion.TextRecursion.{TextRecursion}
-use Rattle.typed.specs.Recursion.{Text-recursion-says}
-use Rattle.transfer.specs.declared.Outcome.{Outcome}
-use Rattle.transfer.specs.Transfers.{has-failed}
 use Rattle.transfer.specs.declared.Stop.{Stop}
 use Rattle.transfer.proofs.Outcomes.{stops-within}
 use Rattle.read_text.specs.declared.Output.{Output}
-use Rattle.read_text.specs.Program.{max-text, check-line, Text-output, checked, fits, whole, Holds, Buffer, Text-says, Writes}
+use Rattle.read_text.specs.Program.{Holds, Buffer, Text-says}
 
 -- what was read is as long as reading says
 pub read-long : (input : List ℕ) (stop : Stop) → Buffer input stop → length (take (stop .count) input) ≡ stop .count
@@ -33,15 +29,6 @@ line-held line buffer r h room same =
       within = omega (arith, count-within (h .holds), same);
     }
 
--- a checked text's output is the line of what the check answers
-pub line-checked :
-    (xs : List ℕ) (r s : TextRecursion) (o : Output) → Text-recursion-says xs r → r ≡ s → Holds o (check-line s) → Text-says true xs o
-line-checked xs r s o says is held =
-    record { output = check-line s; right = checked (subst (Text-recursion-says xs) is says); held = held }
-
--- what is said of a text that is not too long is what is written, where no read failed
-pub text-written :
-    (checks t : Bool) (last : Outcome) (xs : List ℕ) (r : Output) → checks ≡ t → has-failed last ≡ false → length xs ≤ max-text → Text-says t xs r →
-    Writes checks last xs r
-text-written checks t last xs r is none short s =
-    record { output = s .output; right = whole none (fits short (subst (λ (b : Bool). Text-output xs b (s .output)) (sym is) (s .right))); held = s .held }
+-- what is said of a text, by what is asked for
+pub asked-for : (checks t : Bool) (xs : List ℕ) (r : Output) → checks ≡ t → Text-says t xs r → Text-says checks xs r
+asked-for checks t xs r is s = subst (λ (b : Bool). Text-says b xs r) (sym is) s

@@ -13,9 +13,9 @@ use typed::left_recursion::TextRecursion;
 use typed::left_recursion::check_text_recursion;
 ghost use mathlib.Core.Bool.{true, false};
 ghost use lib.ListN.{take};
-ghost use Rattle.text.specs.Line.{refusal-line, recursion-line, passes-line};
+ghost use Rattle.text.specs.Line.{refusal-line, Lined};
 ghost use Rattle.refusal.specs.First.{refusal};
-ghost use Rattle.read_text.specs.Program.{Holds, Buffer, Text-says, Writes};
+ghost use Rattle.read_text.specs.Program.{check-line, Holds, Buffer, Text-says, Writes};
 
 // The longest text, in bytes.
 const MAX_TEXT: usize = 65536;
@@ -53,22 +53,15 @@ fn unread() -> Output
     no_text()
 }
 
-// The line of a grammar with no rule that leads back to itself.
-fn passing() -> Output
-    ensures { λ r. ⌜ Holds r passes-line ⌝ }
+// The line of what the check for left recursion answers.
+fn put_check(out: &mut [u8], checked: TextRecursion) -> usize
+    ensures { λ r. ⌜ Lined (check-line checked) (now (out .entry)) (now (out .exit)) r ⌝ }
 {
-    let mut bytes = [0u8; 124];
-    let length = put_passes(&mut bytes);
-    Output { bytes, length }
-}
-
-// The line of a rule that leads back to itself, and of its line's name.
-fn recursive(rule: usize, name: usize) -> Output
-    ensures { λ r. ⌜ Holds r (recursion-line rule name) ⌝ }
-{
-    let mut bytes = [0u8; 124];
-    let length = put_recursion(&mut bytes, rule, name);
-    Output { bytes, length }
+    match checked {
+        TextRecursion::Passes => put_passes(out),
+        TextRecursion::Refused(refusal) => put_refusal(out, refusal),
+        TextRecursion::Recursive(rule, name) => put_recursion(out, rule, name),
+    }
 }
 
 // What is written for a text that is checked.
@@ -76,11 +69,9 @@ fn check_of_text(text: &[u8]) -> Output
     ensures { λ r. ⌜ Text-says true (now (text .entry)) r ⌝ }
 {
     let checked = check_text_recursion(text);
-    match checked {
-        TextRecursion::Passes => passing(),
-        TextRecursion::Refused(refusal) => refused(refusal),
-        TextRecursion::Recursive(rule, name) => recursive(rule, name),
-    }
+    let mut bytes = [0u8; 124];
+    let length = put_check(&mut bytes, checked);
+    Output { bytes, length }
 }
 
 // What is written for a text that is read: its grammar's bytes, or its refusal's line.
@@ -97,6 +88,16 @@ fn output_of_text(text: &[u8]) -> Output
     Output { bytes, length }
 }
 
+// What is written for a text, by what is asked for.
+fn output_by(text: &[u8], checks: bool) -> Output
+    ensures { λ r. ⌜ Text-says checks (now (text .entry)) r ⌝ }
+{
+    if checks {
+        return check_of_text(text);
+    }
+    output_of_text(text)
+}
+
 // What is written for the input that stands at the start of its buffer, by how reading it stopped.
 fn output_of(input: &[u8], stop: Stop, checks: bool) -> Output
     requires { ⌜ Buffer (now input) stop ⌝ }
@@ -109,10 +110,7 @@ fn output_of(input: &[u8], stop: Stop, checks: bool) -> Output
     if MAX_TEXT < count {
         return no_text();
     }
-    if checks {
-        return check_of_text(&input[..count]);
-    }
-    output_of_text(&input[..count])
+    output_by(&input[..count], checks)
 }
 
 // One byte more than a text may have is asked for, so that a longer input is noticed.

@@ -1,9 +1,9 @@
--- `read_text::output_of` meets its contract: by whether a read failed, then by the length, then by what is asked for. Assumes nothing.
+-- `read_text::output_of` meets its contract: by whether a read failed, then by the length. Assumes nothing.
 use mathlib.Core.Path.{sym, _∙_}
 use native.Mathlib.Omega.{arith}
 use borrow.Author.Needs.{needs}
-use Rattle.read_text.proofs.Outputs.{read-long, text-written}
-use Rattle.read_text.specs.Program.{too-long, unread, whole}
+use Rattle.read_text.proofs.Outputs.{read-long}
+use Rattle.read_text.specs.Program.{too-long, fits, unread, whole}
 use Rattle.read_text.proofs.output_of.Statement.{statement}
 use Rattle.read_text.proofs.output_of.Tie as tie
 
@@ -36,35 +36,26 @@ returns-2 c =
       held = c .no-text .ensures;
     }
 
-slice-aggregate-check-of-text : tie.Need-slice-aggregate-check-of-text
-slice-aggregate-check-of-text c =
-    let start = c .before .before .before .before .before .before in
+slice-aggregate-output-by : tie.Need-slice-aggregate-output-by
+slice-aggregate-output-by c =
+    let start = c .before .before .before .before .before in
     sym (read-long (start .args .input .now) (start .args .stop) (start .pre))
 
-check-of-text-requires : tie.Need-check-of-text-requires
-check-of-text-requires c κs = search needs
+output-by-requires : tie.Need-output-by-requires
+output-by-requires c κs = search needs
 
 returns-3 : tie.Need-returns-3
 returns-3 c =
-    let start = c .before .before .before .before .before .before .before in
+    let test = c .before .before in
+    let got = test .before .before in
+    let start = got .before .before in
     let long = read-long (start .args .input .now) (start .args .stop) (start .pre) in
-    text-written _ _ _ _ _ (c .before .before .if3 .taken) (sym (c .before .before .before .before .before .failed .ensures) ∙ c .before .before .before .before .if1 .left)
-    (omega (arith, long, c .before .before .before .if2 .left)) (c .check-of-text .ensures)
-
-slice-aggregate-output-of-text : tie.Need-slice-aggregate-output-of-text
-slice-aggregate-output-of-text c =
-    let start = c .before .before .before .before .before .before in
-    sym (read-long (start .args .input .now) (start .args .stop) (start .pre))
-
-output-of-text-requires : tie.Need-output-of-text-requires
-output-of-text-requires c κs = search needs
-
-returns-4 : tie.Need-returns-4
-returns-4 c =
-    let start = c .before .before .before .before .before .before .before in
-    let long = read-long (start .args .input .now) (start .args .stop) (start .pre) in
-    text-written _ _ _ _ _ (c .before .before .if3 .left) (sym (c .before .before .before .before .before .failed .ensures) ∙ c .before .before .before .before .if1 .left)
-    (omega (arith, long, c .before .before .before .if2 .left)) (c .output-of-text .ensures)
+    let said = c .output-by .ensures in
+    record {
+      output = said .output;
+      right = whole (sym (got .failed .ensures) ∙ test .before .if1 .left) (fits (omega (arith, long, test .if2 .left)) (said .right));
+      held = said .held;
+    }
 
 pub output-of-spec : {M : Type 1} → statement M
 output-of-spec =
@@ -75,9 +66,6 @@ output-of-spec =
     returns
     no-text-requires
     returns-2
-    slice-aggregate-check-of-text
-    check-of-text-requires
-    returns-3
-    slice-aggregate-output-of-text
-    output-of-text-requires
-    returns-4)
+    slice-aggregate-output-by
+    output-by-requires
+    returns-3)
