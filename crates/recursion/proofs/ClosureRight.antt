@@ -13,9 +13,10 @@ use Rattle.grammar.specs.declared.Expression.the-variants.{Sequence, Choice, No
 use Rattle.grammar.specs.Grammar.{rules, expression, Parts-below, grammar-refusal}
 use Rattle.grammar.specs.Parsing.{Rules}
 use Rattle.grammar.proofs.GrammarGood.{good-grammar}
+use Rattle.grammar.proofs.Bools.{both-true, both-hold, first-holds, second-holds}
 use Rattle.recursion.specs.LeftRecursion.{May-match-nothing, Leads, first-part, second-part, one, other, its-own, Leads-on, last, more}
 use Rattle.recursion.specs.Computed.{Set, leads-by, leads-through, nothing-of, leads-on}
-use Rattle.recursion.proofs.NothingLeast.{both-true, one-true, or-first, or-second, and-both, nothing-exact}
+use Rattle.recursion.proofs.NothingLeast.{one-true, nothing-exact}
 
 pub then-on : {E : Rules} {k l n : ℕ} → Leads-on E k l → Leads-on E l n → Leads-on E k n
 then-on (last x) y = more x y
@@ -69,11 +70,11 @@ module _ (E : Rules) (m : ℕ) (closed : (k : ℕ) → k < m → Parts-below m (
 
   leads-row : {k l : ℕ} → k < m → Leads E k l → leads-by s (E k) l ≡ true
   unfolding leads-by Parts-below
-  leads-row {k} {l} h (first-part {c = c} e) = rw e (or-first (eqb l l) (s l && eqb l c) (eq-eqb l l refl))
+  leads-row {k} {l} h (first-part {c = c} e) = rw e (first-holds (eqb l l) (s l && eqb l c) (eq-eqb l l refl))
   leads-row {k} {l} h (second-part {b = b} e x) =
-      rw e (or-second (eqb l b) (s b && eqb l l) (and-both (s b) (eqb l l) (nothing b ((rw e at (closed k h)) .0) .1 x) (eq-eqb l l refl)))
-  leads-row {k} {l} h (one {c = c} e) = rw e (or-first (eqb l l) (eqb l c) (eq-eqb l l refl))
-  leads-row {k} {l} h (other {b = b} e) = rw e (or-second (eqb l b) (eqb l l) (eq-eqb l l refl))
+      rw e (second-holds (eqb l b) (s b && eqb l l) (both-hold (s b) (eqb l l) (nothing b ((rw e at (closed k h)) .0) .1 x) (eq-eqb l l refl)))
+  leads-row {k} {l} h (one {c = c} e) = rw e (first-holds (eqb l l) (eqb l c) (eq-eqb l l refl))
+  leads-row {k} {l} h (other {b = b} e) = rw e (second-holds (eqb l b) (eqb l l) (eq-eqb l l refl))
   leads-row {k} {l} h (its-own e) = rw e (eq-eqb l l refl)
 
   -- WHAT THE CLOSURE HAS is led on to
@@ -97,10 +98,10 @@ module _ (E : Rules) (m : ℕ) (closed : (k : ℕ) → k < m → Parts-below m (
     where
       go : ((i j : ℕ) → i < m → Via E n i j → leads-through E s n i j ≡ true) → Via E n k l ⊎ (Via E n k n × Via E n n l) →
           (leads-through E s n k l || (leads-through E s n k n && leads-through E s n n l)) ≡ true
-      go before (inl w) = or-first (leads-through E s n k l) (leads-through E s n k n && leads-through E s n n l) (before k l g w)
+      go before (inl w) = first-holds (leads-through E s n k l) (leads-through E s n k n && leads-through E s n n l) (before k l g w)
       go before (inr (v, w)) =
-          or-second (leads-through E s n k l) (leads-through E s n k n && leads-through E s n n l)
-          (and-both (leads-through E s n k n) (leads-through E s n n l) (before k n g v) (before n l (omega arith) w))
+          second-holds (leads-through E s n k l) (leads-through E s n k n && leads-through E s n n l)
+          (both-hold (leads-through E s n k n) (leads-through E s n n l) (before k n g v) (before n l (omega arith) w))
 
   leads-via : {k l : ℕ} → k < m → Leads-on E k l → Via E m k l
   leads-via h (last x) = straight x

@@ -1,6 +1,6 @@
 -- The rules that the rounds find are those that may match nothing, and no others: the least set, in both directions. Assumes nothing.
 use mathlib.Core.Path.{_≡_, refl}
-use mathlib.Core.Bool.{Bool, true, false, _&&_, _||_, false≢true}
+use mathlib.Core.Bool.{Bool, true, false, _||_, false≢true}
 use mathlib.Core.Logic.{_↔_, _⊎_, inl, inr}
 use Prim.Native.Nat.{ℕ, zero, suc, _<_, _≤_}
 use native.Mathlib.Omega.{arith}
@@ -8,32 +8,16 @@ use Rattle.grammar.specs.declared.Expression.{Expression}
 use Rattle.grammar.specs.declared.Expression.the-variants.{Sequence, Choice, Not, Empty, Range}
 use Rattle.grammar.specs.Grammar.{Parts-below}
 use Rattle.grammar.specs.Parsing.{Rules}
+use Rattle.grammar.proofs.Bools.{both-true, both-hold, first-holds, second-holds}
 use Rattle.recursion.specs.LeftRecursion.{Such-set, May-match-nothing, empty, a-not, sequence, choice, choice-other}
 use Rattle.recursion.specs.Computed.{Set, nothing-by, nothing-after}
 use Rattle.refusal.proofs.Searching.{Looked, all-have, lacking, look}
 use Rattle.recursion.proofs.Counting.{how-many-in, inside-fewer, all-below}
 
--- THE LAWS OF and AND or
-pub both-true : (a b : Bool) → (a && b) ≡ true → (a ≡ true) × (b ≡ true)
-both-true true true e = (refl, refl)
-both-true true false e = absurd (false≢true e)
-both-true false b e = absurd (false≢true e)
-
+-- where one of two holds, the first does or the second
 pub one-true : (a b : Bool) → (a || b) ≡ true → (a ≡ true) ⊎ (b ≡ true)
 one-true true b e = inl refl
 one-true false b e = inr e
-
-pub or-second : (a b : Bool) → b ≡ true → (a || b) ≡ true
-or-second true b e = refl
-or-second false b e = e
-
-pub or-first : (a b : Bool) → a ≡ true → (a || b) ≡ true
-or-first true b e = refl
-or-first false b e = absurd (false≢true e)
-
-pub and-both : (a b : Bool) → a ≡ true → b ≡ true → (a && b) ≡ true
-and-both true b e f = f
-and-both false b e f = absurd (false≢true e)
 
 -- WHAT THE ROUNDS FIND may match nothing
 pub found-may : (E : Rules) (n k : ℕ) → nothing-after E n k ≡ true → May-match-nothing E k
@@ -57,12 +41,12 @@ found-may E (suc n) k h = go (λ j. found-may E n j) (E k) refl h
 pub nothing-grows :
     (m : ℕ) (s t : Set) → ((k : ℕ) → k < m → s k ≡ true → t k ≡ true) → (e : Expression) → Parts-below m e → nothing-by s e ≡ true → nothing-by t e ≡ true
 unfolding nothing-by Parts-below
-nothing-grows m s t more (Sequence b c) (x, y) h = let (p, q) = both-true (s b) (s c) h in and-both (t b) (t c) (more b x p) (more c y q)
+nothing-grows m s t more (Sequence b c) (x, y) h = let (p, q) = both-true (s b) (s c) h in both-hold (t b) (t c) (more b x p) (more c y q)
 nothing-grows m s t more (Choice b c) (x, y) h = go (one-true (s b) (s c) h)
   where
     go : (s b ≡ true) ⊎ (s c ≡ true) → (t b || t c) ≡ true
-    go (inl p) = or-first (t b) (t c) (more b x p)
-    go (inr q) = or-second (t b) (t c) (more c y q)
+    go (inl p) = first-holds (t b) (t c) (more b x p)
+    go (inr q) = second-holds (t b) (t c) (more c y q)
 nothing-grows m s t more (Not b) x h = refl
 nothing-grows m s t more Empty x h = refl
 nothing-grows m s t more (Range b c) x h = h
@@ -122,11 +106,11 @@ module _ (E : Rules) (m : ℕ) (closed : (k : ℕ) → k < m → Parts-below m (
   closed-has S no-more k h (empty is) = no-more k h (rw is refl)
   closed-has S no-more k h (a-not is) = no-more k h (rw is refl)
   closed-has S no-more k h (sequence {b = b} {c = c} is x y) =
-      let (p, q) = rw is at (closed k h) in no-more k h (rw is (and-both (S b) (S c) (closed-has S no-more b p x) (closed-has S no-more c q y)))
+      let (p, q) = rw is at (closed k h) in no-more k h (rw is (both-hold (S b) (S c) (closed-has S no-more b p x) (closed-has S no-more c q y)))
   closed-has S no-more k h (choice {b = b} {c = c} is x) =
-      let (p, q) = rw is at (closed k h) in no-more k h (rw is (or-first (S b) (S c) (closed-has S no-more b p x)))
+      let (p, q) = rw is at (closed k h) in no-more k h (rw is (first-holds (S b) (S c) (closed-has S no-more b p x)))
   closed-has S no-more k h (choice-other {b = b} {c = c} is y) =
-      let (p, q) = rw is at (closed k h) in no-more k h (rw is (or-second (S b) (S c) (closed-has S no-more c q y)))
+      let (p, q) = rw is at (closed k h) in no-more k h (rw is (second-holds (S b) (S c) (closed-has S no-more c q y)))
 
   -- WHAT MAY MATCH NOTHING is found
   pub may-found : (k : ℕ) → k < m → May-match-nothing E k → nothing-after E m k ≡ true

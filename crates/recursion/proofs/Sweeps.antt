@@ -12,10 +12,11 @@ use Rattle.grammar.specs.declared.Expression.{Expression}
 use Rattle.grammar.specs.Parsing.{Rules}
 use Rattle.grammar.specs.Grammar.{rules, expression, Parts-below, grammar-refusal}
 use Rattle.grammar.proofs.GrammarGood.{good-grammar}
+use Rattle.grammar.proofs.Bools.{both-true, both-hold, first-holds, second-holds}
 use Rattle.recursion.specs.Computed.{nothing-by, nothing-after, nothing-of}
 use Rattle.recursion.specs.code.Sets.{member, Looked-at, Sweepable, Swept}
 use Rattle.recursion.proofs.Members.{no-members}
-use Rattle.recursion.proofs.NothingLeast.{both-true, one-true, or-first, or-second, and-both, nothing-grows, stable-after, found-may, closed-has}
+use Rattle.recursion.proofs.NothingLeast.{one-true, nothing-grows, stable-after, found-may, closed-has}
 
 same-truth : (a b : Bool) → (a ≡ true → b ≡ true) → (b ≡ true → a ≡ true) → a ≡ b
 same-truth true b f g = sym (f refl)
@@ -77,7 +78,7 @@ module _ (gs : List ℕ) (good : grammar-refusal gs .number ≡ 0) where
       }
     where
       in-now : (l : ℕ) → member found l ≡ true → member now l ≡ true
-      in-now l t = look .adds l ∙ or-first (member found l) (nothing-by (member found) (expression gs k) && eqb l k) t
+      in-now l t = look .adds l ∙ first-holds (member found l) (nothing-by (member found) (expression gs k) && eqb l k) t
 
       by-part : (l : ℕ) → l < rules gs → (member found l ≡ true) ⊎ ((nothing-by (member found) (expression gs k) && eqb l k) ≡ true) → nothing-of gs l ≡ true
       by-part l h (inl t) = s .only l h t
@@ -95,8 +96,8 @@ module _ (gs : List ℕ) (good : grammar-refusal gs .number ≡ 0) where
           let found-may-too = nothing-grows (rules gs) (member known) (member found) (λ j b t. s .kept j t) (expression gs l) (closed l h) may in
           same l
           (look .adds l
-          ∙ or-second (member found l) (nothing-by (member found) (expression gs k) && eqb l k)
-          (and-both (nothing-by (member found) (expression gs k)) (eqb l k) (rw (← here) found-may-too) (eq-eqb l k here)))
+          ∙ second-holds (member found l) (nothing-by (member found) (expression gs k) && eqb l k)
+          (both-hold (nothing-by (member found) (expression gs k)) (eqb l k) (rw (← here) found-may-too) (eq-eqb l k here)))
 
   -- ALL RULES
   pub sweep-ends : (known found : ℕ) (Seen : ℕ → Type 0) → ((k : ℕ) → k < rules gs → Seen k) → Sweeping gs known found Seen → Swept gs known found
