@@ -32,7 +32,8 @@ enum {
     SEJIMAKPU_STUCK = 3,      /* the run came to a configuration that has no rule */
     SEJIMAKPU_LOOPING = 4,    /* the run has no end; said by judging alone */
     SEJIMAKPU_SPENT = 5,      /* the budget was used up before the run's end; said by sejimakpu_plain_run alone */
-    SEJIMAKPU_DEEP = 6        /* a push found no stack cell; said by sejimakpu_plain_run alone */
+    SEJIMAKPU_DEEP = 6,       /* a push found no stack cell; said by sejimakpu_plain_run alone */
+    SEJIMAKPU_HALTED = 7      /* the run came to a rule that is written to halt it; never said of a grammar's image */
 };
 
 /* Refusals: the number that a function returns. The place, in answer->place, is what stands after the colon. */

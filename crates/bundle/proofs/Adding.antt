@@ -6,7 +6,7 @@ use native.Mathlib.Nat.{add-zero}
 use native.Mathlib.Omega.{arith}
 use lib.Dec.{eqb}
 use Rattle.machine.specs.declared.Verdict.{Verdict}
-use Rattle.machine.specs.declared.Verdict.the-variants.{Accepted, Ended, Stuck, Looping}
+use Rattle.machine.specs.declared.Verdict.the-variants.{Accepted, Ended, Stuck, Looping, Halted}
 use Rattle.machine.specs.Replies.{verdict-number}
 use Rattle.refusal.specs.declared.Refusal.{Refusal}
 use Rattle.simulator.specs.declared.Judged.{Judged}
@@ -16,37 +16,44 @@ use Rattle.bundle.specs.declared.Totals.{Totals}
 use Rattle.bundle.specs.Report.{gives, is-refused, line-readings}
 use Rattle.bundle.specs.code.Judging.{max-u32, Room-after, with-line}
 
-abbrev totals-of : (accepted ended stuck looping refused readings : ℕ) → Totals
-totals-of a e s l f n = record { accepted = a; ended = e; stuck = s; looping = l; refused = f; readings = n }
+abbrev totals-of : (accepted ended stuck looping halted refused readings : ℕ) → Totals
+totals-of a e s l h f n =
+    record { accepted = a; ended = e; stuck = s; looping = l; halted = h; refused = f; readings = n }
 
 module _ (t : Totals) (j : Judgement) where
   pub accepted-added :
       j .verdict ≡ Accepted →
-      totals-of (t .accepted + 1) (t .ended) (t .stuck) (t .looping) (t .refused) (t .readings + j .readings) ≡ with-line t (Answer j)
+      totals-of (t .accepted + 1) (t .ended) (t .stuck) (t .looping) (t .halted) (t .refused) (t .readings + j .readings) ≡ with-line t (Answer j)
   unfolding with-line gives is-refused line-readings verdict-number
   accepted-added e = rw e (simp add-zero)
 
   pub ended-added :
       j .verdict ≡ Ended →
-      totals-of (t .accepted) (t .ended + 1) (t .stuck) (t .looping) (t .refused) (t .readings + j .readings) ≡ with-line t (Answer j)
+      totals-of (t .accepted) (t .ended + 1) (t .stuck) (t .looping) (t .halted) (t .refused) (t .readings + j .readings) ≡ with-line t (Answer j)
   unfolding with-line gives is-refused line-readings verdict-number
   ended-added e = rw e (simp add-zero)
 
   pub stuck-added :
       j .verdict ≡ Stuck →
-      totals-of (t .accepted) (t .ended) (t .stuck + 1) (t .looping) (t .refused) (t .readings + j .readings) ≡ with-line t (Answer j)
+      totals-of (t .accepted) (t .ended) (t .stuck + 1) (t .looping) (t .halted) (t .refused) (t .readings + j .readings) ≡ with-line t (Answer j)
   unfolding with-line gives is-refused line-readings verdict-number
   stuck-added e = rw e (simp add-zero)
 
   pub looping-added :
       j .verdict ≡ Looping →
-      totals-of (t .accepted) (t .ended) (t .stuck) (t .looping + 1) (t .refused) (t .readings + j .readings) ≡ with-line t (Answer j)
+      totals-of (t .accepted) (t .ended) (t .stuck) (t .looping + 1) (t .halted) (t .refused) (t .readings + j .readings) ≡ with-line t (Answer j)
   unfolding with-line gives is-refused line-readings verdict-number
   looping-added e = rw e (simp add-zero)
 
+  pub halted-added :
+      j .verdict ≡ Halted →
+      totals-of (t .accepted) (t .ended) (t .stuck) (t .looping) (t .halted + 1) (t .refused) (t .readings + j .readings) ≡ with-line t (Answer j)
+  unfolding with-line gives is-refused line-readings verdict-number
+  halted-added e = rw e (simp add-zero)
+
 pub refused-added :
     (t : Totals) {r : Judged} (f : Refusal) → r ≡ Refused f →
-    totals-of (t .accepted) (t .ended) (t .stuck) (t .looping) (t .refused + 1) (t .readings) ≡ with-line t r
+    totals-of (t .accepted) (t .ended) (t .stuck) (t .looping) (t .halted) (t .refused + 1) (t .readings) ≡ with-line t r
 unfolding with-line gives is-refused line-readings
 refused-added t f e = rw e (simp add-zero)
 
@@ -76,6 +83,7 @@ room-added {n} {t} r few room =
       ended = let g = gives-most Ended r in let h = room .ended in omega (arith, g, h);
       stuck = let g = gives-most Stuck r in let h = room .stuck in omega (arith, g, h);
       looping = let g = gives-most Looping r in let h = room .looping in omega (arith, g, h);
+      halted = let g = gives-most Halted r in let h = room .halted in omega (arith, g, h);
       refused = let g = refused-most r in let h = room .refused in omega (arith, g, h);
       readings = let h = room .readings in omega (arith, few, h);
     }
@@ -87,6 +95,7 @@ room-for le room =
       ended = let h = room .ended in omega (arith, le, h);
       stuck = let h = room .stuck in omega (arith, le, h);
       looping = let h = room .looping in omega (arith, le, h);
+      halted = let h = room .halted in omega (arith, le, h);
       refused = let h = room .refused in omega (arith, le, h);
       readings = let h = room .readings in omega (arith, le, h);
     }

@@ -10,7 +10,7 @@ use lib.ListN.{length, getD, List·getD-append}
 use lib.Seq.{getD-append-add}
 use borrow.Author.Tests.{ne-eqb}
 use Rattle.machine.specs.declared.Verdict.{Verdict}
-use Rattle.machine.specs.declared.Verdict.the-variants.{Accepted, Ended, Stuck, Looping}
+use Rattle.machine.specs.declared.Verdict.the-variants.{Accepted, Ended, Stuck, Looping, Halted}
 use Rattle.machine.specs.Replies.{verdict-number}
 use Rattle.refusal.specs.declared.Refusal.{Refusal}
 use Rattle.simulator.specs.declared.Judged.{Judged}
@@ -66,6 +66,7 @@ gives-cell Accepted (Refused f) = refl
 gives-cell Ended (Refused f) = refl
 gives-cell Stuck (Refused f) = refl
 gives-cell Looping (Refused f) = refl
+gives-cell Halted (Refused f) = refl
 gives-cell v (Answer j) = refl
 
 pub readings-cell-is : (r : Judged) → line-readings r ≡ getD (line-cells (of-judged r)) readings-cell 0

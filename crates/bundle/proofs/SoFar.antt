@@ -29,7 +29,7 @@ sum-snoc f (q ∷ rs) r = let h = sum-snoc f rs r in omega (arith, h)
 pub totals-snoc : (rs : List Judged) (r : Judged) → with-line (totals rs) r ≡ totals (rs ++ (r ∷ []))
 unfolding totals with-line
 totals-snoc rs r =
-    rw (sum-snoc _ rs r, sum-snoc _ rs r, sum-snoc _ rs r, sum-snoc _ rs r, sum-snoc _ rs r, sum-snoc _ rs r) refl
+    rw (sum-snoc _ rs r, sum-snoc _ rs r, sum-snoc _ rs r, sum-snoc _ rs r, sum-snoc _ rs r, sum-snoc _ rs r, sum-snoc _ rs r) refl
 
 pub record So-far (bs xs : List ℕ) (i : ℕ) (t : Totals) (l l-now a a-now b b-now : List ℕ) : Type 0 where
   pub lines : List Judged
@@ -52,7 +52,7 @@ none-yet {bs} {xs} {l} {a} {b} {t} e =
       within = omega arith;
       completed = λ qs x y s. s;
       totals-are = e;
-      room = rw e (record { accepted = omega arith; ended = omega arith; stuck = omega arith; looping = omega arith; refused = omega arith; readings = omega arith });
+      room = rw e (record { accepted = omega arith; ended = omega arith; stuck = omega arith; looping = omega arith; halted = omega arith; refused = omega arith; readings = omega arith });
       lines-now = refl;
       notes-long = refl;
       work-long = refl;

@@ -7,7 +7,7 @@ use native.Mathlib.Omega.{arith}
 use lib.Dec.{eqb}
 use lib.ListN.{length, getD, drop}
 use Rattle.machine.specs.declared.Verdict.{Verdict}
-use Rattle.machine.specs.declared.Verdict.the-variants.{Accepted, Ended, Stuck, Looping}
+use Rattle.machine.specs.declared.Verdict.the-variants.{Accepted, Ended, Stuck, Looping, Halted}
 use Rattle.machine.specs.Replies.{verdict-number}
 use Rattle.simulator.specs.declared.Judged.{Judged}
 use Rattle.simulator.specs.declared.Judged.the-variants.{Refused, Answer}
@@ -29,6 +29,7 @@ total-of Accepted rs = refl
 total-of Ended rs = refl
 total-of Stuck rs = refl
 total-of Looping rs = refl
+total-of Halted rs = refl
 
 refused-total : (rs : List Judged) → totals rs .refused ≡ sum is-refused rs
 unfolding totals
@@ -71,7 +72,7 @@ totals-sum bs xs n t l m a x b y s =
     )
 
 -- EVERY LINE IS COUNTED ONCE
-counted-once : (r : Judged) → gives Accepted r + gives Ended r + gives Stuck r + gives Looping r + is-refused r ≡ 1
+counted-once : (r : Judged) → gives Accepted r + gives Ended r + gives Stuck r + gives Looping r + gives Halted r + is-refused r ≡ 1
 unfolding gives is-refused verdict-number
 counted-once (Refused f) = refl
 counted-once (Answer j) = by-verdict (j .verdict)
@@ -80,16 +81,18 @@ counted-once (Answer j) = by-verdict (j .verdict)
         (v : Verdict) →
         cond (eqb (verdict-number v) 1) 1 0 + cond (eqb (verdict-number v) 2) 1 0 + cond (eqb (verdict-number v) 3) 1 0
         + cond (eqb (verdict-number v) 4) 1 0
+        + cond (eqb (verdict-number v) 7) 1 0
         + 0
         ≡ 1
     by-verdict Accepted = refl
     by-verdict Ended = refl
     by-verdict Stuck = refl
     by-verdict Looping = refl
+    by-verdict Halted = refl
 
 all-counted :
     (rs : List Judged) →
-    sum (gives Accepted) rs + sum (gives Ended) rs + sum (gives Stuck) rs + sum (gives Looping) rs + sum is-refused rs ≡ length rs
+    sum (gives Accepted) rs + sum (gives Ended) rs + sum (gives Stuck) rs + sum (gives Looping) rs + sum (gives Halted) rs + sum is-refused rs ≡ length rs
 unfolding sum
 all-counted [] = refl
 all-counted (r ∷ rs) =
@@ -99,7 +102,7 @@ all-counted (r ∷ rs) =
 
 pub totals-whole :
     (bs xs : List ℕ) (n : ℕ) (t : Totals) (l m a x b y : List ℕ) → Bundle-says bs xs (Lines n t) l m a x b y →
-    (n ≡ count xs) × (t .accepted + t .ended + t .stuck + t .looping + t .refused ≡ count xs)
+    (n ≡ count xs) × (t .accepted + t .ended + t .stuck + t .looping + t .halted + t .refused ≡ count xs)
 unfolding totals
 totals-whole bs xs n t l m a x b y s =
     let f = reported bs xs n t l m a x b y s in
@@ -107,4 +110,4 @@ totals-whole bs xs n t l m a x b y s =
     let parts = report-parts n (count xs) t (totals rs) (f .answers) in
     let long = lines-count bs xs 0 rs a x b y (f .judged) in
     let all : length rs ≡ count xs = omega (arith, long) in
-    (parts .0, ap (λ (u : Totals). u .accepted + u .ended + u .stuck + u .looping + u .refused) (parts .1) ∙ all-counted rs ∙ all)
+    (parts .0, ap (λ (u : Totals). u .accepted + u .ended + u .stuck + u .looping + u .halted + u .refused) (parts .1) ∙ all-counted rs ∙ all)

@@ -12,9 +12,9 @@ unfoldable pub of-report : Report → Reply
 of-report (Refused f) = refusal-reply f
 of-report (Lines n t) = count-reply n
 
--- THE TOTALS IN CELLS: eight for the verdicts, each at its number, where 0 and 5 to 7 are none that judging gives; then refusals and readings
+-- THE TOTALS IN CELLS: eight for the verdicts, each at its number, where 0, 5 and 6 are none that judging gives; then refusals and readings
 unfoldable pub totals-cells : Totals → List ℕ
-totals-cells t = 0 ∷ t .accepted ∷ t .ended ∷ t .stuck ∷ t .looping ∷ 0 ∷ 0 ∷ 0 ∷ t .refused ∷ t .readings ∷ []
+totals-cells t = 0 ∷ t .accepted ∷ t .ended ∷ t .stuck ∷ t .looping ∷ 0 ∷ 0 ∷ t .halted ∷ t .refused ∷ t .readings ∷ []
 
 -- a refused call writes no totals
 unfoldable pub totals-left : Report → (cells : List ℕ) → List ℕ

@@ -5,7 +5,7 @@ use Prim.Native.Nat.{ℕ, zero, suc, _+_, _*_}
 use lib.Dec.{eqb}
 use lib.ListN.{getD}
 use Rattle.machine.specs.declared.Verdict.{Verdict}
-use Rattle.machine.specs.declared.Verdict.the-variants.{Accepted, Ended, Stuck, Looping}
+use Rattle.machine.specs.declared.Verdict.the-variants.{Accepted, Ended, Stuck, Looping, Halted}
 use Rattle.machine.specs.declared.Reply.{Reply}
 use Rattle.machine.specs.Replies.{verdict-number}
 use Rattle.simulator.specs.declared.Judged.{Judged}
@@ -51,6 +51,7 @@ totals rs =
       ended = sum (gives Ended) rs;
       stuck = sum (gives Stuck) rs;
       looping = sum (gives Looping) rs;
+      halted = sum (gives Halted) rs;
       refused = sum is-refused rs;
       readings = sum line-readings rs;
     }

@@ -11,6 +11,7 @@ pub struct Totals {
     pub ended: u64,
     pub stuck: u64,
     pub looping: u64,
+    pub halted: u64,
     pub refused: u64,
     pub readings: u64,
 }

@@ -26,6 +26,7 @@ pub fn no_totals() -> Totals
         ended: 0,
         stuck: 0,
         looping: 0,
+        halted: 0,
         refused: 0,
         readings: 0,
     }
@@ -44,6 +45,7 @@ fn with_judgement(t: Totals, j: Judgement) -> Totals
         Verdict::Ended => next.ended = t.ended + 1,
         Verdict::Stuck => next.stuck = t.stuck + 1,
         Verdict::Looping => next.looping = t.looping + 1,
+        Verdict::Halted => next.halted = t.halted + 1,
     }
     next
 }

@@ -12,8 +12,8 @@ use Rattle.machine.specs.declared.Note.{Note}
 use Rattle.machine.specs.declared.Note.the-variants.{Unseen, Open, Closed}
 use Rattle.machine.specs.declared.Verdict.{Verdict}
 use Rattle.machine.specs.declared.Verdict.the-variants.{Looping}
-use Rattle.machine.specs.declared.Halt.the-variants.{Over}
-use Rattle.machine.specs.Halting.{stop-verdict, halt-verdict, accepts-by}
+use Rattle.machine.specs.declared.Termination.the-variants.{Over}
+use Rattle.machine.specs.Terminating.{stop-verdict, termination-verdict, accepts-by}
 use Rattle.machine.specs.Run.{Machine, config, number-by, config-by, returned}
 use Rattle.chain.specs.declared.Mode.{Mode}
 use Rattle.chain.specs.declared.Mode.the-variants.{Look, Unwind, Clear, Done}
@@ -48,7 +48,7 @@ with-reading e r = registers-of e (r .mode) (r .at) (r .pushed) (r .depth) (r .r
 -- the terminator d popped an entry, with this state and head then: the configuration that pushed it, the newest open one by now, resumes; with none open the run is over
 abbrev pub after-pop : Environment → (d : Config) → (state head depth readings : ℕ) → (work : List ℕ) → Registers
 after-pop e d p i t n ws =
-    cond (eqb t 0) (registers-of e (Done (halt-verdict (Over (accepts-by (e .finals) (e .sizes .places) p i)))) d false 0 n)
+    cond (eqb t 0) (registers-of e (Done (termination-verdict (Over (accepts-by (e .finals) (e .sizes .places) p i)))) d false 0 n)
     (registers-of e Look (config p i (getD ws (t - 1) 0 % e .sizes .symbols)) false t n)
 
 -- d's rule pops an entry with this pointer

@@ -8,8 +8,8 @@ use crate::numbers::row_of;
 use image::lookup;
 use machine::Action;
 use machine::Config;
-use machine::Halt;
-use machine::halting::halt_verdict;
+use machine::Termination;
+use machine::terminating::termination_verdict;
 ghost use mathlib.Core.Path.{_≡_};
 ghost use Rattle.chain.specs.Step;
 ghost use Rattle.chain.specs.code.StepParts.{registers-with, Pop-ready, Resumable};
@@ -62,7 +62,7 @@ pub fn after_pop(
     let sizes = e.sizes;
     if depth == 0 {
         let accepting = lookup::accepts(e.finals, sizes.places, state, head);
-        let verdict = halt_verdict(Halt::Over { accepting });
+        let verdict = termination_verdict(Termination::Over { accepting });
         return registers_of(Mode::Done(verdict), d, number, false, 0, readings);
     }
     let j = depth - 1;

@@ -16,7 +16,7 @@ use image::lookup;
 use machine::Action;
 use machine::Config;
 use machine::Verdict;
-use machine::halting::stop_verdict;
+use machine::terminating::stop_verdict;
 ghost use mathlib.Core.Path.{_≡_};
 ghost use Rattle.image.specs.Image.{machine};
 ghost use Rattle.chain.specs.declared.Mode.the-variants.{Look, Unwind};

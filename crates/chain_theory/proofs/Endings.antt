@@ -8,12 +8,12 @@ use native.Mathlib.Omega.{arith}
 use native.Mathlib.Decide.{decLt, decLe, ℕ-discrete}
 use Rattle.machine.specs.declared.Config.{Config}
 use Rattle.machine.specs.declared.Reason.{Reason}
-use Rattle.machine.specs.declared.Halt.the-variants.{Over, Stopped}
+use Rattle.machine.specs.declared.Termination.the-variants.{Over, Stopped}
 use Rattle.machine.specs.declared.Action.the-variants.{Stop, Pop}
 use Rattle.machine.specs.Run.{Machine, Entry, Outcome, stopped, over, step, after, start, returned, config, config-of}
-use Rattle.machine.specs.Verdicts.{over-base, Entered, No-end, Halts-at, Goes-on}
-use Rattle.machine.proofs.Halts.{halt-stopped, halt-over}
-use Rattle.machine.proofs.Runs.{some-same, not-none, config-over, step-stop, step-pop-last, halted-stopped, halted-over, halts-once, halted-no-more}
+use Rattle.machine.specs.Verdicts.{over-base, Entered, No-end, Terminates-at, Goes-on}
+use Rattle.machine.proofs.Terminates.{termination-stopped, termination-over}
+use Rattle.machine.proofs.Runs.{some-same, not-none, config-over, step-stop, step-pop-last, terminated-stopped, terminated-over, terminates-once, terminated-no-more}
 use Rattle.machine.proofs.Ends.{Ends, count, ends-reach, ends-inside}
 use Rattle.chain_theory.proofs.Travel.{Visit, Arrival, Travels, travels-none, visit-later, forever}
 use Rattle.chain_theory.proofs.Path.{Open, open-as, Among, here, later, Path, path-steps, path-travels, path-along, Along}
@@ -33,10 +33,10 @@ module _ {M : Machine} {P : Config → Type 0} where
 
   -- OVER: the start's entry is removed from d
   pub over-at : {d : Config} {p : ℕ} {r : Bool} → Ends M P (config 0 0 0) d → M .action d ≡ Pop p r → (t : Bool) → M .accepting p (returned r 0 (d .head)) ≡ t →
-      Halts-at M d (Over t)
+      Terminates-at M d (Over t)
   unfolding start
   over-at {d} x a t e =
-      record { steps = count x; place = over-base d 0 []; reached = ends-reach x 0 []; is = config-over d 0 []; last = halt-over M (over-base d 0 []) (step-pop-last M d 0 a) e }
+      record { steps = count x; place = over-base d 0 []; reached = ends-reach x 0 []; is = config-over d 0 []; last = termination-over M (over-base d 0 []) (step-pop-last M d 0 a) e }
 
   pub over-complete : {c d : Config} {p : ℕ} {r : Bool} → Ends M P (config 0 0 0) d → M .action d ≡ Pop p r → Entered M c → P c
   unfolding start
@@ -47,12 +47,12 @@ module _ {M : Machine} {P : Config → Type 0} where
           let (y, at-y, holds, high, rest) = ends-inside x 0 [] (e .steps) l in
           visited {base = []} e (record { place = y; reached = at-y; holds = holds; above = high })
       go (no l) =
-          let halts = halted-over M (over-base d 0 []) (step-pop-last M d 0 a) in
-          absurd (not-none (after (e .steps) M start) (e .reached) (halted-no-more M (count x) (e .steps) start (ends-reach x 0 []) halts (omega arith)))
+          let terminates = terminated-over M (over-base d 0 []) (step-pop-last M d 0 a) in
+          absurd (not-none (after (e .steps) M start) (e .reached) (terminated-no-more M (count x) (e .steps) start (ends-reach x 0 []) terminates (omega arith)))
 
   -- STUCK
   pub stuck-at :
-      {os : List Open} {c : Config} {f : Bool} {r : Reason} (p : Path M P os c f) → ((d : Config) → Among d os → P d) → M .action c ≡ Stop r → Halts-at M c (Stopped r)
+      {os : List Open} {c : Config} {f : Bool} {r : Reason} (p : Path M P os c f) → ((d : Config) → Among d os → P d) → M .action c ≡ Stop r → Terminates-at M c (Stopped r)
   unfolding start
   stuck-at {c = c} p h a =
       let to = path-travels p h 0 [] in
@@ -61,7 +61,7 @@ module _ {M : Machine} {P : Config → Type 0} where
         place = over-base c (to .pointer) (to .ground);
         reached = to .reached;
         is = config-over c (to .pointer) (to .ground);
-        last = halt-stopped M (over-base c (to .pointer) (to .ground)) (step-stop M c (to .pointer) (to .ground) a);
+        last = termination-stopped M (over-base c (to .pointer) (to .ground)) (step-stop M c (to .pointer) (to .ground) a);
       }
 
   pub stuck-complete :
@@ -80,8 +80,8 @@ module _ {M : Machine} {P : Config → Type 0} where
           some-same (after (path-steps p) M start) (to .reached) (subst (λ (n : ℕ). after n M start ≡ some (e .place)) q (e .reached)) in
           subst P (sym (config-over c (to .pointer) (to .ground)) ∙ ap config-of same ∙ e .is) holds
       go (no l) (no q) =
-          let halts = halted-stopped M (over-base c (to .pointer) (to .ground)) (step-stop M c (to .pointer) (to .ground) a) in
-          absurd (not-none (after (e .steps) M start) (e .reached) (halted-no-more M (path-steps p) (e .steps) start (to .reached) halts (omega arith)))
+          let terminates = terminated-stopped M (over-base c (to .pointer) (to .ground)) (step-stop M c (to .pointer) (to .ground) a) in
+          absurd (not-none (after (e .steps) M start) (e .reached) (terminated-no-more M (path-steps p) (e .steps) start (to .reached) terminates (omega arith)))
 
   stuck-from : {c e : Config} {r : Reason} (n : ℕ) → Travels M P n c e → M .action e ≡ Stop r → No-end M c
   stuck-from {c} {e} {r} n t a d x =
@@ -89,7 +89,7 @@ module _ {M : Machine} {P : Config → Type 0} where
       let stops = step-stop M e (to .pointer) (to .ground) a in
       let (p, i, ends) = x .gone in
       let (same-steps, same) =
-      halts-once M n (x .steps) (over-base c 0 []) (to .reached) (halted-stopped M (over-base e (to .pointer) (to .ground)) stops) (x .reached) (halted-over M (x .place) ends) in
+      terminates-once M n (x .steps) (over-base c 0 []) (to .reached) (terminated-stopped M (over-base e (to .pointer) (to .ground)) stops) (x .reached) (terminated-over M (x .place) ends) in
       let clash : _≡_ {A = Outcome} (stopped r) (over p i) = sym stops ∙ ap (step M) same ∙ ends in
       let z : _≡_ {A = ℕ} 0 1 = cc in
       omega arith
@@ -154,4 +154,4 @@ module _ {M : Machine} {P : Config → Type 0} where
       clash v =
           let (p, i, ends) = x .gone in
           not-none (after (suc (x .steps)) M (over-base d 0 [])) (v .reached)
-          (halted-no-more M (x .steps) (suc (x .steps)) (over-base d 0 []) (x .reached) (halted-over M (x .place) ends) (omega arith))
+          (terminated-no-more M (x .steps) (suc (x .steps)) (over-base d 0 []) (x .reached) (terminated-over M (x .place) ends) (omega arith))

@@ -7,7 +7,7 @@ use Prim.Native.Nat.{ℕ, suc, _+_, _*_, _<_, _≤_}
 use lib.ListN.{length, getD}
 use Rattle.machine.specs.declared.Config.{Config}
 use Rattle.machine.specs.declared.Verdict.{Verdict}
-use Rattle.machine.specs.Halting.{accepts-by}
+use Rattle.machine.specs.Terminating.{accepts-by}
 use Rattle.machine.specs.Run.{Machine, Valid-config, number, how-many}
 use Rattle.machine.specs.Verdicts.{Says, nonzero}
 use Rattle.machine.proofs.Ends.{Ends}

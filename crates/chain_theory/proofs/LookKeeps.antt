@@ -11,10 +11,10 @@ use Rattle.machine.specs.declared.Action.{Action}
 use Rattle.machine.specs.declared.Action.the-variants.{Stop, Change, Push, Pop}
 use Rattle.machine.specs.declared.Note.{Note}
 use Rattle.machine.specs.declared.Verdict.the-variants.{Looping}
-use Rattle.machine.specs.Halting.{stop-verdict}
+use Rattle.machine.specs.Terminating.{stop-verdict}
 use Rattle.machine.specs.Verdicts.{loops}
 use Rattle.machine.specs.Run.{Machine, Valid-config, number}
-use Rattle.machine.proofs.Halts.{says-stopped}
+use Rattle.machine.proofs.Terminates.{says-stopped}
 use Rattle.machine.proofs.Reach.{Inside}
 use Rattle.machine.proofs.Numbers.{number-below, config-at, config-at-number}
 use Rattle.machine.proofs.Ends.{Ends, pops, ends-pops}

@@ -8,10 +8,10 @@ use lib.ListN.{length}
 use borrow.Author.Tests.{ne-eqb}
 use Rattle.machine.specs.declared.Config.{Config}
 use Rattle.machine.specs.declared.Action.the-variants.{Push, Pop}
-use Rattle.machine.specs.declared.Halt.the-variants.{Over}
-use Rattle.machine.specs.Halting.{halt-verdict}
+use Rattle.machine.specs.declared.Termination.the-variants.{Over}
+use Rattle.machine.specs.Terminating.{termination-verdict}
 use Rattle.machine.specs.Run.{Machine, Valid-config, config, returned, number-by, number}
-use Rattle.machine.specs.Verdicts.{Says, halts}
+use Rattle.machine.specs.Verdicts.{Says, terminates}
 use Rattle.machine.proofs.Reach.{Inside}
 use Rattle.machine.proofs.Digits.{low-digit}
 use Rattle.machine.proofs.Ends.{Ends, resume}
@@ -41,8 +41,8 @@ Shared-as M E os reads ns ws =
 
 over-says :
     {M : Machine} {P : Config → Type 0} {d : Config} {p : ℕ} {b : Bool} → Ends M P (config 0 0 0) d → M .action d ≡ Pop p b → (t : Bool) →
-    M .accepting p (returned b 0 (d .head)) ≡ t → Says M (halt-verdict (Over t)) d
-over-says x a t e = halts (over-at x a t e) refl
+    M .accepting p (returned b 0 (d .head)) ≡ t → Says M (termination-verdict (Over t)) d
+over-says x a t e = terminates (over-at x a t e) refl
 
 pub not-among-none : {c : Config} → Among c [] → ⊥
 not-among-none a = go a refl
@@ -55,11 +55,11 @@ module _ {M : Machine} {E : Environment} (r : Registers) {ns ws : List ℕ} (n :
   over-holds :
       {d : Config} {p : ℕ} {b : Bool} → Shared-as M E [] (r .readings) ns ws → Running M [] ns → Ends M (Seen M ns) (config 0 0 0) d → Valid-config M d → M .action d ≡ Pop p b →
       suc n ≤ 4 * r .readings + 1 → (t : Bool) → M .accepting p (returned b 0 (d .head)) ≡ t →
-      Chain-invariant M (suc n) (with-cells (registers-of E (Done (halt-verdict (Over t))) d false 0 (r .readings)) ns ws)
+      Chain-invariant M (suc n) (with-cells (registers-of E (Done (termination-verdict (Over t))) d false 0 (r .readings)) ns ws)
   over-holds {d} {p} {b} shared running x there a few t e =
       record {
         opens = [];
-        shared = shared (Done (halt-verdict (Over t))) d false there;
+        shared = shared (Done (termination-verdict (Over t))) d false there;
         phase =
             done
             (record {
@@ -103,7 +103,7 @@ module _ {M : Machine} {E : Environment} (r : Registers) {ns ws : List ℕ} (n :
       Chain-invariant M (suc n) (with-cells (resumed E r d (Pop p b) (c .head) (length os) ws) ns ws)
   unfolding resumed pushes
   resumed-holds {d = d} {p = p} {b = b} inside shared stacked running begin x there-c there-d a few =
-      subst (λ (t : Bool). Chain-invariant M (suc n) (with-cells (registers-of E (Done (halt-verdict (Over t))) d false 0 (r .readings)) ns ws))
+      subst (λ (t : Bool). Chain-invariant M (suc n) (with-cells (registers-of E (Done (termination-verdict (Over t))) d false 0 (r .readings)) ns ws))
       (sym (fitted .accepts-as p (returned b 0 (d .head))))
       (over-holds shared running x there-d a (omega arith) (M .accepting p (returned b 0 (d .head))) refl)
   resumed-holds {d = d} {p = p} {b = b} inside shared (one-open there w v stacked) running (on {os = os} {c = e} path (by-push pushing)) x there-c there-d a few =

@@ -10,14 +10,14 @@ use borrow.Author.Tests.{le-ltb, eq-eqb}
 use Rattle.machine.specs.declared.Config.{Config}
 use Rattle.refusal.specs.declared.Refusal.{Refusal}
 use Rattle.machine.specs.declared.Verdict.{Verdict}
-use Rattle.machine.specs.declared.Verdict.the-variants.{Accepted, Ended, Stuck, Looping}
+use Rattle.machine.specs.declared.Verdict.the-variants.{Accepted, Ended, Stuck, Looping, Halted}
 use Rattle.image.specs.Format
 use Rattle.codec.specs.Bytes.{Bytes}
 use Rattle.image.specs.Image.{machine}
 use Rattle.machine.specs.Verdicts.{Goes-on, Says}
 use Rattle.refusal.specs.First.{or-else, refuse-if}
 use Rattle.image.specs.Refusals.{image-refusal}
-use Rattle.machine.proofs.Halts.{says-looping}
+use Rattle.machine.proofs.Terminates.{says-looping}
 use Rattle.machine.proofs.OneVerdict.{one-verdict, goes-on-loops}
 use Rattle.simulator.specs.declared.Judged.{Judged}
 use Rattle.simulator.specs.Calls.{judge-refusal, Judged-right, Judge-says}
@@ -44,7 +44,8 @@ parsed-as : (gs cs : List ℕ) → Parses-right (machine (built gs) cs) (express
 parsed-as gs cs b Accepted d s = b .accepted-parses d s
 parsed-as gs cs b Ended d s = b .never-ended d s
 parsed-as gs cs b Stuck d s = b .stuck-parses d s
-parsed-as gs cs b Looping d s = λ o p. b .parses-halts o p (says-looping s .0)
+parsed-as gs cs b Looping d s = λ o p. b .parses-terminates o p (says-looping s .0)
+parsed-as gs cs b Halted d s = b .never-halted d s
 
 -- and no other verdict is
 module _ (gs cs : List ℕ) (b : Parses-right (machine (built gs) cs) (expression gs) cs) (v : Verdict) (d : Config) (s : Says (machine (built gs) cs) v d) where
@@ -59,19 +60,21 @@ module _ (gs cs : List ℕ) (b : Parses-right (machine (built gs) cs) (expressio
       go Ended p e = absurd p
       go Stuck p e = absurd (none-parses (p .0) (p .1))
       go Looping p e = e
+      go Halted p e = absurd p
 
   only-as : (w : Verdict) → As-parsed gs cs w → w ≡ v
   only-as Accepted p = same-as Accepted (b .parses-accepted p)
   only-as Ended p = absurd p
   only-as Stuck p = same-as Stuck (b .parses-stuck (p .0) (p .1) (p .2))
   only-as Looping p = looping-only p v (parsed-as gs cs b v d s) refl
+  only-as Halted p = absurd p
 
 -- looping, exactly where parsing has no result
 pub loops-exact :
     (gs cs : List ℕ) → grammar-refusal gs .number ≡ 0 → Bytes cs → length cs ≤ Format.max-capture →
     ((d : Config) × Says (machine (built gs) cs) Looping d) ↔ ((o : Option ℕ) → Parses (expression gs) cs 0 0 o → ⊥)
 loops-exact gs cs good bytes short =
-    (λ (d, s) o p. b .parses-halts o p (says-looping s .0), λ none-parses. loops (b .no-parse-goes-on none-parses))
+    (λ (d, s) o p. b .parses-terminates o p (says-looping s .0), λ none-parses. loops (b .no-parse-goes-on none-parses))
   where
     b : Parses-right (machine (built gs) cs) (expression gs) cs
     b = built-parses gs cs good bytes

@@ -6,7 +6,7 @@ use Prim.Native.Nat.{ℕ, _+_, _*_, _<_, _≤_}
 use lib.ListN.{length}
 use Rattle.machine.specs.declared.Config.{Config}
 use Rattle.machine.specs.declared.Verdict.{Verdict}
-use Rattle.machine.specs.declared.Verdict.the-variants.{Accepted, Ended, Stuck, Looping}
+use Rattle.machine.specs.declared.Verdict.the-variants.{Accepted, Ended, Stuck, Looping, Halted}
 use Rattle.image.specs.Format
 use Rattle.machine.specs.Run.{how-many}
 use Rattle.codec.specs.Bytes.{byte}
@@ -24,6 +24,7 @@ As-parsed gs cs Accepted = Parses (expression gs) cs 0 0 (some (length cs))
 As-parsed gs cs Ended = ⊥
 As-parsed gs cs Stuck = (o : Option ℕ) × Parses (expression gs) cs 0 0 o × (o ≡ some (length cs) → ⊥)
 As-parsed gs cs Looping = (o : Option ℕ) → Parses (expression gs) cs 0 0 o → ⊥
+As-parsed gs cs Halted = ⊥
 
 -- an answer, the verdict as parsing says and no other, and few readings
 pub record Gets (gs cs : List ℕ) (r : Judged) : Type 0 where

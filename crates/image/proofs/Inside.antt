@@ -9,10 +9,9 @@ use lib.ListN.{length}
 use borrow.Author.Tests.{eqb-true, eqb-false}
 use Rattle.machine.specs.declared.Config.{Config}
 use Rattle.machine.specs.declared.Action.{Action}
-use Rattle.machine.specs.declared.Reason.the-variants.{Missing}
 use Rattle.machine.specs.declared.Action.the-variants.{Stop, Change, Push, Pop}
 use Rattle.machine.specs.Run.{Machine, Valid-config}
-use Rattle.image.specs.Image.{Rule, states, class-under, moved, led-to, action-by, action, machine}
+use Rattle.image.specs.Image.{Rule, states, class-under, moved, led-to, stop-reason, action-by, action, machine}
 use Rattle.image.specs.Refusals.{move-off, Unrefused}
 use Rattle.image.proofs.Rules.{good, class-right, on-right, rule-of, head-there, rule-there}
 use Rattle.machine.proofs.Reach.{Inside}
@@ -41,21 +40,21 @@ moved-there bs cs i m h f = go (eqb m 1) (eqb m 2) refl
     go false false p = h
 
 module _ {bs cs : List ℕ} (u : Unrefused bs cs) {c : Config} (t : Valid-config (machine bs cs) c) where
-  led-there : (rule-of bs cs c .kind ≡ 0 → ⊥) → (rule-of bs cs c .kind ≡ 3 → ⊥) → Valid-config (machine bs cs) (led-to (rule-of bs cs c) (c .head))
+  led-there : 0 < rule-of bs cs c .kind → rule-of bs cs c .kind < 3 → Valid-config (machine bs cs) (led-to (rule-of bs cs c) (c .head))
   unfolding machine
   led-there a b =
       record {
-        state-below = rule-there u t .state-below a;
+        state-below = rule-there u t .state-below a (omega arith);
         head-below = moved-there bs cs (c .head) _ (head-there u t) (rule-there u t .on-tape a b);
         symbol-below = rule-there u t .symbol-below a b;
       }
 
   led-by : (k : ℕ) → rule-of bs cs c .kind ≡ k → 0 < k → k < 3 → Valid-config (machine bs cs) (led-to (rule-of bs cs c) (c .head))
-  led-by k e a b = led-there (λ z. omega arith) (λ z. omega arith)
+  led-by k e a b = led-there (omega arith) (omega arith)
 
   popped-below : rule-of bs cs c .kind ≡ 3 → rule-of bs cs c .state < machine bs cs .states
   unfolding machine
-  popped-below e = rule-there u t .state-below (λ z. omega arith)
+  popped-below e = rule-there u t .state-below (omega arith) (omega arith)
 
   stays : Stays (machine bs cs) (action bs cs c)
   unfolding action action-by Stays
@@ -67,7 +66,7 @@ module _ {bs cs : List ℕ} (u : Unrefused bs cs) {c : Config} (t : Valid-config
           Stays (machine bs cs)
           (cond x (Change (led-to (rule-of bs cs c) (c .head)))
           (cond y (Push (led-to (rule-of bs cs c) (c .head)))
-          (cond z (Pop (rule-of bs cs c .state) (eqb (rule-of bs cs c .direction) 1)) (Stop Missing))))
+          (cond z (Pop (rule-of bs cs c .state) (eqb (rule-of bs cs c .direction) 1)) (Stop (stop-reason (rule-of bs cs c .kind))))))
       go true y z p q w = led-by 1 (eqb-true _ _ p) (omega arith) (omega arith)
       go false true z p q w = led-by 2 (eqb-true _ _ q) (omega arith) (omega arith)
       go false false true p q w = popped-below (eqb-true _ _ w)
@@ -115,7 +114,7 @@ near-by : (r : Rule) (i : ℕ) → Near i (action-by r i)
 unfolding action-by Near
 near-by r i = go (eqb (r .kind) 1) (eqb (r .kind) 2) (eqb (r .kind) 3)
   where
-    go : (a b d : Bool) → Near i (cond a (Change (led-to r i)) (cond b (Push (led-to r i)) (cond d (Pop (r .state) (eqb (r .direction) 1)) (Stop Missing))))
+    go : (a b d : Bool) → Near i (cond a (Change (led-to r i)) (cond b (Push (led-to r i)) (cond d (Pop (r .state) (eqb (r .direction) 1)) (Stop (stop-reason (r .kind))))))
     go true b d = moved-near (r .direction) i
     go false true d = moved-near (r .direction) i
     go false false true = tt

@@ -1,20 +1,24 @@
 -- The rule test refuses just the rules that are not right; and the rules by index are the rules by state, class and symbol. Assumes nothing.
 use mathlib.Core.Path.{_≡_, refl, sym, _∙_, subst}
 use mathlib.Core.List.{List}
+use mathlib.Core.Logic.{_⊎_, inl, inr}
 use Prim.Native.Nat.{ℕ, zero, suc, _+_, _*_, _/_, _%_, _<_, _≤_}
 use native.Mathlib.Omega.{arith}
 use Rattle.image.specs.Format
 use Rattle.image.specs.Image.{states, classes, symbols, Rule, rule-from, rule-offset, rule-at}
 use Rattle.image.specs.Refusals.{move-off, rule-bad, index-class, rule-count}
-use Rattle.image.specs.Conditions.{Target-right, Rule-right, none-right, change-right, push-right, pop-right, Rules-right, First-bad-rule}
+use Rattle.image.specs.Conditions.{Target-right, Rule-right, none-right, change-right, push-right, pop-right, halt-right, Rules-right, First-bad-rule}
 use Rattle.machine.proofs.Digits.{digits-below, middle-digit, high-below, middle-below, low-below, number-of-digits, third-positive}
-use Rattle.refusal.proofs.Reflects.{Refuses, refuses-as, equal, both, unless, if-so, over, reaching, any-of, first-of, in-cases}
+use Rattle.refusal.proofs.Reflects.{Refuses, refuses-as, equal, both, either, unless, if-so, over, reaching, any-of, first-of, in-cases}
 use Rattle.refusal.proofs.Searching.{Least}
 
 -- ONE RULE, nested as the test is
 module _ (bs : List ℕ) (class : ℕ) (r : Rule) where
   abbrev On-tape : Type 0
   On-tape = ((class ≡ classes bs) × (r .direction ≡ 2) → ⊥) × ((class ≡ classes bs + 1) × (r .direction ≡ 1) → ⊥)
+
+  abbrev Stopping : Type 0
+  Stopping = (r .kind ≡ 0) ⊎ (r .kind ≡ 4)
 
   abbrev Nothing : Type 0
   Nothing = (r .state ≡ 0) × ((r .symbol ≡ 0) × (r .direction ≡ 0))
@@ -29,7 +33,7 @@ module _ (bs : List ℕ) (class : ℕ) (r : Rule) where
   Named = (r .state < states bs) × ((r .kind ≡ 3 → Popping) × ((r .kind ≡ 3 → ⊥) → Moving))
 
   abbrev Nested : Type 0
-  Nested = (r .kind ≤ 3) × ((r .kind ≡ 0 → Nothing) × ((r .kind ≡ 0 → ⊥) → Named))
+  Nested = (r .kind ≤ 4) × ((Stopping → Nothing) × ((Stopping → ⊥) → Named))
 
   move-test : Refuses On-tape (move-off bs class (r .direction))
   unfolding move-off
@@ -38,8 +42,8 @@ module _ (bs : List ℕ) (class : ℕ) (r : Rule) where
   nested-test : Refuses Nested (rule-bad bs class r)
   unfolding rule-bad
   nested-test =
-      first-of (over 3 (r .kind))
-      (in-cases (equal (r .kind) 0) (unless (both (equal _ _) (both (equal _ _) (equal _ _))))
+      first-of (over 4 (r .kind))
+      (in-cases (either (equal (r .kind) 0) (equal (r .kind) 4)) (unless (both (equal _ _) (both (equal _ _) (equal _ _))))
       (first-of (reaching (states bs) (r .state))
       (in-cases (equal (r .kind) 3) (any-of (unless (equal _ _)) (over 1 (r .direction)))
       (any-of (reaching (symbols bs) (r .symbol)) (any-of (over 2 (r .direction)) move-test)))))
@@ -55,28 +59,35 @@ module _ (bs : List ℕ) (class : ℕ) (r : Rule) where
         not-off-right = λ at moves. m .1 .1 .1 (at, moves);
       }
 
+  -- a kind from 1 to 3 does not stop
+  goes-on : 0 < r .kind → r .kind < 4 → Stopping → ⊥
+  goes-on least most (inl e) = omega arith
+  goes-on least most (inr e) = omega arith
+
   by-kind : Nested → (k : ℕ) → r .kind ≡ k → Rule-right bs class r
-  by-kind n zero e = let z = n .1 .0 e in none-right e (z .0) (z .1 .0) (z .1 .1)
-  by-kind n (suc zero) e = change-right e (target (n .1 .1 (λ z. omega arith)) (λ z. omega arith))
-  by-kind n (suc (suc zero)) e = push-right e (target (n .1 .1 (λ z. omega arith)) (λ z. omega arith))
+  by-kind n zero e = let z = n .1 .0 (inl e) in none-right e (z .0) (z .1 .0) (z .1 .1)
+  by-kind n (suc zero) e = change-right e (target (n .1 .1 (goes-on (omega arith) (omega arith))) (λ z. omega arith))
+  by-kind n (suc (suc zero)) e = push-right e (target (n .1 .1 (goes-on (omega arith) (omega arith))) (λ z. omega arith))
   by-kind n (suc (suc (suc zero))) e =
-      let named = n .1 .1 (λ z. omega arith) in
+      let named = n .1 .1 (goes-on (omega arith) (omega arith)) in
       let pops = named .1 .0 e in
       pop-right e (named .0) (pops .0) (pops .1)
-  by-kind n (suc (suc (suc (suc k)))) e = absurd (omega (arith, n .0))
+  by-kind n (suc (suc (suc (suc zero)))) e = let z = n .1 .0 (inr e) in halt-right e (z .0) (z .1 .0) (z .1 .1)
+  by-kind n (suc (suc (suc (suc (suc k))))) e = absurd (omega (arith, n .0))
 
   moving : Target-right bs class r → Moving
   moving t =
       (t .symbol-below, (t .direction-known, (λ s. t .not-off-left (s .0) (s .1), λ s. t .not-off-right (s .0) (s .1))))
 
   nested : Rule-right bs class r → Nested
-  nested (none-right e p a m) = (omega arith, (λ z. (p, (a, m)), λ z. absurd (z e)))
+  nested (none-right e p a m) = (omega arith, (λ z. (p, (a, m)), λ z. absurd (z (inl e))))
   nested (change-right e t) =
-      (omega arith, (λ z. absurd (omega arith), λ z. (t .state-below, (λ s. absurd (omega arith), λ s. moving t))))
+      (omega arith, (λ z. absurd (goes-on (omega arith) (omega arith) z), λ z. (t .state-below, (λ s. absurd (omega arith), λ s. moving t))))
   nested (push-right e t) =
-      (omega arith, (λ z. absurd (omega arith), λ z. (t .state-below, (λ s. absurd (omega arith), λ s. moving t))))
+      (omega arith, (λ z. absurd (goes-on (omega arith) (omega arith) z), λ z. (t .state-below, (λ s. absurd (omega arith), λ s. moving t))))
   nested (pop-right e p a m) =
-      (omega arith, (λ z. absurd (omega arith), λ z. (p, (λ s. (a, m), λ s. absurd (s e)))))
+      (omega arith, (λ z. absurd (goes-on (omega arith) (omega arith) z), λ z. (p, (λ s. (a, m), λ s. absurd (s e)))))
+  nested (halt-right e p a m) = (omega arith, (λ z. (p, (a, m)), λ z. absurd (z (inr e))))
 
   pub rule-test : Refuses (Rule-right bs class r) (rule-bad bs class r)
   rule-test = refuses-as (λ n. by-kind n (r .kind) refl) nested nested-test

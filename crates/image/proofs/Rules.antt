@@ -16,7 +16,7 @@ use Rattle.machine.specs.Run.{Valid-config}
 use Rattle.codec.specs.Bytes.{byte}
 use Rattle.image.specs.Image.{states, classes, symbols, Rule, rule-at, class-under, machine}
 use Rattle.image.specs.Refusals.{move-off, rule-count, Unrefused}
-use Rattle.image.specs.Conditions.{Target-right, Rule-right, none-right, change-right, push-right, pop-right}
+use Rattle.image.specs.Conditions.{Target-right, Rule-right, none-right, change-right, push-right, pop-right, halt-right}
 use Rattle.machine.proofs.Digits.{digits-below}
 use Rattle.refusal.proofs.Reflects.{equal, both, when-passed, if-so, any-of}
 use Rattle.image.proofs.ConditionsMet.{image-right}
@@ -52,9 +52,9 @@ class-below {bs} {cs} u (suc i) = go (ltb i (length cs)) refl
 
 -- A RULE THAT IS RIGHT
 pub record Good-rule (bs : List ℕ) (class : ℕ) (r : Rule) : Type 0 where
-  pub state-below : (r .kind ≡ 0 → ⊥) → r .state < states bs
-  pub symbol-below : (r .kind ≡ 0 → ⊥) → (r .kind ≡ 3 → ⊥) → r .symbol < symbols bs
-  pub on-tape : (r .kind ≡ 0 → ⊥) → (r .kind ≡ 3 → ⊥) → move-off bs class (r .direction) ≡ false
+  pub state-below : 0 < r .kind → r .kind < 4 → r .state < states bs
+  pub symbol-below : 0 < r .kind → r .kind < 3 → r .symbol < symbols bs
+  pub on-tape : 0 < r .kind → r .kind < 3 → move-off bs class (r .direction) ≡ false
 
 -- what moves off the tape is refused
 pub on-right : (bs : List ℕ) (k m : ℕ) → k ≡ classes bs + 1 → m ≡ 1 → move-off bs k m ≡ false → ⊥
@@ -69,7 +69,7 @@ good-target : {bs : List ℕ} {k : ℕ} {r : Rule} → Target-right bs k r → G
 unfolding move-off
 good-target t =
     record {
-      state-below = λ y. t .state-below;
+      state-below = λ y w. t .state-below;
       symbol-below = λ y w. t .symbol-below;
       on-tape =
           λ y w. when-passed (any-of (if-so (both (equal _ _) (equal _ _))) (if-so (both (equal _ _) (equal _ _))))
@@ -78,11 +78,21 @@ good-target t =
 
 good-rule : {bs : List ℕ} {k : ℕ} {r : Rule} → Rule-right bs k r → Good-rule bs k r
 good-rule (none-right e p a m) =
-    record { state-below = λ y. absurd (y e); symbol-below = λ y w. absurd (y e); on-tape = λ y w. absurd (y e) }
+    record {
+      state-below = λ y w. absurd (omega arith);
+      symbol-below = λ y w. absurd (omega arith);
+      on-tape = λ y w. absurd (omega arith);
+    }
 good-rule (change-right e t) = good-target t
 good-rule (push-right e t) = good-target t
 good-rule (pop-right e p a m) =
-    record { state-below = λ y. p; symbol-below = λ y w. absurd (w e); on-tape = λ y w. absurd (w e) }
+    record { state-below = λ y w. p; symbol-below = λ y w. absurd (omega arith); on-tape = λ y w. absurd (omega arith) }
+good-rule (halt-right e p a m) =
+    record {
+      state-below = λ y w. absurd (omega arith);
+      symbol-below = λ y w. absurd (omega arith);
+      on-tape = λ y w. absurd (omega arith);
+    }
 
 -- THE RULE OF A CONFIGURATION: its index, and that it is right
 abbrev pub rule-index : (image capture : List ℕ) → Config → ℕ
@@ -127,3 +137,4 @@ module _ {bs cs : List ℕ} (u : Unrefused bs cs) {c : Config} (t : Valid-config
       go (yes h) (change-right k t) = absurd (t .not-off-left (class-left bs cs (c .head) h) e)
       go (yes h) (push-right k t) = absurd (t .not-off-left (class-left bs cs (c .head) h) e)
       go (yes h) (pop-right k p a m) = absurd (omega arith)
+      go (yes h) (halt-right k p a m) = absurd (omega arith)

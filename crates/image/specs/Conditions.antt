@@ -70,12 +70,13 @@ pub record Target-right (bs : List ℕ) (class : ℕ) (r : Rule) : Type 0 where
   pub not-off-left : class ≡ classes bs → r .direction ≡ Format.direction-left → ⊥
   pub not-off-right : class ≡ classes bs + 1 → r .direction ≡ Format.direction-right → ⊥
 
--- by its kind: none, with no other byte set; change; push; pop, whose symbol byte is 0 and whose direction is stay or return. No other kind is right
+-- by its kind: none or halt, with no other byte set; change; push; pop, whose symbol byte is 0 and whose direction is stay or return. No other kind is right
 pub data Rule-right (bs : List ℕ) (class : ℕ) (r : Rule) : Type 0 where
   none-right : r .kind ≡ Format.kind-none → r .state ≡ 0 → r .symbol ≡ 0 → r .direction ≡ 0 → Rule-right bs class r
   change-right : r .kind ≡ Format.kind-change → Target-right bs class r → Rule-right bs class r
   push-right : r .kind ≡ Format.kind-push → Target-right bs class r → Rule-right bs class r
   pop-right : r .kind ≡ Format.kind-pop → r .state < states bs → r .symbol ≡ 0 → r .direction ≤ Format.pop-return → Rule-right bs class r
+  halt-right : r .kind ≡ Format.kind-halt → r .state ≡ 0 → r .symbol ≡ 0 → r .direction ≡ 0 → Rule-right bs class r
 
 -- THE RULES: the one of each state, class and symbol; the two markers are classes too
 abbrev pub Rules-right : List ℕ → Type 0

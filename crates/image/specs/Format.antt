@@ -66,6 +66,9 @@ kind-push = 2
 abbrev pub kind-pop : ℕ
 kind-pop = 3
 
+abbrev pub kind-halt : ℕ
+kind-halt = 4
+
 -- the directions of a change or a push; document 01 says moves
 abbrev pub direction-stay : ℕ
 direction-stay = 0

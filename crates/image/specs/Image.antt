@@ -9,9 +9,10 @@ use Rattle.codec.specs.Numbers.{u32-at}
 use Rattle.machine.specs.declared.Config.{Config}
 use Rattle.image.specs.declared.Sizes.{Sizes}
 use Rattle.machine.specs.declared.Action.{Action}
-use Rattle.machine.specs.declared.Reason.the-variants.{Missing}
+use Rattle.machine.specs.declared.Reason.{Reason}
+use Rattle.machine.specs.declared.Reason.the-variants.{Missing, Halting}
 use Rattle.machine.specs.declared.Action.the-variants.{Stop, Change, Push, Pop}
-use Rattle.machine.specs.Halting.{accepts-by}
+use Rattle.machine.specs.Terminating.{accepts-by}
 use Rattle.image.specs.Format
 use Rattle.machine.specs.Run.{Machine, config}
 
@@ -58,12 +59,16 @@ moved m i = cond (eqb m Format.direction-right) (i + 1) (cond (eqb m Format.dire
 abbrev pub led-to : Rule → (head : ℕ) → Config
 led-to r i = config (r .state) (moved (r .direction) i) (r .symbol)
 
+-- why a rule that is no change, push or pop stops a run, by its kind: it halts, or it is missing
+abbrev pub stop-reason : (kind : ℕ) → Reason
+stop-reason k = cond (eqb k Format.kind-halt) Halting Missing
+
 -- what a rule does with the head at i
 unfoldable pub action-by : Rule → (head : ℕ) → Action
 action-by r i =
     cond (eqb (r .kind) Format.kind-change) (Change (led-to r i))
     (cond (eqb (r .kind) Format.kind-push) (Push (led-to r i))
-    (cond (eqb (r .kind) Format.kind-pop) (Pop (r .state) (eqb (r .direction) Format.pop-return)) (Stop Missing)))
+    (cond (eqb (r .kind) Format.kind-pop) (Pop (r .state) (eqb (r .direction) Format.pop-return)) (Stop (stop-reason (r .kind)))))
 
 unfoldable pub action : (image capture : List ℕ) → Config → Action
 action bs cs c = action-by (rule-at bs (c .state) (class-under bs cs (c .head)) (c .symbol)) (c .head)

@@ -41,14 +41,18 @@ unfoldable pub map-from : (left i : ℕ) → List ℕ → Refusal
 map-from zero i bs = no-refusal
 map-from (suc k) i bs = cond (leb (classes bs) (byte bs i)) (refusal 5 i) (map-from k (suc i) bs)
 
--- 6: a rule that names what is not there, or moves off the tape; class is the one that it stands for
+-- 6: a rule of no known kind, one that says more than its kind asks for, names what is not there, or moves off the tape; class is the one that it stands for
 unfoldable pub move-off : List ℕ → (class direction : ℕ) → Bool
 move-off bs k m = (eqb k (classes bs) && eqb m Format.direction-left) || (eqb k (classes bs + 1) && eqb m Format.direction-right)
 
+-- the kinds that stop a run, and have no other byte
+abbrev pub stops : (kind : ℕ) → Bool
+stops k = eqb k Format.kind-none || eqb k Format.kind-halt
+
 unfoldable pub rule-bad : List ℕ → (class : ℕ) → Rule → Bool
 rule-bad bs k r =
-    cond (ltb Format.kind-pop (r .kind)) true
-    (cond (eqb (r .kind) Format.kind-none) (not (eqb (r .state) 0 && (eqb (r .symbol) 0 && eqb (r .direction) 0)))
+    cond (ltb Format.kind-halt (r .kind)) true
+    (cond (stops (r .kind)) (not (eqb (r .state) 0 && (eqb (r .symbol) 0 && eqb (r .direction) 0)))
     (cond (leb (states bs) (r .state)) true
     (cond (eqb (r .kind) Format.kind-pop) (not (eqb (r .symbol) 0) || ltb Format.pop-return (r .direction))
     (leb (symbols bs) (r .symbol) || (ltb Format.direction-left (r .direction) || move-off bs k (r .direction))))))

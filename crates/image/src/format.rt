@@ -43,6 +43,8 @@ pub const KIND_PUSH: u8 = 2;
 
 pub const KIND_POP: u8 = 3;
 
+pub const KIND_HALT: u8 = 4;
+
 // The directions of a change or a push.
 pub const DIRECTION_STAY: u8 = 0;
 

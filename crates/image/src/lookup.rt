@@ -2,6 +2,7 @@
 use crate::Sizes;
 use crate::format::CLASSES_OFFSET;
 use crate::format::FINALS_OFFSET;
+use crate::format::KIND_HALT;
 use crate::format::MAP_OFFSET;
 use crate::format::RULE_LENGTH;
 use crate::format::RULES_OFFSET;
@@ -14,10 +15,10 @@ ghost use mathlib.Core.Path.{_≡_};
 ghost use Prim.Native.Nat.{_+_, _*_, _<_, _≤_};
 ghost use lib.ListN.{length};
 ghost use Rattle.image.specs.Format;
-ghost use Rattle.machine.specs.Halting.{accepts-by};
+ghost use Rattle.machine.specs.Terminating.{accepts-by};
 ghost use Rattle.machine.specs.Run.{returned as returned-to};
 ghost use Rattle.codec.specs.Numbers.{u32-at};
-ghost use Rattle.image.specs.Image.{sizes-of, class-under, rule-from, moved, led-to, action-by, action};
+ghost use Rattle.image.specs.Image.{sizes-of, class-under, rule-from, moved, led-to, stop-reason, action-by, action};
 ghost use Rattle.image.specs.Refusals.{Unrefused};
 ghost use Rattle.image.specs.code.Lookup.{Counted, Lookup-ready, Rule-fits, offset-by, Head-moves, Rule-ready};
 
@@ -109,6 +110,17 @@ fn led_to(image: &[u8], offset: usize, head: u32) -> Config
     }
 }
 
+// Why a rule that is no change, push or pop stops a run.
+fn reason_of(kind: u8) -> Reason
+    ensures { λ r. ⌜ r ≡ stop-reason kind ⌝ }
+{
+    if kind == KIND_HALT {
+        Reason::Halting
+    } else {
+        Reason::Missing
+    }
+}
+
 // What the rule at an offset does with the head at a place.
 fn action_at(image: &[u8], offset: usize, head: u32) -> Action
     requires { ⌜ Rule-ready (now image) offset head ⌝ }
@@ -126,7 +138,7 @@ fn action_at(image: &[u8], offset: usize, head: u32) -> Action
         let returns = image[offset + 3] == 1;
         return Action::Pop { state, returns };
     }
-    Action::Stop(Reason::Missing)
+    Action::Stop(reason_of(kind))
 }
 
 // What a configuration's rule does. It reads that one rule and no count.

@@ -7,17 +7,17 @@ use lib.ListN.{length, getD, set}
 use borrow.Author.Tests.{le-leb, lt-leb, eq-eqb, ne-eqb}
 use Rattle.machine.specs.declared.Config.{Config}
 use Rattle.machine.specs.declared.Reason.{Reason}
-use Rattle.machine.specs.declared.Halt.the-variants.{Over, Stopped}
+use Rattle.machine.specs.declared.Termination.the-variants.{Over, Stopped}
 use Rattle.image.specs.declared.Sizes.{Sizes}
 use Rattle.machine.specs.declared.Action.{Action}
 use Rattle.machine.specs.declared.Action.the-variants.{Stop, Change, Push, Pop}
 use Rattle.image.specs.Format
-use Rattle.machine.specs.Halting.{accepts-by}
+use Rattle.machine.specs.Terminating.{accepts-by}
 use Rattle.machine.specs.Run.{config, returned}
 use Rattle.codec.specs.Numbers.{u32-at}
 use Rattle.image.specs.Image.{sizes-of, action, accepting, machine}
 use Rattle.interpreter.specs.declared.Exit.{Exit}
-use Rattle.interpreter.specs.declared.Exit.the-variants.{Halted, Deep}
+use Rattle.interpreter.specs.declared.Exit.the-variants.{Terminated, Deep}
 use Rattle.interpreter.specs.declared.RunState.{RunState}
 use Rattle.interpreter.specs.declared.StepResult.{StepResult}
 use Rattle.interpreter.specs.declared.StepResult.the-variants.{On, Exited}
@@ -43,11 +43,11 @@ returned-below false i j r k e h g = rw e g
 -- A POP: the last, or one with an entry below
 module _ (accepts : (state head : ℕ) → Bool) (s : RunState) (ks : List ℕ) (p : ℕ) (returns : Bool) (i : ℕ) (head-is : i ≡ pop-head s returns) where
   pub pop-over :
-      (t : Bool) → s .below ≡ 0 → t ≡ accepts p i → Exited (Halted (Over t)) (s .steps + 1) ≡ pop-result accepts s ks p returns
+      (t : Bool) → s .below ≡ 0 → t ≡ accepts p i → Exited (Terminated (Over t)) (s .steps + 1) ≡ pop-result accepts s ks p returns
   unfolding pop-result popped-to
   pop-over t z e =
       let same : t ≡ accepts p (pop-head s returns) = e ∙ ap (accepts p) head-is in
-      simp (eq-eqb (s .below) 0 z) (ap (λ (x : Bool). Exited (Halted (Over x)) (s .steps + 1)) same)
+      simp (eq-eqb (s .below) 0 z) (ap (λ (x : Bool). Exited (Terminated (Over x)) (s .steps + 1)) same)
 
   pub pop-made :
       (k : ℕ) → k ≡ getD ks (s .below - 1) 0 → (s .below ≡ 0 → ⊥) →
@@ -57,7 +57,7 @@ module _ (accepts : (state head : ℕ) → Bool) (s : RunState) (ks : List ℕ) 
 
 -- A STEP WITH SOME BUDGET LEFT, by its action
 module _ (accepts : (state head : ℕ) → Bool) (s : RunState) (ks : List ℕ) (a : Action) where
-  pub stop-taken : (r : Reason) → a ≡ Stop r → Take-says accepts s ks a (Exited (Halted (Stopped r)) (s .steps)) ks
+  pub stop-taken : (r : Reason) → a ≡ Stop r → Take-says accepts s ks a (Exited (Terminated (Stopped r)) (s .steps)) ks
   unfolding take-result cells-taken
   stop-taken r e = rw e (record { result = refl; cells = refl })
 

@@ -4,10 +4,10 @@ use Prim.Native.Nat.{ℕ, zero, suc, _≤_, _<_}
 use lib.ListN.{length}
 use borrow.Author.Tests.{lt-ltb, le-ltb}
 use Rattle.machine.specs.declared.Reason.{Reason}
-use Rattle.machine.specs.declared.Halt.the-variants.{Over, Stopped}
+use Rattle.machine.specs.declared.Termination.the-variants.{Over, Stopped}
 use Rattle.machine.specs.Run.{Machine, Description, stopped, over, next, step, config-of}
 use Rattle.interpreter.specs.declared.Exit.{Exit}
-use Rattle.interpreter.specs.declared.Exit.the-variants.{Halted, Deep}
+use Rattle.interpreter.specs.declared.Exit.the-variants.{Terminated, Deep}
 use Rattle.interpreter.specs.PlainRun.{run-end, spent-or, run-step, run-on}
 
 module _ (M : Machine) (n k : ℕ) (x : Description) where
@@ -15,12 +15,12 @@ module _ (M : Machine) (n k : ℕ) (x : Description) where
   unfolding run-on
   run-spent e = rw e refl
 
-  pub run-stopped : (f : ℕ) (r : Reason) → step M x ≡ stopped r → run-on (suc f) M n k x ≡ run-end (Halted (Stopped r)) n (config-of x)
+  pub run-stopped : (f : ℕ) (r : Reason) → step M x ≡ stopped r → run-on (suc f) M n k x ≡ run-end (Terminated (Stopped r)) n (config-of x)
   unfolding run-on run-step
   run-stopped f r e = rw e refl
 
   pub run-over :
-      (f p i : ℕ) → step M x ≡ over p i → run-on (suc f) M n k x ≡ run-end (Halted (Over (M .accepting p i))) (suc n) (config-of x)
+      (f p i : ℕ) → step M x ≡ over p i → run-on (suc f) M n k x ≡ run-end (Terminated (Over (M .accepting p i))) (suc n) (config-of x)
   unfolding run-on run-step
   run-over f p i e = rw e refl
 

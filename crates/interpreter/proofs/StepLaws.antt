@@ -12,11 +12,11 @@ use Rattle.machine.specs.declared.Config.{Config}
 use Rattle.machine.specs.declared.Action.{Action}
 use Rattle.machine.specs.declared.Action.the-variants.{Stop, Change, Push, Pop}
 use Rattle.machine.specs.declared.Reason.{Reason}
-use Rattle.machine.specs.declared.Halt.the-variants.{Over, Stopped}
+use Rattle.machine.specs.declared.Termination.the-variants.{Over, Stopped}
 use Rattle.machine.specs.Run.{Machine, Entry, over, next, step, config, config-of, returned}
 use Rattle.machine.specs.Verdicts.{over-base}
 use Rattle.machine.proofs.Runs.{config-over, step-stop, step-change, step-push, step-pop, step-pop-last}
-use Rattle.interpreter.specs.declared.Exit.the-variants.{Halted, Deep}
+use Rattle.interpreter.specs.declared.Exit.the-variants.{Terminated, Deep}
 use Rattle.interpreter.specs.declared.RunState.{RunState}
 use Rattle.interpreter.specs.declared.StepResult.{StepResult}
 use Rattle.interpreter.specs.declared.StepResult.the-variants.{On, Exited}
@@ -78,12 +78,12 @@ module _ (M : Machine) (fit : Runnable M) (b : ℕ) (s : RunState) (ks : List �
             (omega (arith, height-of t ks′, q .room)));
       }
 
-  stop-told : (why : Reason) → M .action (s .at) ≡ Stop why → Told M b s ks ks (Exited (Halted (Stopped why)) (s .steps))
+  stop-told : (why : Reason) → M .action (s .at) ≡ Stop why → Told M b s ks ks (Exited (Terminated (Stopped why)) (s .steps))
   stop-told why e =
       let stops = step-stop M (s .at) (s .pointer) (stack-of (s .below) ks) e in
       rw fuel
       (run-stopped M (s .steps) (length ks) (description-of s ks) (b - (s .steps + 1)) why stops ∙
-      ap (run-end (Halted (Stopped why)) (s .steps)) (at-of s ks))
+      ap (run-end (Terminated (Stopped why)) (s .steps)) (at-of s ks))
 
   change-told : (c : Config) → M .action (s .at) ≡ Change c → Told M b s ks ks (change-result s c)
   change-told c e =
@@ -133,11 +133,11 @@ module _ (M : Machine) (fit : Runnable M) (b : ℕ) (s : RunState) (ks : List �
   pop-told :
       (p : ℕ) (t : Bool) → M .action (s .at) ≡ Pop p t → (u : Bool) → eqb (s .below) 0 ≡ u →
       Told M b s ks ks
-      (cond u (Exited (Halted (Over (M .accepting p (pop-head s t)))) (s .steps + 1)) (On (without-top p (pop-head s t) (s .steps + 1))))
+      (cond u (Exited (Terminated (Over (M .accepting p (pop-head s t)))) (s .steps + 1)) (On (without-top p (pop-head s t) (s .steps + 1))))
   pop-told p t e true q =
       rw (fuel, add-one (s .steps))
       (run-over M (s .steps) (length ks) (description-of s ks) (b - suc (s .steps)) p (pop-head s t) (over-step p t e (eqb-true (s .below) 0 q)) ∙
-      ap (run-end (Halted (Over (M .accepting p (pop-head s t)))) (suc (s .steps))) (at-of s ks))
+      ap (run-end (Terminated (Over (M .accepting p (pop-head s t)))) (suc (s .steps))) (at-of s ks))
   pop-told p t e false q =
       let l : 0 < s .below = omega (arith, eqb-false (s .below) 0 q) in
       goes-to (without-top p (pop-head s t) (s .steps + 1)) ks (pop-step p t (s .steps + 1) e l) refl refl

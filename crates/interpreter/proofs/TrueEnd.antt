@@ -8,13 +8,13 @@ use lib.Dec.{ltb}
 use lib.ListN.{length}
 use borrow.Author.Tests.{ltb-true, ltb-false}
 use Rattle.machine.specs.declared.Reason.{Reason}
-use Rattle.machine.specs.declared.Halt.the-variants.{Stopped}
+use Rattle.machine.specs.declared.Termination.the-variants.{Stopped}
 use Rattle.machine.specs.Run.{Machine, Description, Outcome, stopped, over, next, step, start, after, config-of}
 use Rattle.interpreter.specs.declared.Exit.{Exit}
-use Rattle.interpreter.specs.declared.Exit.the-variants.{Halted, Spent, Deep}
+use Rattle.interpreter.specs.declared.Exit.the-variants.{Terminated, Spent, Deep}
 use Rattle.interpreter.specs.PlainRun.{Run-end, run-end, spent-or, run-step, run-on, Exits-as, last-pop, True-end}
 use Rattle.machine.proofs.Runs.{after-next}
-use Rattle.machine.proofs.Halts.{halt-stopped, halt-over}
+use Rattle.machine.proofs.Terminates.{termination-stopped, termination-over}
 use Rattle.interpreter.proofs.Heights.{pushes}
 
 -- the run is at x after n steps, and x has no more entries than cells
@@ -46,7 +46,7 @@ module _ (M : Machine) (b k : ℕ) where
   -- the budget is spent
   spent : (n : ℕ) (x : Description) → Comes M b k n x → n ≡ b → (o : Outcome) → step M x ≡ o → True-end M b k (run-end (spent-or o) n (config-of x))
   unfolding spent-or Exits-as last-pop
-  spent n x h e (stopped r) f = left n x (Halted (Stopped r)) h refl (halt-stopped M x f)
+  spent n x h e (stopped r) f = left n x (Terminated (Stopped r)) h refl (termination-stopped M x f)
   spent n x h e (over p i) f = left n x Spent h refl (e, over-not-stopped _ p i f)
   spent n x h e (next y) f = left n x Spent h refl (e, next-not-stopped _ y f)
 
@@ -68,7 +68,7 @@ module _ (M : Machine) (b k : ℕ) where
       ((y : Description) → Comes M b k (suc n) y → True-end M b k (go y)) → (o : Outcome) → step M x ≡ o →
       True-end M b k (run-step o go M n k x)
   unfolding run-step Exits-as last-pop
-  stepped n x go h l more (stopped r) f = left n x (Halted (Stopped r)) h refl (halt-stopped M x f)
+  stepped n x go h l more (stopped r) f = left n x (Terminated (Stopped r)) h refl (termination-stopped M x f)
   stepped n x go h l more (over p i) f =
       record {
         before = n;
@@ -77,7 +77,7 @@ module _ (M : Machine) (b k : ℕ) where
         counted = omega arith;
         comes = h .comes;
         is = refl;
-        exits = halt-over M x f refl;
+        exits = termination-over M x f refl;
       }
   stepped n x go h l more (next y) f = goes n x y (go y) h l f (more y) (ltb k (length (y .stack))) refl
 

@@ -7,11 +7,11 @@ use lib.Dec.{ltb}
 use lib.ListN.{length}
 use Rattle.machine.specs.declared.Config.{Config}
 use Rattle.machine.specs.declared.Reason.{Reason}
-use Rattle.machine.specs.declared.Halt.the-variants.{Over, Stopped}
+use Rattle.machine.specs.declared.Termination.the-variants.{Over, Stopped}
 use Rattle.machine.specs.declared.Action.the-variants.{Push}
-use Rattle.machine.specs.Run.{Machine, Description, Outcome, stopped, over, next, step, start, halt, after, config-of}
+use Rattle.machine.specs.Run.{Machine, Description, Outcome, stopped, over, next, step, start, termination, after, config-of}
 use Rattle.interpreter.specs.declared.Exit.{Exit}
-use Rattle.interpreter.specs.declared.Exit.the-variants.{Halted, Spent, Deep}
+use Rattle.interpreter.specs.declared.Exit.the-variants.{Terminated, Spent, Deep}
 
 -- what a plain run answers: how it is left, the steps taken, the configuration reached
 pub record Run-end : Type 0 where
@@ -24,14 +24,14 @@ run-end e n c = record { exit = e; steps = n; reached = c }
 
 -- with the budget spent, a rule that stops the run comes first
 unfoldable pub spent-or : Outcome → Exit
-spent-or (stopped r) = Halted (Stopped r)
+spent-or (stopped r) = Terminated (Stopped r)
 spent-or (over p i) = Spent
 spent-or (next y) = Spent
 
 -- with some budget left: a rule stops the run, a last pop (it counts as a step), deep if the step would leave more entries than cells, or on
 unfoldable pub run-step : Outcome → (go : Description → Run-end) → Machine → (steps cells : ℕ) → Description → Run-end
-run-step (stopped r) go M n k x = run-end (Halted (Stopped r)) n (config-of x)
-run-step (over p i) go M n k x = run-end (Halted (Over (M .accepting p i))) (suc n) (config-of x)
+run-step (stopped r) go M n k x = run-end (Terminated (Stopped r)) n (config-of x)
+run-step (over p i) go M n k x = run-end (Terminated (Over (M .accepting p i))) (suc n) (config-of x)
 run-step (next y) go M n k x = cond (ltb k (length (y .stack))) (run-end Deep n (config-of x)) (go y)
 
 -- THE PLAIN RUN from x on, after so many steps, with fuel steps of the budget left
@@ -41,14 +41,14 @@ run-on (suc f) M n k x = run-step (step M x) (λ y. run-on f M (suc n) k y) M n 
 
 -- A TRUE END. The run itself at x, after n steps, is as the exit says; spent only where no rule stops it
 unfoldable pub Exits-as : Exit → Machine → (budget cells steps : ℕ) → Description → Type 0
-Exits-as (Halted h) M b k n x = halt M (step M x) ≡ some h
+Exits-as (Terminated h) M b k n x = termination M (step M x) ≡ some h
 Exits-as Spent M b k n x = (n ≡ b) × ((r : Reason) → step M x ≡ stopped r → ⊥)
 Exits-as Deep M b k n x = (n < b) × (length (x .stack) ≡ k) × (c : Config) × (M .action (config-of x) ≡ Push c)
 
 -- a last pop is a step from the configuration reached
 unfoldable pub last-pop : Exit → ℕ
-last-pop (Halted (Over accepting)) = 1
-last-pop (Halted (Stopped r)) = 0
+last-pop (Terminated (Over accepting)) = 1
+last-pop (Terminated (Stopped r)) = 0
 last-pop Spent = 0
 last-pop Deep = 0
 

@@ -5,7 +5,7 @@ use crate::step::step;
 use image::lookup::finals_of;
 use image::lookup::sizes_of;
 use machine::Config;
-use machine::Halt;
+use machine::Termination;
 use refusal::Refusal;
 use validator::check::capture_refusal;
 ghost use mathlib.Core.Path.{_≡_};
@@ -16,9 +16,9 @@ ghost use Rattle.interpreter.specs.PlainRun.{run-on};
 ghost use Rattle.interpreter.specs.Calls.{answer, run-refusal, Run-says};
 ghost use Rattle.interpreter.specs.code.Stepping.{Run-ready, Run-answers};
 
-// How a plain run is left: it halts, its budget is spent, or the cells are too few for the next push.
+// How a plain run is left: it terminates, its budget is spent, or the cells are too few for the next push.
 pub enum Exit {
-    Halted(Halt),
+    Terminated(Termination),
     Spent,
     Deep,
 }

@@ -8,10 +8,10 @@ use image::lookup::action_of;
 use image::lookup::returned;
 use machine::Action;
 use machine::Config;
-use machine::Halt;
+use machine::Termination;
 ghost use mathlib.Core.Path.{_≡_};
 ghost use Prim.Native.Nat.{_<_};
-ghost use Rattle.machine.specs.Halting.{accepts-by};
+ghost use Rattle.machine.specs.Terminating.{accepts-by};
 ghost use Rattle.interpreter.specs.code.Stepping.{spent-exit, pop-result, Push-says, Take-says, Plain-step-says, Push-ready, Pop-ready, Take-ready, Plain-step-ready};
 
 // A cell of the stack holds pointer * CELL_SYMBOLS + symbol.
@@ -22,7 +22,7 @@ fn spent_exit(action: Action) -> Exit
     ensures { λ e. ⌜ e ≡ spent-exit action ⌝ }
 {
     match action {
-        Action::Stop(reason) => Exit::Halted(Halt::Stopped(reason)),
+        Action::Stop(reason) => Exit::Terminated(Termination::Stopped(reason)),
         _ => Exit::Spent,
     }
 }
@@ -69,7 +69,7 @@ fn pop(
     if below == 0 {
         let accepting = accepts(finals, places, state, head);
         return StepResult::Exited {
-            exit: Exit::Halted(Halt::Over { accepting }),
+            exit: Exit::Terminated(Termination::Over { accepting }),
             steps: after,
         };
     }
@@ -95,7 +95,7 @@ fn take(action: Action, finals: u32, places: u32, here: RunState, stack: &mut [u
 {
     match action {
         Action::Stop(reason) => StepResult::Exited {
-            exit: Exit::Halted(Halt::Stopped(reason)),
+            exit: Exit::Terminated(Termination::Stopped(reason)),
             steps: here.steps,
         },
         Action::Change(c) => {
@@ -127,8 +127,8 @@ pub fn step(
 {
     let steps = here.steps;
     if steps == budget {
-        let halts = action_of(image, capture, sizes, here.at);
-        let exit = spent_exit(halts);
+        let terminates = action_of(image, capture, sizes, here.at);
+        let exit = spent_exit(terminates);
         return StepResult::Exited { exit, steps };
     }
     let action = action_of(image, capture, sizes, here.at);

@@ -15,7 +15,7 @@ use Rattle.machine.specs.declared.Reason.{Reason}
 use Rattle.machine.specs.declared.Action.the-variants.{Stop, Change, Push, Pop}
 use Rattle.machine.specs.Run.{Machine, Entry, entry, Description, after, top, config-of}
 use Rattle.machine.specs.Verdicts.{over-base}
-use Rattle.machine.proofs.Runs.{after-zero, after-rest, after-front, step-stop, step-change, step-push, halted-stopped, halted-no-more, not-none, some-same}
+use Rattle.machine.proofs.Runs.{after-zero, after-rest, after-front, step-stop, step-change, step-push, terminated-stopped, terminated-no-more, not-none, some-same}
 use Rattle.machine.proofs.Ends.{resume, Ends, pops, changes, pushes, count, after-push, ends-reach, ends-pops, ends-inside}
 
 abbrev pub Any : Config → Type 0
@@ -82,8 +82,8 @@ stop-kept M n c h =
   where
     none-then : (i : ℕ) (base : List Entry) (k : ℕ) → after (suc k) M (over-base c i base) ≡ none
     none-then i base k =
-        let halted = halted-stopped M (over-base c i base) (step-stop M c i base h) in
-        halted-no-more M 0 (suc k) (over-base c i base) (after-zero M (over-base c i base)) halted (omega arith)
+        let terminated = terminated-stopped M (over-base c i base) (step-stop M c i base h) in
+        terminated-no-more M 0 (suc k) (over-base c i base) (after-zero M (over-base c i base)) terminated (omega arith)
 
 -- from the step after a change, or after a push
 changed :

@@ -6,7 +6,9 @@ pub mod Runs
 pub mod Ends
 pub mod Kept
 pub mod Terminators
-pub mod Halts
+pub mod Terminates
+pub mod SameRuns
+pub mod HaltsLikeStuck
 pub mod OneVerdict
 pub mod RightNotes
 pub mod NotesOfRun

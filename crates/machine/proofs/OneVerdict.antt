@@ -6,11 +6,11 @@ use native.Mathlib.Omega.{arith}
 use Rattle.machine.specs.declared.Config.{Config}
 use Rattle.machine.specs.declared.Verdict.{Verdict}
 use Rattle.machine.specs.declared.Verdict.the-variants.{Looping}
-use Rattle.machine.specs.Halting.{halt-verdict}
+use Rattle.machine.specs.Terminating.{termination-verdict}
 use Rattle.machine.specs.Run.{Machine, start, after, config-of}
-use Rattle.machine.specs.Verdicts.{Goes-on, First-again, Says, halts, loops}
+use Rattle.machine.specs.Verdicts.{Goes-on, First-again, Says, terminates, loops}
 use Rattle.machine.proofs.Runs.{some-same}
-use Rattle.machine.proofs.Halts.{one-halt, no-halt}
+use Rattle.machine.proofs.Terminates.{one-termination, no-termination}
 
 -- the first configuration to come again is one
 one-first : {M : Machine} {d e : Config} → First-again M d → First-again M e → d ≡ e
@@ -25,14 +25,14 @@ one-first {M} {d} {e} v w = go (decLt (v .at-step) (w .at-step)) (decLt (w .at-s
         sym (v .is) ∙ ap config-of place ∙ w .is
 
 pub one-verdict : (M : Machine) (v w : Verdict) (d e : Config) → Says M v d → Says M w e → (v ≡ w) × (d ≡ e)
-one-verdict M v w d e (halts h p) (halts k q) =
-    let both = one-halt h k in
-    (p ∙ ap halt-verdict (both .1) ∙ sym q, both .0)
-one-verdict M v w d e (halts h p) (loops on first q) = absurd (no-halt on h)
-one-verdict M v w d e (loops on first p) (halts k q) = absurd (no-halt on k)
+one-verdict M v w d e (terminates h p) (terminates k q) =
+    let both = one-termination h k in
+    (p ∙ ap termination-verdict (both .1) ∙ sym q, both .0)
+one-verdict M v w d e (terminates h p) (loops on first q) = absurd (no-termination on h)
+one-verdict M v w d e (loops on first p) (terminates k q) = absurd (no-termination on k)
 one-verdict M v w d e (loops on first p) (loops also second q) = (p ∙ sym q, one-first first second)
 
 -- a run that goes on has no verdict but looping
 pub goes-on-loops : (M : Machine) (v : Verdict) (d : Config) → Says M v d → Goes-on M → v ≡ Looping
-goes-on-loops M v d (halts h p) on = absurd (no-halt on h)
+goes-on-loops M v d (terminates h p) on = absurd (no-termination on h)
 goes-on-loops M v d (loops also first p) on = p

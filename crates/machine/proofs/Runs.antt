@@ -1,4 +1,4 @@
--- So many steps and then more, one step of each kind of action, and that a run halts at one step only. Assumes nothing.
+-- So many steps and then more, one step of each kind of action, and that a run terminates at one step only. Assumes nothing.
 use mathlib.Core.Path.{_≡_, refl, sym, ap, _∙_, subst}
 use mathlib.Core.Bool.{Bool}
 use mathlib.Core.List.{List, [], _∷_}
@@ -125,25 +125,25 @@ pub step-none : (M : Machine) (p i : ℕ) → step M (description p i []) ≡ st
 unfolding step step-on
 step-none M p i = refl
 
--- HALTED: there is no next step
-abbrev pub Halted : Machine → Description → Type 0
-Halted M x = only-next (step M x) ≡ none
+-- TERMINATED: there is no next step
+abbrev pub Terminated : Machine → Description → Type 0
+Terminated M x = only-next (step M x) ≡ none
 
-pub halted-stopped : (M : Machine) (x : Description) {r : Reason} → step M x ≡ stopped r → Halted M x
+pub terminated-stopped : (M : Machine) (x : Description) {r : Reason} → step M x ≡ stopped r → Terminated M x
 unfolding only-next
-halted-stopped M x e = ap only-next e
+terminated-stopped M x e = ap only-next e
 
-pub halted-over : (M : Machine) (x : Description) {p i : ℕ} → step M x ≡ over p i → Halted M x
+pub terminated-over : (M : Machine) (x : Description) {p i : ℕ} → step M x ≡ over p i → Terminated M x
 unfolding only-next
-halted-over M x e = ap only-next e
+terminated-over M x e = ap only-next e
 
 further-none : (M : Machine) (o : Option Description) → o ≡ none → further M o ≡ none
 unfolding further
 further-none M o e = ap (further M) e
 
-further-halted : (M : Machine) (x : Description) → Halted M x → further M (some x) ≡ none
+further-terminated : (M : Machine) (x : Description) → Terminated M x → further M (some x) ≡ none
 unfolding further
-further-halted M x h = h
+further-terminated M x h = h
 
 -- once a run is not on, it is not on later
 pub after-none : (M : Machine) (m n : ℕ) (x : Description) → after m M x ≡ none → after (m + n) M x ≡ none
@@ -151,10 +151,10 @@ after-none M m zero x e = rw add-zero e
 after-none M m (suc n) x e =
     rw add-suc (after-suc M (m + n) x ∙ further-none M (after (m + n) M x) (after-none M m n x e))
 
-pub halted-no-more :
-    (M : Machine) (m n : ℕ) (x : Description) {y : Description} → after m M x ≡ some y → Halted M y → m < n → after n M x ≡ none
-halted-no-more M m n x {y} e h l =
-    let now : after (suc m) M x ≡ none = after-suc M m x ∙ ap (further M) e ∙ further-halted M y h in
+pub terminated-no-more :
+    (M : Machine) (m n : ℕ) (x : Description) {y : Description} → after m M x ≡ some y → Terminated M y → m < n → after n M x ≡ none
+terminated-no-more M m n x {y} e h l =
+    let now : after (suc m) M x ≡ none = after-suc M m x ∙ ap (further M) e ∙ further-terminated M y h in
     let k : n ≡ suc m + (n - suc m) = omega arith in
     rw k (after-none M (suc m) (n - suc m) x now)
 
@@ -164,15 +164,15 @@ not-none o e f = let z : _≡_ {A = ℕ} 0 1 = cc in omega arith
 pub some-same : {A : Type 0} (o : Option A) {x y : A} → o ≡ some x → o ≡ some y → x ≡ y
 some-same o e f = cc
 
--- a run halts at one step only, and in one place
-pub halts-once :
-    (M : Machine) (m n : ℕ) (x : Description) {y z : Description} → after m M x ≡ some y → Halted M y → after n M x ≡ some z →
-    Halted M z → (m ≡ n) × (y ≡ z)
-halts-once M m n x {y} {z} e h f k = go (decLt m n) (decLt n m)
+-- a run terminates at one step only, and in one place
+pub terminates-once :
+    (M : Machine) (m n : ℕ) (x : Description) {y z : Description} → after m M x ≡ some y → Terminated M y → after n M x ≡ some z →
+    Terminated M z → (m ≡ n) × (y ≡ z)
+terminates-once M m n x {y} {z} e h f k = go (decLt m n) (decLt n m)
   where
     go : Dec (m < n) → Dec (n < m) → (m ≡ n) × (y ≡ z)
-    go (yes l) d = absurd (not-none (after n M x) f (halted-no-more M m n x e h l))
-    go (no a) (yes l) = absurd (not-none (after m M x) e (halted-no-more M n m x f k l))
+    go (yes l) d = absurd (not-none (after n M x) f (terminated-no-more M m n x e h l))
+    go (no a) (yes l) = absurd (not-none (after m M x) e (terminated-no-more M n m x f k l))
     go (no a) (no b) =
         let same : m ≡ n = omega arith in
         (same, some-same (after n M x) (rw same at e) f)

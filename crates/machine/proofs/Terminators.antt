@@ -14,7 +14,7 @@ use Rattle.machine.specs.declared.Action.the-variants.{Stop, Change, Pus
 use Rattle.machine.specs.Run.{Machine, Entry, Description, description, over, next, returned, step-by, step-on, step, start, after, top, config, config-of}
 use Rattle.machine.specs.Verdicts.{over-base, Ends-with, Ends-at}
 use Rattle.machine.specs.Removal.{Removed}
-use Rattle.machine.proofs.Runs.{after-then, after-last, after-before, after-rest, config-over, step-pop, step-pop-last, halted-over, halts-once, some-same}
+use Rattle.machine.proofs.Runs.{after-then, after-last, after-before, after-rest, config-over, step-pop, step-pop-last, terminated-over, terminates-once, some-same}
 use Rattle.machine.proofs.Ends.{Ends, count, ends-reach, ends-pops, ends-inside, ends-at}
 use Rattle.machine.proofs.Kept.{Any, Within, ends-or-kept}
 
@@ -51,9 +51,9 @@ same-end : (M : Machine) (c d e : Config) (i : ℕ) → Ends-with M c i d → En
 same-end M c d e i v w =
     let (p, k, v-over) = v .gone in
     let (q, l, w-over) = w .gone in
-    let v-halted = halted-over M (v .place) v-over in
-    let w-halted = halted-over M (w .place) w-over in
-    let once = halts-once M (v .steps) (w .steps) (over-base c i []) (v .reached) v-halted (w .reached) w-halted in
+    let v-terminated = terminated-over M (v .place) v-over in
+    let w-terminated = terminated-over M (w .place) w-over in
+    let once = terminates-once M (v .steps) (w .steps) (over-base c i []) (v .reached) v-terminated (w .reached) w-terminated in
     sym (v .is) ∙ ap config-of (once .1) ∙ w .is
 
 pub big-step : (M : Machine) (c d : Config) (i : ℕ) → Ends-with M c i d → Ends M Any c d

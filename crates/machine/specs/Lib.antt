@@ -1,7 +1,8 @@
--- What a reader must believe of machines, in the order of the paper: the run, how it halts, verdicts and notes, and their numbers.
+-- What a reader must believe of machines, in the order of the paper: the run, how it terminates, verdicts and notes, and their numbers.
 pub mod Run
-pub mod Halting
+pub mod Terminating
 pub mod Verdicts
+pub mod LikeStuck
 pub mod Removal
 pub mod Replies
 pub mod Implications

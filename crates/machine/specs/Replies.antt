@@ -4,16 +4,17 @@ use Rattle.machine.specs.declared.Config.{Config}
 use Rattle.refusal.specs.declared.Refusal.{Refusal}
 use Rattle.machine.specs.declared.Reply.{Reply}
 use Rattle.machine.specs.declared.Verdict.{Verdict}
-use Rattle.machine.specs.declared.Verdict.the-variants.{Accepted, Ended, Stuck, Looping}
+use Rattle.machine.specs.declared.Verdict.the-variants.{Accepted, Ended, Stuck, Looping, Halted}
 use Rattle.refusal.specs.declared.Checked.{Checked}
 use Rattle.refusal.specs.declared.Checked.the-variants.{Good, Refused}
 
--- a verdict's number; 0 is none
+-- a verdict's number; 0 is none, 5 and 6 are how else a plain run is left
 unfoldable pub verdict-number : Verdict → ℕ
 verdict-number Accepted = 1
 verdict-number Ended = 2
 verdict-number Stuck = 3
 verdict-number Looping = 4
+verdict-number Halted = 7
 
 abbrev pub no-config : Config
 no-config = record { state = 0; head = 0; symbol = 0 }

@@ -7,8 +7,8 @@ use Rattle.machine.specs.declared.Config.{Config}
 use Rattle.machine.specs.declared.Action.{Action}
 use Rattle.machine.specs.declared.Reason.{Reason}
 use Rattle.machine.specs.declared.Reason.the-variants.{Missing}
-use Rattle.machine.specs.declared.Halt.{Halt}
-use Rattle.machine.specs.declared.Halt.the-variants.{Over, Stopped}
+use Rattle.machine.specs.declared.Termination.{Termination}
+use Rattle.machine.specs.declared.Termination.the-variants.{Over, Stopped}
 use Rattle.machine.specs.declared.Action.the-variants.{Stop, Change, Push, Pop}
 
 abbrev pub config : (state head symbol : ℕ) → Config
@@ -85,11 +85,11 @@ step M x = step-on M (x .state) (x .head) (x .stack)
 unfoldable pub start : Description
 start = description 0 0 (entry 0 0 ∷ [])
 
--- how a run halts there, if it does
-unfoldable pub halt : Machine → Outcome → Option Halt
-halt M (stopped r) = some (Stopped r)
-halt M (over p i) = some (Over (M .accepting p i))
-halt M (next y) = none
+-- how a run terminates there, if it does
+unfoldable pub termination : Machine → Outcome → Option Termination
+termination M (stopped r) = some (Stopped r)
+termination M (over p i) = some (Over (M .accepting p i))
+termination M (next y) = none
 
 -- where a run is after so many steps, if it goes on so far
 unfoldable pub only-next : Outcome → Option Description

@@ -10,10 +10,10 @@ use Rattle.machine.specs.declared.Config.{Config}
 use Rattle.machine.specs.declared.Note.{Note}
 use Rattle.machine.specs.declared.Note.the-variants.{Unseen, Open, Closed}
 use Rattle.machine.specs.declared.Verdict.{Verdict}
-use Rattle.machine.specs.declared.Halt.{Halt}
+use Rattle.machine.specs.declared.Termination.{Termination}
 use Rattle.machine.specs.declared.Verdict.the-variants.{Looping}
-use Rattle.machine.specs.Halting.{halt-verdict}
-use Rattle.machine.specs.Run.{Machine, Valid-config, Description, description, entry, over, step, start, halt, after, config-of, number}
+use Rattle.machine.specs.Terminating.{termination-verdict}
+use Rattle.machine.specs.Run.{Machine, Valid-config, Description, description, entry, over, step, start, termination, after, config-of, number}
 
 -- ENTERED: the run is in it after some number of steps
 pub record Entered (M : Machine) (c : Config) : Type 0 where
@@ -40,13 +40,13 @@ Ends-at M c d = Ends-with M c 0 d
 abbrev pub No-end : Machine → Config → Type 0
 No-end M c = (d : Config) → Ends-at M c d → ⊥
 
--- VERDICTS. The run halts at d, in the way h
-pub record Halts-at (M : Machine) (d : Config) (h : Halt) : Type 0 where
+-- VERDICTS. The run terminates at d, in the way h
+pub record Terminates-at (M : Machine) (d : Config) (h : Termination) : Type 0 where
   pub steps : ℕ
   pub place : Description
   pub reached : after steps M start ≡ some place
   pub is : config-of place ≡ d
-  pub last : halt M (step M place) ≡ some h
+  pub last : termination M (step M place) ≡ some h
 
 abbrev pub Goes-on : Machine → Type 0
 Goes-on M = (n : ℕ) → (x : Description) × (after n M start ≡ some x)
@@ -68,9 +68,9 @@ pub record First-again (M : Machine) (d : Config) : Type 0 where
   pub first : (j : ℕ) → j < at-step → Again M j → ⊥
   pub is : config-of (again .now-at) ≡ d
 
--- a run's verdict v and end configuration d: the run halts at d, and v is the verdict of how it halts; or it goes on for ever, d is the first configuration to come again, and v is looping
+-- a run's verdict v and end configuration d: the run terminates at d, and v is the verdict of how it terminates; or it goes on for ever, d is the first configuration to come again, and v is looping
 pub data Says (M : Machine) (v : Verdict) (d : Config) : Type 0 where
-  halts : {h : Halt} → Halts-at M d h → v ≡ halt-verdict h → Says M v d
+  terminates : {h : Termination} → Terminates-at M d h → v ≡ termination-verdict h → Says M v d
   loops : Goes-on M → First-again M d → v ≡ Looping → Says M v d
 
 -- NOTES, the memo table. What a cell says: 0 unseen, 1 open, else 2 more than the number that the note is closed with

@@ -1,7 +1,7 @@
-// Machines: configurations, what a rule does, why and how a run halts, verdicts and notes. Nothing here sees a byte.
-pub mod halting;
+// Machines: configurations, what a rule does, why and how a run terminates, verdicts and notes. Nothing here sees a byte.
 pub mod notes;
 pub mod replies;
+pub mod terminating;
 
 // A surface configuration: state p, head i, top symbol A.
 pub struct Config {
@@ -10,9 +10,10 @@ pub struct Config {
     pub symbol: u32,
 }
 
-// Why a rule stops a run: there is none.
+// Why a rule stops a run: there is none, or it is a halting one, paper 000's halt.
 pub enum Reason {
     Missing,
+    Halting,
 }
 
 // What a configuration's rule does. A change and a push name the configuration that they lead to.
@@ -23,8 +24,8 @@ pub enum Action {
     Pop { state: u32, returns: bool },
 }
 
-// How a run halts: its last entry is popped, or a rule stops it.
-pub enum Halt {
+// How a run terminates: its last entry is popped, or a rule stops it.
+pub enum Termination {
     Over { accepting: bool },
     Stopped(Reason),
 }
@@ -35,6 +36,7 @@ pub enum Verdict {
     Ended,
     Stuck,
     Looping,
+    Halted,
 }
 
 // What a note's cell says of its configuration: never looked at, looked at and without a known terminator, or closed with its terminator's number.

@@ -15,6 +15,7 @@ pub fn verdict_number(verdict: Verdict) -> u32
         Verdict::Ended => 2,
         Verdict::Stuck => 3,
         Verdict::Looping => 4,
+        Verdict::Halted => 7,
     }
 }
 

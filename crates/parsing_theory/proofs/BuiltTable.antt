@@ -12,7 +12,7 @@ use Rattle.machine.specs.declared.Reason.the-variants.{Missing}
 use Rattle.machine.specs.declared.Action.the-variants.{Stop, Push, Pop}
 use Rattle.machine.specs.Run.{config}
 use Rattle.image.specs.Format.{finals-offset}
-use Rattle.machine.specs.Halting.{accepts-by}
+use Rattle.machine.specs.Terminating.{accepts-by}
 use Rattle.codec.specs.Bytes.{byte}
 use Rattle.codec.specs.Numbers.{u32-at}
 use Rattle.image.specs.Image.{Rule, rule-at, class-under, moved, action-by, action, accepting, machine}

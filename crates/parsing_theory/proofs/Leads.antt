@@ -1,4 +1,4 @@
--- Where the rules of a grammar's machine lead: from a rule's symbol in states work, ok and fail to such a configuration again, or to a pop; and where the bottom entry alone is left the run halts. Assumes nothing.
+-- Where the rules of a grammar's machine lead: from a rule's symbol in states work, ok and fail to such a configuration again, or to a pop; and where the bottom entry alone is left the run terminates. Assumes nothing.
 use mathlib.Core.Path.{_≡_, refl}
 use mathlib.Core.Bool.{Bool, true, false, _&&_}
 use mathlib.Core.List.{List, []}
@@ -15,7 +15,7 @@ use Rattle.machine.specs.Run.{Machine, config}
 use Rattle.codec.specs.Bytes.{byte}
 use Rattle.image.specs.Image.{action-by, moved, Rule}
 use Rattle.machine.specs.Verdicts.{over-base}
-use Rattle.machine.proofs.Runs.{step-stop, step-pop-last, Halted, halted-stopped, halted-over}
+use Rattle.machine.proofs.Runs.{step-stop, step-pop-last, Terminated, terminated-stopped, terminated-over}
 use Rattle.grammar.specs.declared.Expression.{Expression}
 use Rattle.grammar.specs.declared.Expression.the-variants.{Sequence, Choice, Not, Empty, Range}
 use Rattle.grammar.specs.Grammar.{range-of, Parts-below}
@@ -103,25 +103,25 @@ module _ {M : Machine} {E : Rules} {m : ℕ} {cs : List ℕ} (table : Table M E 
   pub box-leads : (c : Config) → In-box m (length cs) c → Leads m (length cs) (M .action c)
   box-leads c b = box-leads-by (c .state) (c .head) (c .symbol) b (rule-symbol m (c .symbol) (b .symbol-least) (b .symbol-most))
 
-  -- where the bottom entry alone is left the run halts
-  bottom-halts-by : (p i j : ℕ) → At-bottom (length cs) (config p i 0) → Halted M (over-base (config p i 0) j [])
-  bottom-halts-by p zero j b = absurd (omega (arith, b .head-least))
-  bottom-halts-by zero (suc i) j b = absurd (omega (arith, b .state-least))
-  bottom-halts-by (suc zero) (suc i) j b = absurd (omega (arith, b .state-least))
-  bottom-halts-by (suc (suc zero)) (suc i) j b = go (ℕ-discrete i (length cs))
+  -- where the bottom entry alone is left the run terminates
+  bottom-terminates-by : (p i j : ℕ) → At-bottom (length cs) (config p i 0) → Terminated M (over-base (config p i 0) j [])
+  bottom-terminates-by p zero j b = absurd (omega (arith, b .head-least))
+  bottom-terminates-by zero (suc i) j b = absurd (omega (arith, b .state-least))
+  bottom-terminates-by (suc zero) (suc i) j b = absurd (omega (arith, b .state-least))
+  bottom-terminates-by (suc (suc zero)) (suc i) j b = go (ℕ-discrete i (length cs))
     where
-      go : Dec (i ≡ length cs) → Halted M (over-base (config state-ok (suc i) 0) j [])
+      go : Dec (i ≡ length cs) → Terminated M (over-base (config state-ok (suc i) 0) j [])
       go (yes e) =
           let pops : M .action (config state-ok (suc i) 0) ≡ Pop state-done false = rw e (table .ends) in
-          halted-over M _ (step-pop-last M (config state-ok (suc i) 0) j pops)
-      go (no f) = halted-stopped M _ (step-stop M (config state-ok (suc i) 0) j [] (table .ok-stops i (omega (arith, b .head-most))))
-  bottom-halts-by (suc (suc (suc zero))) (suc i) j b =
-      halted-stopped M _ (step-stop M (config state-fail (suc i) 0) j [] (table .fail-stops i (omega (arith, b .head-most))))
-  bottom-halts-by (suc (suc (suc (suc p)))) (suc i) j b = absurd (omega (arith, b .state-most))
+          terminated-over M _ (step-pop-last M (config state-ok (suc i) 0) j pops)
+      go (no f) = terminated-stopped M _ (step-stop M (config state-ok (suc i) 0) j [] (table .ok-stops i (omega (arith, b .head-most))))
+  bottom-terminates-by (suc (suc (suc zero))) (suc i) j b =
+      terminated-stopped M _ (step-stop M (config state-fail (suc i) 0) j [] (table .fail-stops i (omega (arith, b .head-most))))
+  bottom-terminates-by (suc (suc (suc (suc p)))) (suc i) j b = absurd (omega (arith, b .state-most))
 
-  pub bottom-halts : (c : Config) → At-bottom (length cs) c → (j : ℕ) → Halted M (over-base c j [])
-  bottom-halts c b j = go (c .symbol) (b .symbol-is) b
+  pub bottom-terminates : (c : Config) → At-bottom (length cs) c → (j : ℕ) → Terminated M (over-base c j [])
+  bottom-terminates c b j = go (c .symbol) (b .symbol-is) b
     where
-      go : (a : ℕ) → a ≡ 0 → At-bottom (length cs) (config (c .state) (c .head) a) → Halted M (over-base (config (c .state) (c .head) a) j [])
-      go zero e d = bottom-halts-by (c .state) (c .head) j d
+      go : (a : ℕ) → a ≡ 0 → At-bottom (length cs) (config (c .state) (c .head) a) → Terminated M (over-base (config (c .state) (c .head) a) j [])
+      go zero e d = bottom-terminates-by (c .state) (c .head) j d
       go (suc a) e d = absurd (omega arith)

@@ -12,11 +12,11 @@ use borrow.Author.Tests.{eq-eqb}
 use Rattle.machine.specs.declared.Config.{Config}
 use Rattle.machine.specs.declared.Reason.the-variants.{Missing}
 use Rattle.machine.specs.declared.Verdict.{Verdict}
-use Rattle.machine.specs.declared.Verdict.the-variants.{Accepted, Ended, Stuck, Looping}
+use Rattle.machine.specs.declared.Verdict.the-variants.{Accepted, Ended, Stuck, Looping, Halted}
 use Rattle.machine.specs.Run.{Machine, Entry, entry, Description, stopped, over, step, start, after, config, config-of}
 use Rattle.machine.specs.Verdicts.{Says, Goes-on}
-use Rattle.machine.proofs.Runs.{after-zero, after-front, step-stop, step-push, step-pop-last, Halted, halted-stopped, halted-over, halted-no-more, halts-once, not-none}
-use Rattle.machine.proofs.Halts.{halt-stopped, halt-over, at-halt, says-accepted, says-stuck, says-halts}
+use Rattle.machine.proofs.Runs.{after-zero, after-front, step-stop, step-push, step-pop-last, Terminated, terminated-stopped, terminated-over, terminated-no-more, terminates-once, not-none}
+use Rattle.machine.proofs.Terminates.{termination-stopped, termination-over, at-termination, says-accepted, says-stuck, says-terminates}
 use Rattle.machine.proofs.OneVerdict.{one-verdict}
 use Rattle.grammar.specs.Parsing.{Rules, Parses}
 use Rattle.builder.specs.Table.{state-start, state-ok, state-fail, state-done}
@@ -24,15 +24,16 @@ use Rattle.parsing_theory.proofs.Table.{Table}
 use Rattle.parsing_theory.proofs.ParseRuns.{working, popped, Ends-inside, Came, came}
 use Rattle.parsing_theory.proofs.RunParses.{Known, parses-or-goes}
 
--- THE SECOND DEMAND for grammars, of any machine: accepted where parsing from rule 0 consumes all, stuck where it has another result, without end where it has none; never ended
+-- THE SECOND DEMAND for grammars, of any machine: accepted where parsing from rule 0 consumes all, stuck where it has another result, without end where it has none; never ended, never halted
 pub record Parses-right (M : Machine) (E : Rules) (cs : List ℕ) : Type 0 where
   pub accepted-parses : (d : Config) → Says M Accepted d → Parses E cs 0 0 (some (length cs))
   pub parses-accepted : Parses E cs 0 0 (some (length cs)) → (d : Config) × Says M Accepted d
   pub parses-stuck : (o : Option ℕ) → Parses E cs 0 0 o → (o ≡ some (length cs) → ⊥) → (d : Config) × Says M Stuck d
   pub stuck-parses : (d : Config) → Says M Stuck d → (o : Option ℕ) × Parses E cs 0 0 o × (o ≡ some (length cs) → ⊥)
-  pub parses-halts : (o : Option ℕ) → Parses E cs 0 0 o → Goes-on M → ⊥
+  pub parses-terminates : (o : Option ℕ) → Parses E cs 0 0 o → Goes-on M → ⊥
   pub no-parse-goes-on : ((o : Option ℕ) → Parses E cs 0 0 o → ⊥) → Goes-on M
   pub never-ended : (d : Config) → Says M Ended d → ⊥
+  pub never-halted : (d : Config) → Says M Halted d → ⊥
 
 -- the run's first entry, below that of rule 0
 abbrev ground : List Entry
@@ -56,7 +57,7 @@ popped-same i (some j) (some h) es e =
     ap some same
 
 module _ {M : Machine} {E : Rules} {m : ℕ} {cs : List ℕ} (t : Table M E m cs) where
-  -- WHERE THE RUN HALTS, with the result on the first entry
+  -- WHERE THE RUN TERMINATES, with the result on the first entry
   accepts-last : (i : ℕ) → step M (popped i (some (length cs)) ground) ≡ over state-done (suc (length cs))
   accepts-last i = step-pop-last M (config state-ok (suc (length cs)) 0) 0 (t .ends)
 
@@ -69,12 +70,12 @@ module _ {M : Machine} {E : Rules} {m : ℕ} {cs : List ℕ} (t : Table M E m cs
       let ne : j ≡ length cs → ⊥ = λ e. other (ap some e) in
       step-stop M (config state-ok (suc j) 0) 0 [] (t .ok-stops j (omega arith))
 
-  result-halts : (i : ℕ) (o : Option ℕ) → i ≤ length cs → Ends-inside (length cs) i o → Halted M (popped i o ground)
-  result-halts i o here inside = go (which o (length cs))
+  result-terminates : (i : ℕ) (o : Option ℕ) → i ≤ length cs → Ends-inside (length cs) i o → Terminated M (popped i o ground)
+  result-terminates i o here inside = go (which o (length cs))
     where
-      go : Dec (o ≡ some (length cs)) → Halted M (popped i o ground)
-      go (yes e) = rw e (halted-over M (popped i (some (length cs)) ground) (accepts-last i))
-      go (no e) = halted-stopped M (popped i o ground) (stuck-last i o here inside e)
+      go : Dec (o ≡ some (length cs)) → Terminated M (popped i o ground)
+      go (yes e) = rw e (terminated-over M (popped i (some (length cs)) ground) (accepts-last i))
+      go (no e) = terminated-stopped M (popped i o ground) (stuck-last i o here inside e)
 
   -- ONE RESULT
   pub parses-once :
@@ -83,8 +84,8 @@ module _ {M : Machine} {E : Rules} {m : ℕ} {cs : List ℕ} (t : Table M E m cs
       let v = came t below here p in
       let w = came t below here q in
       popped-same i o u ground
-      (halts-once M (v .steps) (w .steps) (working k i ground) (v .comes (entry 0 0) []) (result-halts i o here (v .ends))
-      (w .comes (entry 0 0) []) (result-halts i u here (w .ends)) .1)
+      (terminates-once M (v .steps) (w .steps) (working k i ground) (v .comes (entry 0 0) []) (result-terminates i o here (v .ends))
+      (w .comes (entry 0 0) []) (result-terminates i u here (w .ends)) .1)
 
   -- FROM THE START
   start-then : (n : ℕ) → after (suc n) M start ≡ after n M (working 0 0 ground)
@@ -103,7 +104,7 @@ module _ {M : Machine} {E : Rules} {m : ℕ} {cs : List ℕ} (t : Table M E m cs
       let place : Description = popped 0 (some (length cs)) ground in
       let at-end : suc (length cs) + 1 ≡ length cs + 2 = omega arith in
       let accepting = t .accepting-are state-done (suc (length cs)) ∙ eq-eqb (suc (length cs) + 1) (length cs + 2) at-end in
-      let last = halt-over M place (accepts-last 0) accepting in (
+      let last = termination-over M place (accepts-last 0) accepting in (
         config-of place,
         says-accepted (record { steps = suc (w .steps); place = place; reached = from-start w; is = refl; last = last }),
       )
@@ -112,16 +113,16 @@ module _ {M : Machine} {E : Rules} {m : ℕ} {cs : List ℕ} (t : Table M E m cs
   sticks o p other =
       let w = came-first p in
       let place : Description = popped 0 o ground in
-      let last = halt-stopped M place (stuck-last 0 o (omega arith) (w .ends) other) in
+      let last = termination-stopped M place (stuck-last 0 o (omega arith) (w .ends) other) in
       (config-of place, says-stuck (record { steps = suc (w .steps); place = place; reached = from-start w; is = refl; last = last }))
 
-  halts : (o : Option ℕ) → Parses E cs 0 0 o → Goes-on M → ⊥
-  halts o p on =
+  terminates : (o : Option ℕ) → Parses E cs 0 0 o → Goes-on M → ⊥
+  terminates o p on =
       let w = came-first p in
       let later : ℕ = suc (suc (w .steps)) in
       let (x, e) = on later in
-      let halted = result-halts 0 o (omega arith) (w .ends) in
-      not-none (after later M start) e (halted-no-more M (suc (w .steps)) later start (from-start w) halted (le-refl later))
+      let terminated = result-terminates 0 o (omega arith) (w .ends) in
+      not-none (after later M start) e (terminated-no-more M (suc (w .steps)) later start (from-start w) terminated (le-refl later))
 
   goes-on : ((o : Option ℕ) → Parses E cs 0 0 o → ⊥) → Goes-on M
   goes-on never zero = (start, after-zero M start)
@@ -131,15 +132,15 @@ module _ {M : Machine} {E : Rules} {m : ℕ} {cs : List ℕ} (t : Table M E m cs
       go (inl (o, p)) = absurd (never o p)
       go (inr g) = let (x, e) = g .goes (entry 0 0) [] in (x, start-then n ∙ e)
 
-  -- a run that halts has parsed
-  halted-parses : (n : ℕ) {x : Description} → after n M start ≡ some x → Halted M x → (o : Option ℕ) × Parses E cs 0 0 o
-  halted-parses n {x} reached halted = go (parses-or-goes t n 0 0 (t .some-rule) (omega arith))
+  -- a run that terminates has parsed
+  terminated-parses : (n : ℕ) {x : Description} → after n M start ≡ some x → Terminated M x → (o : Option ℕ) × Parses E cs 0 0 o
+  terminated-parses n {x} reached terminated = go (parses-or-goes t n 0 0 (t .some-rule) (omega arith))
     where
       go : Known M E cs n 0 0 → (o : Option ℕ) × Parses E cs 0 0 o
       go (inl p) = p
       go (inr g) =
           let (y, e) = g .goes (entry 0 0) [] in
-          let none-then = halted-no-more M n (suc n) start reached halted (le-refl (suc n)) in
+          let none-then = terminated-no-more M n (suc n) start reached terminated (le-refl (suc n)) in
           absurd (not-none (after (suc n) M start) (start-then n ∙ e) none-then)
 
   -- the two verdicts that a result leads to; a run has one only
@@ -161,24 +162,16 @@ module _ {M : Machine} {E : Rules} {m : ℕ} {cs : List ℕ} (t : Table M E m cs
       let z : _≡_ {A = ℕ} 0 1 = cc in
       omega arith
 
-  when-ended : {d : Config} {o : Option ℕ} → Says M Ended d → Parses E cs 0 0 o → ⊥
-  when-ended {d} {o} s p = go (which o (length cs))
+  when-parsed : {v : Verdict} {d : Config} {o : Option ℕ} → Says M v d → Parses E cs 0 0 o → (v ≡ Accepted → ⊥) → (v ≡ Stuck → ⊥) → ⊥
+  when-parsed {v} {d} {o} s p not-accepted not-stuck = go (which o (length cs))
     where
       go : Dec (o ≡ some (length cs)) → ⊥
-      go (yes whole) =
-          let (e, v) = accepts (rw whole at p) in
-          let same : Ended ≡ Accepted = one-verdict M Ended Accepted d e s v .0 in
-          let z : _≡_ {A = ℕ} 0 1 = cc in
-          omega arith
-      go (no other) =
-          let (e, v) = sticks o p other in
-          let same : Ended ≡ Stuck = one-verdict M Ended Stuck d e s v .0 in
-          let z : _≡_ {A = ℕ} 0 1 = cc in
-          omega arith
+      go (yes whole) = let (e, w) = accepts (rw whole at p) in not-accepted (one-verdict M v Accepted d e s w .0)
+      go (no other) = let (e, w) = sticks o p other in not-stuck (one-verdict M v Stuck d e s w .0)
 
   -- a run with a verdict other than looping has parsed
   verdict-parses : {v : Verdict} {d : Config} → Says M v d → (v ≡ Looping → ⊥) → (o : Option ℕ) × Parses E cs 0 0 o
-  verdict-parses s other = let (h, v) = says-halts s other in halted-parses (v .steps) (v .reached) (at-halt v)
+  verdict-parses s other = let (h, v) = says-terminates s other in terminated-parses (v .steps) (v .reached) (at-termination v)
 
   accepted-has : (d : Config) → Says M Accepted d → Parses E cs 0 0 (some (length cs))
   accepted-has d s =
@@ -193,7 +186,12 @@ module _ {M : Machine} {E : Rules} {m : ℕ} {cs : List ℕ} (t : Table M E m cs
   ended-not : (d : Config) → Says M Ended d → ⊥
   ended-not d s =
       let (o, q) = verdict-parses s (λ e. let z : _≡_ {A = ℕ} 0 1 = cc in omega arith) in
-      when-ended s q
+      when-parsed s q (λ e. let z : _≡_ {A = ℕ} 0 1 = cc in omega arith) (λ e. let z : _≡_ {A = ℕ} 0 1 = cc in omega arith)
+
+  halted-not : (d : Config) → Says M Halted d → ⊥
+  halted-not d s =
+      let (o, q) = verdict-parses s (λ e. let z : _≡_ {A = ℕ} 0 1 = cc in omega arith) in
+      when-parsed s q (λ e. let z : _≡_ {A = ℕ} 0 1 = cc in omega arith) (λ e. let z : _≡_ {A = ℕ} 0 1 = cc in omega arith)
 
   pub parses-right : Parses-right M E cs
   parses-right =
@@ -202,7 +200,8 @@ module _ {M : Machine} {E : Rules} {m : ℕ} {cs : List ℕ} (t : Table M E m cs
         parses-accepted = accepts;
         parses-stuck = sticks;
         stuck-parses = stuck-has;
-        parses-halts = halts;
+        parses-terminates = terminates;
         no-parse-goes-on = goes-on;
         never-ended = ended-not;
+        never-halted = halted-not;
       }

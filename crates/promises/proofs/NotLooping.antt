@@ -11,7 +11,7 @@ use lib.Seq.{getD-drop}
 use Rattle.codec.specs.Bytes.{Bytes}
 use Rattle.machine.specs.declared.Config.{Config}
 use Rattle.machine.specs.declared.Verdict.{Verdict}
-use Rattle.machine.specs.declared.Verdict.the-variants.{Accepted, Ended, Stuck, Looping}
+use Rattle.machine.specs.declared.Verdict.the-variants.{Accepted, Ended, Stuck, Looping, Halted}
 use Rattle.machine.specs.Replies.{verdict-number}
 use Rattle.simulator.specs.declared.Judged.{Judged}
 use Rattle.simulator.specs.declared.Judged.the-variants.{Refused, Answer}
@@ -64,7 +64,7 @@ pub judged-not-looping :
     (gs cs a a-now b b-now : List ℕ) (v : Verdict) (n : ℕ) (d : Config) → recursion-refusal gs .number ≡ 0 → Bytes cs →
     Judge-says (built gs) cs (Answer (judgement v n d)) a a-now b b-now → v ≡ Looping → ⊥
 judged-not-looping gs cs a a-now b b-now v n d none bytes says is =
-    never-looping gs cs none bytes .halts (looping-exact (built gs) cs a a-now b b-now v n d bytes says .0 is)
+    never-looping gs cs none bytes .terminates (looping-exact (built gs) cs a a-now b b-now v n d bytes says .0 is)
 
 -- parts of bytes are bytes
 bytes-drop : (o : ℕ) (xs : List ℕ) → Bytes xs → Bytes (drop o xs)
@@ -101,6 +101,7 @@ module _ (gs xs : List ℕ) (none : recursion-refusal gs .number ≡ 0) (bytes :
       other Ended h = refl
       other Stuck h = refl
       other Looping h = absurd (h refl)
+      other Halted h = refl
 
   sum-none : (i : ℕ) (rs : List Judged) (a a-now b b-now : List ℕ) → In-order (built gs) xs i rs a a-now b b-now → sum (gives Looping) rs ≡ 0
   unfolding sum

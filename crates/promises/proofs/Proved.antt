@@ -99,7 +99,7 @@ promises =
       built-good = built-good;
       built-accepts = λ gs cs good bytes. let b = built-parses gs cs good bytes in (λ (d, s). b .accepted-parses d s, b .parses-accepted);
       built-loops = loops-exact;
-      built-goes-on = λ gs cs good bytes. let b = built-parses gs cs good bytes in (λ on o p. b .parses-halts o p on, b .no-parse-goes-on);
+      built-goes-on = λ gs cs good bytes. let b = built-parses gs cs good bytes in (λ on o p. b .parses-terminates o p on, b .no-parse-goes-on);
       built-stuck = λ gs cs good bytes. let b = built-parses gs cs good bytes in (λ (d, s). b .stuck-parses d s, λ (o, p, other). b .parses-stuck o p other);
       built-not-ended = λ gs cs good bytes. built-parses gs cs good bytes .never-ended;
       inverted-fails = inverted-fails;

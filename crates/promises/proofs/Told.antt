@@ -8,7 +8,7 @@ use lib.ListN.{length, getD, drop}
 use lib.Seq.{getD-take, getD-drop}
 use Rattle.machine.specs.declared.Config.{Config}
 use Rattle.machine.specs.declared.Verdict.{Verdict}
-use Rattle.machine.specs.declared.Verdict.the-variants.{Accepted, Ended, Stuck, Looping}
+use Rattle.machine.specs.declared.Verdict.the-variants.{Accepted, Ended, Stuck, Looping, Halted}
 use Rattle.machine.specs.Run.{Machine, start}
 use Rattle.image.specs.Image.{machine}
 use Rattle.machine.specs.Verdicts.{Says}
@@ -96,6 +96,7 @@ only-accepted Accepted e = refl
 only-accepted Ended e = absurd (omega arith)
 only-accepted Stuck e = absurd (omega arith)
 only-accepted Looping e = absurd (omega arith)
+only-accepted Halted e = absurd (omega arith)
 
 accepted-by :
     (bs cs notes notes-now work work-now : List ℕ) (r : Judged) → Judge-says bs cs r notes notes-now work work-now →

@@ -27,7 +27,7 @@ use Rattle.bundle.specs.Calls.{In-order, Bundle-says}
 use Rattle.bundle.specs.Alone.{Alone, written-over}
 use Rattle.bundle.specs.Replies.{of-report, totals-cells, totals-left}
 use Rattle.worked_examples.specs.Examples.{Each}
-use Rattle.worked_examples.specs.BundleExamples.{good-bundle, Refused-so, bundle-table, four-lines}
+use Rattle.worked_examples.specs.BundleExamples.{good-bundle, Refused-so, bundle-table, five-lines}
 use Rattle.sejimakpu.specs.Calls.{Judge-bundle-tells}
 
 -- A WRONG BUNDLE IS REFUSED by 18: a wrong count, or too short for count and pairs, at place 0, else the first wrong pair at its place; 0 at 0 exactly if all that the request asks holds
@@ -113,7 +113,7 @@ Totals-sum =
 abbrev pub Totals-whole : Type 0
 Totals-whole =
     (bs xs : List ℕ) (n : ℕ) (t : Totals) (l m a x b y : List ℕ) → Bundle-says bs xs (Lines n t) l m a x b y →
-    (n ≡ count xs) × (t .accepted + t .ended + t .stuck + t .looping + t .refused ≡ count xs)
+    (n ≡ count xs) × (t .accepted + t .ended + t .stuck + t .looping + t .halted + t .refused ≡ count xs)
 
 -- THE LIBRARY FOR C: where the call is not refused, who tests a line's verdict for 1, accepted, and nothing else, is never wrong
 abbrev pub Line-accepted : Type 0
@@ -133,7 +133,7 @@ Capture-example = capture good-bundle 1 ≡ 98 ∷ 99 ∷ []
 
 -- a sum of readings past 32 bits
 abbrev pub Totals-example : Type 0
-Totals-example = totals four-lines ≡ record { accepted = 2; ended = 0; stuck = 1; looping = 0; refused = 1; readings = 8589934593 }
+Totals-example = totals five-lines ≡ record { accepted = 2; ended = 0; stuck = 1; looping = 0; halted = 1; refused = 1; readings = 8589934595 }
 
 -- notes after a capture that writes three, a refused one, and one that writes one
 abbrev pub Cells-example : Type 0

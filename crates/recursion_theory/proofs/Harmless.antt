@@ -1,4 +1,4 @@
--- Two grammars that 19 refuses, though their machines halt on every capture. Assumes nothing.
+-- Two grammars that 19 refuses, though their machines terminate on every capture. Assumes nothing.
 use mathlib.Core.Path.{_≡_, refl, ap, _∙_}
 use mathlib.Core.List.{List}
 use mathlib.Core.Option.{none, some}
@@ -31,8 +31,8 @@ fails-first-recursive = last (second-part (first-rules .2) (a-not (first-rules .
 pub fails-first-fails : (cs : List ℕ) (i : ℕ) → Parses (expression fails-first) cs 0 i none
 fails-first-fails cs i = sequence-fails (first-rules .2) (not-fails (first-rules .3) (empty (first-rules .4)))
 
-pub fails-first-halts : (cs : List ℕ) → Bytes cs → Goes-on (machine (built fails-first) cs) → ⊥
-fails-first-halts cs bytes = built-parses fails-first cs (first-rules .0) bytes .parses-halts none (fails-first-fails cs 0)
+pub fails-first-terminates : (cs : List ℕ) → Bytes cs → Goes-on (machine (built fails-first) cs) → ⊥
+fails-first-terminates cs bytes = built-parses fails-first cs (first-rules .0) bytes .parses-terminates none (fails-first-fails cs 0)
 
 -- THE SECOND
 second-rules :
@@ -48,8 +48,8 @@ never-reached-recursive = last (first-part (second-rules .3))
 pub never-reached-matches : (cs : List ℕ) (i : ℕ) → Parses (expression never-reached) cs 0 i (some i)
 never-reached-matches cs i = empty (second-rules .2)
 
-pub never-reached-halts : (cs : List ℕ) → Bytes cs → Goes-on (machine (built never-reached) cs) → ⊥
-never-reached-halts cs bytes = built-parses never-reached cs (second-rules .0) bytes .parses-halts (some 0) (never-reached-matches cs 0)
+pub never-reached-terminates : (cs : List ℕ) → Bytes cs → Goes-on (machine (built never-reached) cs) → ⊥
+never-reached-terminates cs bytes = built-parses never-reached cs (second-rules .0) bytes .parses-terminates (some 0) (never-reached-matches cs 0)
 
 -- BOTH are refused. An empty rule leads nowhere, so rule 1 of the second is the lowest that leads back to itself
 clash : _≡_ {A = ℕ} 0 1 → ⊥
@@ -72,7 +72,7 @@ fails-first-harmless =
       refused =
           recursive {k = 0} (grammar-right fails-first (first-rules .0))
           (record { below = omega (arith, first-rules .1); leads-back = fails-first-recursive; before = λ j h x. absurd (omega arith) });
-      halts = fails-first-halts;
+      terminates = fails-first-terminates;
     }
 
 pub never-reached-harmless : Harmless never-reached 1
@@ -81,7 +81,7 @@ never-reached-harmless =
       refused =
           recursive {k = 1} (grammar-right never-reached (second-rules .0))
           (record { below = omega (arith, second-rules .1); leads-back = never-reached-recursive; before = before });
-      halts = never-reached-halts;
+      terminates = never-reached-terminates;
     }
   where
     before : (j : ℕ) → j < 1 → Left-recursive never-reached j → ⊥

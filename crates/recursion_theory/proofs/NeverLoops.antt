@@ -1,4 +1,4 @@
--- The machine of a grammar without left recursion never loops: rule 0 has a result, and so the run halts, on every capture. Assumes nothing.
+-- The machine of a grammar without left recursion never loops: rule 0 has a result, and so the run terminates, on every capture. Assumes nothing.
 use mathlib.Core.Path.{_≡_}
 use mathlib.Core.Bool.{Bool, true}
 use mathlib.Core.List.{List}
@@ -7,7 +7,7 @@ use mathlib.Core.Option.{Option}
 use Prim.Native.Nat.{ℕ, _<_}
 use Rattle.codec.specs.Bytes.{Bytes}
 use Rattle.machine.specs.Verdicts.{Goes-on}
-use Rattle.machine.proofs.Halts.{says-looping}
+use Rattle.machine.proofs.Terminates.{says-looping}
 use Rattle.image.specs.Image.{machine}
 use Rattle.grammar.specs.Grammar.{rules, expression, grammar-refusal}
 use Rattle.grammar.specs.Parsing.{Parses}
@@ -23,10 +23,10 @@ pub never-loops :
     (gs cs : List ℕ) → grammar-refusal gs .number ≡ 0 → Bytes cs →
     (R : ℕ → ℕ → Bool) → ((k l : ℕ) → k < rules gs → l < rules gs → (R k l ≡ true) ↔ Leads-on (expression gs) k l) →
     ((k : ℕ) → k < rules gs → Left-recursive gs k → ⊥) → Never-loops gs cs
-never-loops gs cs good bytes R exact none-back = record { results = all; halts = halts; not-looping = λ d s. halts (says-looping s .0) }
+never-loops gs cs good bytes R exact none-back = record { results = all; terminates = terminates; not-looping = λ d s. terminates (says-looping s .0) }
   where
     all : (k i : ℕ) → k < rules gs → (o : Option ℕ) × Parses (expression gs) cs k i o
     all = results (expression gs) (rules gs) (good-grammar gs good .parts) R exact none-back cs
 
-    halts : Goes-on (machine (built gs) cs) → ⊥
-    halts = let (o, p) = all 0 0 (good-grammar gs good .rules-least) in built-parses gs cs good bytes .parses-halts o p
+    terminates : Goes-on (machine (built gs) cs) → ⊥
+    terminates = let (o, p) = all 0 0 (good-grammar gs good .rules-least) in built-parses gs cs good bytes .parses-terminates o p

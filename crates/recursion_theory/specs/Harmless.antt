@@ -1,4 +1,4 @@
--- Left recursion that does no harm: two grammars that 19 refuses, though their machines halt on every capture. So not every grammar that loops nowhere passes. Assumes nothing: these are definitions.
+-- Left recursion that does no harm: two grammars that 19 refuses, though their machines terminate on every capture. So not every grammar that loops nowhere passes. Assumes nothing: these are definitions.
 use mathlib.Core.List.{List, [], _∷_}
 use Prim.Native.Nat.{ℕ}
 use Rattle.codec.specs.Bytes.{Bytes}
@@ -15,7 +15,7 @@ fails-first = 1 ∷ 1 ∷ 0 ∷ 0 ∷ 3 ∷ 2 ∷ 0 ∷ 0 ∷ 4 ∷ 0 ∷ 0 ∷ 
 unfoldable pub never-reached : List ℕ
 never-reached = 4 ∷ 0 ∷ 0 ∷ 0 ∷ 1 ∷ 1 ∷ 1 ∷ 0 ∷ []
 
--- REFUSED, AND YET the machine halts on every capture
+-- REFUSED, AND YET the machine terminates on every capture
 pub record Harmless (gs : List ℕ) (k : ℕ) : Type 0 where
   pub refused : Recursion-row gs 19 k
-  pub halts : (cs : List ℕ) → Bytes cs → Goes-on (machine (built gs) cs) → ⊥
+  pub terminates : (cs : List ℕ) → Bytes cs → Goes-on (machine (built gs) cs) → ⊥

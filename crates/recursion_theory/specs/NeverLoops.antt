@@ -10,8 +10,8 @@ use Rattle.grammar.specs.Grammar.{rules, expression}
 use Rattle.grammar.specs.Parsing.{Parses}
 use Rattle.builder.specs.Image.{built}
 
--- A GRAMMAR THAT PASSES: every rule has a result at every place, the run of its machine halts, and no verdict on it is looping
+-- A GRAMMAR THAT PASSES: every rule has a result at every place, the run of its machine terminates, and no verdict on it is looping
 pub record Never-loops (gs cs : List ℕ) : Type 0 where
   pub results : (k i : ℕ) → k < rules gs → (o : Option ℕ) × Parses (expression gs) cs k i o
-  pub halts : Goes-on (machine (built gs) cs) → ⊥
+  pub terminates : Goes-on (machine (built gs) cs) → ⊥
   pub not-looping : (d : Config) → Says (machine (built gs) cs) Looping d → ⊥

@@ -5,11 +5,11 @@ use interpreter::Exit;
 use interpreter::Ran;
 use machine::Config;
 use machine::Reply;
-use machine::halting::halt_verdict;
 use machine::replies::answer_reply;
 use machine::replies::count_reply;
 use machine::replies::refusal_reply;
 use machine::replies::verdict_number;
+use machine::terminating::termination_verdict;
 use reader::ReadGrammar;
 use recursion::check::LEFT_RECURSION;
 use refusal::Checked;
@@ -22,12 +22,12 @@ ghost use Rattle.builder.specs.Replies.{of-built};
 ghost use Rattle.typed.specs.Replies.{of-read, of-text-recursion};
 ghost use Rattle.sejimakpu.specs.Cells.{Reply-written};
 
-// An exit's number: the verdict's where the run halts, and two more.
+// An exit's number: the verdict's where the run terminates, and two more.
 fn exit_number(exit: Exit) -> u32
     ensures { λ r. ⌜ r ≡ number-of-exit exit ⌝ }
 {
     match exit {
-        Exit::Halted(halt) => verdict_number(halt_verdict(halt)),
+        Exit::Terminated(termination) => verdict_number(termination_verdict(termination)),
         Exit::Spent => 5,
         Exit::Deep => 6,
     }
@@ -117,7 +117,7 @@ pub fn write_totals(cells: &mut [u64; 10], report: Report)
             t.looping,
             0,
             0,
-            0,
+            t.halted,
             t.refused,
             t.readings,
         ];

@@ -24,8 +24,8 @@ use Rattle.image.proofs.Inside.{inside}
 use Rattle.machine.proofs.Reach.{entered-there}
 use Rattle.machine.proofs.RightNotes.{never-only}
 use Rattle.machine.proofs.NotesOfRun.{note-tells}
-use Rattle.machine.proofs.Halts.{says-looping}
-use Rattle.machine.proofs.Halts.{says-looping}
+use Rattle.machine.proofs.Terminates.{says-looping}
+use Rattle.machine.proofs.Terminates.{says-looping}
 use Rattle.machine.proofs.OneVerdict.{one-verdict, goes-on-loops}
 use Rattle.machine.proofs.Listing.{all-entered, one-count}
 use Rattle.simulator.specs.declared.Judgement.{Judgement}

@@ -9,7 +9,7 @@ use lib.ListN.{length, length-append}
 use Rattle.machine.specs.declared.Config.{Config}
 use Rattle.refusal.specs.declared.Refusal.{Refusal}
 use Rattle.machine.specs.declared.Verdict.{Verdict}
-use Rattle.machine.specs.declared.Verdict.the-variants.{Accepted, Ended, Stuck, Looping}
+use Rattle.machine.specs.declared.Verdict.the-variants.{Accepted, Ended, Stuck, Looping, Halted}
 use Rattle.text.specs.Line.{line-feed, digits, decimal, field, config-fields, verdict-word, refused-word, refusal-line, recursion-line, passes-line, answer-line, max-line}
 use Rattle.text.proofs.Decimal.{decimal-long}
 
@@ -40,6 +40,7 @@ word-long Accepted = record { most = omega arith }
 word-long Ended = record { most = omega arith }
 word-long Stuck = record { most = omega arith }
 word-long Looping = record { most = omega arith }
+word-long Halted = record { most = omega arith }
 
 refused-long : Long refused-word 7
 unfolding refused-word

@@ -8,7 +8,7 @@ use lib.ListN.{length}
 use Rattle.machine.specs.declared.Config.{Config}
 use Rattle.refusal.specs.declared.Refusal.{Refusal}
 use Rattle.machine.specs.declared.Verdict.{Verdict}
-use Rattle.machine.specs.declared.Verdict.the-variants.{Accepted, Ended, Stuck, Looping}
+use Rattle.machine.specs.declared.Verdict.the-variants.{Accepted, Ended, Stuck, Looping, Halted}
 
 -- ASCII: the digit of a number below 10, the space, the line feed
 abbrev pub digit : ℕ → ℕ
@@ -28,12 +28,13 @@ digits (suc k) v = cond (ltb v 10) [] (digits k (v / 10)) ++ (digit (v % 10) ∷
 unfoldable pub decimal : ℕ → List ℕ
 decimal n = digits (suc n) n
 
--- accepted, ended, stuck, looping
+-- accepted, ended, stuck, looping, halted
 unfoldable pub verdict-word : Verdict → List ℕ
 verdict-word Accepted = 97 ∷ 99 ∷ 99 ∷ 101 ∷ 112 ∷ 116 ∷ 101 ∷ 100 ∷ []
 verdict-word Ended = 101 ∷ 110 ∷ 100 ∷ 101 ∷ 100 ∷ []
 verdict-word Stuck = 115 ∷ 116 ∷ 117 ∷ 99 ∷ 107 ∷ []
 verdict-word Looping = 108 ∷ 111 ∷ 111 ∷ 112 ∷ 105 ∷ 110 ∷ 103 ∷ []
+verdict-word Halted = 104 ∷ 97 ∷ 108 ∷ 116 ∷ 101 ∷ 100 ∷ []
 
 -- refused
 unfoldable pub refused-word : List ℕ

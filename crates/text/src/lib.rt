@@ -67,6 +67,7 @@ fn put_verdict(out: &mut [u8], at: usize, verdict: Verdict) -> usize
         Verdict::Ended => put_word(out, at, b"ended"),
         Verdict::Stuck => put_word(out, at, b"stuck"),
         Verdict::Looping => put_word(out, at, b"looping"),
+        Verdict::Halted => put_word(out, at, b"halted"),
     }
 }
 

@@ -8,7 +8,7 @@ use lib.ListN.{length}
 use Rattle.codec.specs.Bytes.{Bytes}
 use Rattle.machine.specs.declared.Config.{Config}
 use Rattle.machine.specs.declared.Verdict.{Verdict}
-use Rattle.machine.specs.declared.Verdict.the-variants.{Accepted, Ended, Stuck, Looping}
+use Rattle.machine.specs.declared.Verdict.the-variants.{Accepted, Ended, Stuck, Looping, Halted}
 use Rattle.machine.specs.Verdicts.{Says}
 use Rattle.image.specs.Format
 use Rattle.image.specs.Image.{machine}
@@ -48,12 +48,14 @@ module _ {d : Definition} {ds : List Definition} {gs : List ℕ} (t : Typed-righ
   typed-as Ended p = p
   typed-as Stuck (o, p, other) = (o, means p, other)
   typed-as Looping p = λ o m. p o (parses m)
+  typed-as Halted p = p
 
   parsed-as : (v : Verdict) → As-typed d ds cs v → As-parsed gs cs v
   parsed-as Accepted m = parses m
   parsed-as Ended m = m
   parsed-as Stuck (o, m, other) = (o, parses m, other)
   parsed-as Looping m = λ o p. m o (means p)
+  parsed-as Halted m = m
 
 -- THE MACHINE OF A LEGAL TEXT, judged whole
 module _

@@ -7,7 +7,7 @@ use lib.ListN.{length}
 use Rattle.codec.specs.Bytes.{Bytes}
 use Rattle.machine.specs.declared.Config.{Config}
 use Rattle.machine.specs.declared.Verdict.{Verdict}
-use Rattle.machine.specs.declared.Verdict.the-variants.{Accepted, Ended, Stuck, Looping}
+use Rattle.machine.specs.declared.Verdict.the-variants.{Accepted, Ended, Stuck, Looping, Halted}
 use Rattle.machine.specs.Run.{how-many}
 use Rattle.image.specs.Format
 use Rattle.image.specs.Image.{machine}
@@ -35,6 +35,7 @@ As-typed d ds cs Accepted = Means (d ∷ ds) cs (d .body) 0 (some (length cs))
 As-typed d ds cs Ended = ⊥
 As-typed d ds cs Stuck = (o : Option ℕ) × Means (d ∷ ds) cs (d .body) 0 o × (o ≡ some (length cs) → ⊥)
 As-typed d ds cs Looping = (o : Option ℕ) → Means (d ∷ ds) cs (d .body) 0 o → ⊥
+As-typed d ds cs Halted = ⊥
 
 -- an answer, the verdict as the typed grammar says and no other, and few readings
 pub record Typed-gets (text cs : List ℕ) (r : Judged) : Type 0 where

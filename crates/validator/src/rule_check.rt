@@ -3,6 +3,7 @@ use image::counting;
 use image::format::CLASSES_OFFSET;
 use image::format::DIRECTION_LEFT;
 use image::format::DIRECTION_RIGHT;
+use image::format::KIND_HALT;
 use image::format::KIND_NONE;
 use image::format::KIND_POP;
 use image::format::POP_RETURN;
@@ -18,10 +19,20 @@ ghost use lib.Dec.{eqb, ltb};
 ghost use lib.ListN.{length};
 ghost use Rattle.image.specs.Format.{map-offset, pop-return};
 ghost use Rattle.image.specs.Image.{rule-from};
-ghost use Rattle.image.specs.Refusals.{move-off, rule-bad, rules-refusal-from, rule-count};
+ghost use Rattle.image.specs.Refusals.{move-off, stops, rule-bad, rules-refusal-from, rule-count};
 ghost use Rattle.validator.specs.code.Checking.{Rule-inside, Length-checked};
 
-// Whether a rule of no kind says anything.
+// Whether a rule of this kind stops a run.
+fn stops_run(kind: u8) -> bool
+    ensures { λ r. ⌜ r ≡ stops kind ⌝ }
+{
+    if kind == KIND_NONE {
+        return true;
+    }
+    kind == KIND_HALT
+}
+
+// Whether a rule that stops a run has another byte.
 fn says_more(state: u8, symbol: u8, direction: u8) -> bool
     ensures { λ r. ⌜ r ≡ not (eqb state 0 && (eqb symbol 0 && eqb direction 0)) ⌝ }
 {
@@ -69,10 +80,10 @@ fn rule_bad(image: &[u8], at: usize, class: u32) -> bool
     let state = image[at + 1];
     let symbol = image[at + 2];
     let direction = image[at + 3];
-    if KIND_POP < kind {
+    if KIND_HALT < kind {
         return true;
     }
-    if kind == KIND_NONE {
+    if stops_run(kind) {
         return says_more(state, symbol, direction);
     }
     let states = image[STATES_OFFSET];

@@ -7,7 +7,7 @@ use Rattle.bundle.specs.Format.{count, pair-place, offset, long, end, capture, 
 use Rattle.bundle.specs.Report.{sum, gives, is-refused, line-readings, totals}
 use Rattle.bundle.specs.Alone.{written-over}
 use Rattle.worked_examples.specs.Examples.{Each, nil, cons}
-use Rattle.worked_examples.specs.BundleExamples.{two-in-abc, good-bundle, Refused-so, bundle-table, four-lines}
+use Rattle.worked_examples.specs.BundleExamples.{two-in-abc, good-bundle, Refused-so, bundle-table, five-lines}
 
 pub bundle-examples : Each Refused-so bundle-table
 unfolding Refused-so bundle-table two-in-abc number-at little-endian pair-bytes
@@ -19,8 +19,8 @@ unfolding two-in-abc number-at little-endian pair-bytes pair-place offset long c
 capture-example = refl
 
 pub totals-example :
-    totals four-lines ≡ record { accepted = 2; ended = 0; stuck = 1; looping = 0; refused = 1; readings = 8589934593 }
-unfolding four-lines totals sum gives is-refused line-readings verdict-number
+    totals five-lines ≡ record { accepted = 2; ended = 0; stuck = 1; looping = 0; halted = 1; refused = 1; readings = 8589934595 }
+unfolding five-lines totals sum gives is-refused line-readings verdict-number
 totals-example = refl
 
 pub cells-example : written-over ((5 ∷ 6 ∷ 7 ∷ []) ∷ [] ∷ (8 ∷ []) ∷ []) (1 ∷ 2 ∷ 3 ∷ 4 ∷ []) ≡ 8 ∷ 6 ∷ 7 ∷ 4 ∷ []

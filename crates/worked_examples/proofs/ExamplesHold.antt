@@ -2,7 +2,7 @@
 use mathlib.Core.Path.{_≡_, refl, ap}
 use mathlib.Core.List.{List, [], _∷_, map}
 use lib.ListN.{length, getD, drop}
-use Rattle.machine.specs.Halting.{stop-verdict, halt-verdict, accepts-by}
+use Rattle.machine.specs.Terminating.{stop-verdict, termination-verdict, accepts-by}
 use Rattle.machine.specs.Run.{start, step, step-on, step-by, config-of, top, how-many, number-by, config-by}
 use Rattle.codec.specs.Numbers.{number-at, little-endian, pair-bytes}
 use Rattle.image.specs.Image.{machine, states, classes, symbols, rule-offset, rule-from, rule-at, class-under, moved, action-by, action, accepting, sizes-of}
@@ -37,7 +37,7 @@ unfolding table plain-table found said found-by ran-found ran-said chain-last en
     machine number-at little-endian pair-bytes header rule-bytes rules-bytes encode states classes symbols rule-offset rule-from rule-at class-under moved action-by action accepting
     or-else refuse-if pair-is directory counts count-wrong map-from move-off rule-bad index-class rules-refusal-from rule-count image-refusal
     judge-step step-by-mode look unwind unwound clear cleared closed first-look resumed cell-note reached started chain start-state verdict-of registers-at
-    run-on run-step spent-or exit-verdict stop-verdict halt-verdict accepts-by
+    run-on run-step spent-or exit-verdict stop-verdict termination-verdict accepts-by
     Grammar.rules Grammar.kind-of Grammar.b-of Grammar.c-of Grammar.expression-by Grammar.expression Grammar.range-of Grammar.rule-right Grammar.grammar-rules-from Grammar.grammar-refusal
     cuts-at cut-from cut class-of class-count class-in
     rows by-state select row-zero class-inside rows-at made

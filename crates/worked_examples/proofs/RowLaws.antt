@@ -11,18 +11,18 @@ use borrow.Author.Tests.{ltb-true, leb-true}
 use Rattle.machine.specs.declared.Config.{Config}
 use Rattle.machine.specs.declared.Verdict.{Verdict}
 use Rattle.machine.specs.declared.Verdict.the-variants.{Looping}
-use Rattle.machine.specs.declared.Halt.{Halt}
+use Rattle.machine.specs.declared.Termination.{Termination}
 use Rattle.image.specs.Format
-use Rattle.machine.specs.Halting.{halt-verdict}
+use Rattle.machine.specs.Terminating.{termination-verdict}
 use Rattle.machine.specs.Run.{Machine, start}
 use Rattle.codec.specs.Bytes.{byte}
 use Rattle.image.specs.Image.{machine}
 use Rattle.image.specs.Refusals.{Unrefused, image-refusal}
 use Rattle.machine.specs.Verdicts.{Says, All-entered}
 use Rattle.machine.proofs.Runs.{some-same}
-use Rattle.machine.proofs.Halts.{says-looping}
+use Rattle.machine.proofs.Terminates.{says-looping}
 use Rattle.interpreter.specs.declared.Exit.{Exit}
-use Rattle.interpreter.specs.declared.Exit.the-variants.{Halted, Spent, Deep}
+use Rattle.interpreter.specs.declared.Exit.the-variants.{Terminated, Spent, Deep}
 use Rattle.interpreter.specs.PlainRun.{Run-end, run-end, run-on, True-end}
 use Rattle.interpreter.proofs.TrueEnd.{plain-run-true}
 use Rattle.chain.specs.declared.Registers.{Registers}
@@ -48,7 +48,7 @@ bytes-below [] e i = omega arith
 bytes-below (b ∷ bs) e zero = ltb-true b 256 (and-true (ltb b 256) (all-bytes bs) e .0)
 bytes-below (b ∷ bs) e (suc i) = bytes-below bs (and-true (ltb b 256) (all-bytes bs) e .1) i
 
--- the verdict, steps and end of a plain run that halts
+-- the verdict, steps and end of a plain run that terminates
 pub record Ran-as : Type 0 where
   pub verdict : Option Verdict
   pub steps : ℕ
@@ -58,7 +58,7 @@ abbrev pub ran-as : Option Verdict → (steps : ℕ) → Config → Ran-as
 ran-as v n d = record { verdict = v; steps = n; end = d }
 
 unfoldable pub exit-verdict : Exit → Option Verdict
-exit-verdict (Halted h) = some (halt-verdict h)
+exit-verdict (Terminated h) = some (termination-verdict h)
 exit-verdict Spent = none
 exit-verdict Deep = none
 
@@ -123,11 +123,11 @@ said r =
     }
 
 -- THE LAW, by parts
-exit-halts : (e : Exit) (v : Verdict) → exit-verdict e ≡ some v → (h : Halt) × (e ≡ Halted h) × (v ≡ halt-verdict h)
+exit-terminates : (e : Exit) (v : Verdict) → exit-verdict e ≡ some v → (h : Termination) × (e ≡ Terminated h) × (v ≡ termination-verdict h)
 unfolding exit-verdict
-exit-halts (Halted h) v e = (h, refl, cc)
-exit-halts Spent v e = absurd (let z : _≡_ {A = ℕ} 0 1 = cc in omega arith)
-exit-halts Deep v e = absurd (let z : _≡_ {A = ℕ} 0 1 = cc in omega arith)
+exit-terminates (Terminated h) v e = (h, refl, cc)
+exit-terminates Spent v e = absurd (let z : _≡_ {A = ℕ} 0 1 = cc in omega arith)
+exit-terminates Deep v e = absurd (let z : _≡_ {A = ℕ} 0 1 = cc in omega arith)
 
 end-same : (e : Run-end) {x : Exit} {n : ℕ} {d : Config} → e .exit ≡ x → e .steps ≡ n → e .reached ≡ d → e ≡ run-end x n d
 end-same e p q r = rw (← p, ← q, ← r) refl
@@ -136,12 +136,12 @@ run-ends : (M : Machine) (v : Verdict) (n : ℕ) (d : Config) → ran-of (run-on
 unfolding enough
 run-ends M v n d e =
     let ran : Run-end = run-on enough M 0 enough start in
-    let (h, exits, verdicts) = exit-halts (ran .exit) v (ap (λ (x : Ran-as). x .verdict) e) in
-    let same : ran ≡ run-end (Halted h) n d = end-same ran exits (ap (λ (x : Ran-as). x .steps) e) (ap (λ (x : Ran-as). x .end) e) in
+    let (h, exits, verdicts) = exit-terminates (ran .exit) v (ap (λ (x : Ran-as). x .verdict) e) in
+    let same : ran ≡ run-end (Terminated h) n d = end-same ran exits (ap (λ (x : Ran-as). x .steps) e) (ap (λ (x : Ran-as). x .end) e) in
     record {
       budget = enough;
       cells = enough;
-      halt = h;
+      termination = h;
       verdict-is = verdicts;
       ran = same;
       true-end = subst (True-end M enough enough) same (plain-run-true M enough enough (omega arith));

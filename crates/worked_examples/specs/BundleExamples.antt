@@ -1,4 +1,4 @@
--- Bundles with their refusals, as a table, and four lines of a report: what the definitions compute is promised of them. Assumes nothing: these are definitions.
+-- Bundles with their refusals, as a table, and five lines of a report: what the definitions compute is promised of them. Assumes nothing: these are definitions.
 use mathlib.Core.Path.{_≡_}
 use mathlib.Core.List.{List, [], _∷_, _++_}
 use Prim.Native.Nat.{ℕ}
@@ -6,7 +6,7 @@ use lib.ListN.{take}
 use Rattle.codec.specs.Numbers.{little-endian, pair, pair-bytes}
 use Rattle.refusal.specs.declared.Refusal.{Refusal}
 use Rattle.refusal.specs.First.{refusal, no-refusal}
-use Rattle.machine.specs.declared.Verdict.the-variants.{Accepted, Stuck}
+use Rattle.machine.specs.declared.Verdict.the-variants.{Accepted, Stuck, Halted}
 use Rattle.machine.specs.Run.{config}
 use Rattle.simulator.specs.declared.Judged.{Judged}
 use Rattle.simulator.specs.declared.Judged.the-variants.{Refused, Answer}
@@ -45,9 +45,10 @@ bundle-table =
     ∷ example (two-in-abc 20 1 21 4294967295) (refusal 18 12)
     ∷ []
 
--- two accepted, one stuck, one refused; two of them have as many readings as 32 bits hold
-unfoldable pub four-lines : List Judged
-four-lines =
+-- two accepted, one stuck, one halted, one refused; two of them have as many readings as 32 bits hold
+unfoldable pub five-lines : List Judged
+five-lines =
     Answer (judgement Accepted 3 (config 2 1 0)) ∷ Answer (judgement Stuck 4294967295 (config 3 1 0)) ∷ Refused (refusal 8 30)
     ∷ Answer (judgement Accepted 4294967295 (config 2 2 0))
+    ∷ Answer (judgement Halted 2 (config 0 1 0))
     ∷ []

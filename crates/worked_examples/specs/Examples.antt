@@ -8,16 +8,16 @@ use lib.ListN.{replicate}
 use Rattle.machine.specs.declared.Config.{Config}
 use Rattle.machine.specs.declared.Verdict.{Verdict}
 use Rattle.machine.specs.declared.Verdict.the-variants.{Accepted, Ended, Stuck, Looping}
-use Rattle.machine.specs.declared.Halt.{Halt}
-use Rattle.machine.specs.declared.Halt.the-variants.{Over}
+use Rattle.machine.specs.declared.Termination.{Termination}
+use Rattle.machine.specs.declared.Termination.the-variants.{Over}
 use Rattle.image.specs.Format
-use Rattle.machine.specs.Halting.{halt-verdict}
+use Rattle.machine.specs.Terminating.{termination-verdict}
 use Rattle.machine.specs.Run.{Machine, config, start}
 use Rattle.image.specs.Image.{machine}
 use Rattle.image.specs.Encoding.{Parts, encode}
 use Rattle.image.specs.Refusals.{Unrefused}
 use Rattle.machine.specs.Verdicts.{Says, Goes-on, All-entered}
-use Rattle.interpreter.specs.declared.Exit.the-variants.{Halted, Spent, Deep}
+use Rattle.interpreter.specs.declared.Exit.the-variants.{Terminated, Spent, Deep}
 use Rattle.interpreter.specs.PlainRun.{Run-end, run-end, run-on, True-end}
 use Rattle.grammar.specs.Grammar.{grammar-refusal}
 use Rattle.builder.specs.Table.{rule, no-rule}
@@ -111,10 +111,10 @@ table =
 pub record Takes (M : Machine) (v : Verdict) (steps : ℕ) (end : Config) : Type 0 where
   pub budget : ℕ
   pub cells : ℕ
-  pub halt : Halt
-  pub verdict-is : v ≡ halt-verdict halt
-  pub ran : run-on budget M 0 cells start ≡ run-end (Halted halt) steps end
-  pub true-end : True-end M budget cells (run-end (Halted halt) steps end)
+  pub termination : Termination
+  pub verdict-is : v ≡ termination-verdict termination
+  pub ran : run-on budget M 0 cells start ≡ run-end (Terminated termination) steps end
+  pub true-end : True-end M budget cells (run-end (Terminated termination) steps end)
 
 unfoldable pub Steps-are : Option ℕ → Machine → Verdict → (end : Config) → Type 0
 Steps-are none M v d = Goes-on M
@@ -145,7 +145,7 @@ plain-row b k e = record { budget = b; cells = k; answers = e }
 -- accepted with budget 3 and two cells; budget 2 is spent; with one cell the first push is too deep
 unfoldable pub plain-table : List Plain-row
 plain-table =
-    plain-row 3 2 (run-end (Halted (Over true)) 3 (config 2 1 0))
+    plain-row 3 2 (run-end (Terminated (Over true)) 3 (config 2 1 0))
     ∷ plain-row 2 2 (run-end Spent 2 (config 2 1 0))
     ∷ plain-row 3 1 (run-end Deep 0 (config 0 0 0))
     ∷ []

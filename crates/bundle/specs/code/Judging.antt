@@ -3,7 +3,7 @@ use mathlib.Core.Path.{_≡_}
 use mathlib.Core.List.{List}
 use Prim.Native.Nat.{ℕ, _*_, _+_, _<_, _≤_}
 use lib.ListN.{length}
-use Rattle.machine.specs.declared.Verdict.the-variants.{Accepted, Ended, Stuck, Looping}
+use Rattle.machine.specs.declared.Verdict.the-variants.{Accepted, Ended, Stuck, Looping, Halted}
 use Rattle.image.specs.Refusals.{image-refusal}
 use Rattle.simulator.specs.declared.Judged.{Judged}
 use Rattle.bundle.specs.declared.Totals.{Totals}
@@ -33,6 +33,7 @@ pub record Room-after (lines : ℕ) (t : Totals) : Type 0 where
   pub ended : t .ended ≤ lines
   pub stuck : t .stuck ≤ lines
   pub looping : t .looping ≤ lines
+  pub halted : t .halted ≤ lines
   pub refused : t .refused ≤ lines
   pub readings : t .readings ≤ lines * max-u32
 
@@ -44,6 +45,7 @@ with-line t r =
       ended = t .ended + gives Ended r;
       stuck = t .stuck + gives Stuck r;
       looping = t .looping + gives Looping r;
+      halted = t .halted + gives Halted r;
       refused = t .refused + is-refused r;
       readings = t .readings + line-readings r;
     }

@@ -9,7 +9,7 @@ use Rattle.machine.specs.declared.Config.{Config}
 use Rattle.machine.specs.declared.Action.{Action}
 use Rattle.machine.specs.declared.Action.the-variants.{Stop, Change, Push, Pop}
 use Rattle.image.specs.declared.Sizes.{Sizes}
-use Rattle.machine.specs.declared.Halt.the-variants.{Over, Stopped}
+use Rattle.machine.specs.declared.Termination.the-variants.{Over, Stopped}
 use Rattle.machine.specs.Run.{Machine, Valid-config, Entry, entry, Description, config, returned, start}
 use Rattle.image.specs.Format
 use Rattle.codec.specs.Numbers.{u32-at}
@@ -17,7 +17,7 @@ use Rattle.image.specs.Image.{sizes-of, action, machine}
 use Rattle.machine.specs.Verdicts.{over-base}
 use Rattle.image.specs.Refusals.{Unrefused}
 use Rattle.interpreter.specs.declared.Exit.{Exit}
-use Rattle.interpreter.specs.declared.Exit.the-variants.{Halted, Spent, Deep}
+use Rattle.interpreter.specs.declared.Exit.the-variants.{Terminated, Spent, Deep}
 use Rattle.interpreter.specs.declared.RunState.{RunState}
 use Rattle.interpreter.specs.declared.StepResult.{StepResult}
 use Rattle.interpreter.specs.declared.StepResult.the-variants.{On, Exited}
@@ -55,7 +55,7 @@ push-result s c k =
 -- a pop to state p with the head at i then; v is the cell of the entry below; with none below the run is over
 unfoldable pub popped-to : RunState → (accepting : Bool) → (state head v : ℕ) → StepResult
 popped-to s t p i v =
-    cond (eqb (s .below) 0) (Exited (Halted (Over t)) (s .steps + 1))
+    cond (eqb (s .below) 0) (Exited (Terminated (Over t)) (s .steps + 1))
     (On (run-state (config p i (v % cell-symbols)) (v / cell-symbols) (s .below - 1) (s .steps + 1)))
 
 -- the head after a pop
@@ -66,14 +66,14 @@ unfoldable pub pop-result : (accepting : (state head : ℕ) → Bool) → RunSta
 pop-result f s ks p r = popped-to s (f p (pop-head s r)) p (pop-head s r) (getD ks (s .below - 1) 0)
 
 unfoldable pub take-result : (accepting : (state head : ℕ) → Bool) → RunState → (cells : List ℕ) → Action → StepResult
-take-result f s ks (Stop r) = Exited (Halted (Stopped r)) (s .steps)
+take-result f s ks (Stop r) = Exited (Terminated (Stopped r)) (s .steps)
 take-result f s ks (Change c) = change-result s c
 take-result f s ks (Push c) = push-result s c (length ks)
 take-result f s ks (Pop p r) = pop-result f s ks p r
 
 -- ONE STEP: with the budget spent, a rule that stops the run comes first
 unfoldable pub spent-exit : Action → Exit
-spent-exit (Stop r) = Halted (Stopped r)
+spent-exit (Stop r) = Terminated (Stopped r)
 spent-exit (Change c) = Spent
 spent-exit (Push c) = Spent
 spent-exit (Pop p r) = Spent

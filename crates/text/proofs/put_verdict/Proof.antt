@@ -40,6 +40,15 @@ slice-aggregate-put-word-4 c = search needs
 put-word-requires-4 : tie.Need-put-word-requires-4
 put-word-requires-4 c κs = search needs
 
+enum-told-5 : tie.Need-enum-told-5
+enum-told-5 c = search needs
+
+slice-aggregate-put-word-5 : tie.Need-slice-aggregate-put-word-5
+slice-aggregate-put-word-5 c = search needs
+
+put-word-requires-5 : tie.Need-put-word-requires-5
+put-word-requires-5 c κs = search needs
+
 same-length : tie.Need-same-length
 same-length c = search needs
 
@@ -76,6 +85,15 @@ returns-4 c =
     let at-word = c .before .before in
     rw (at-word .before .before .before .enum-told4 .given .1) (at-word .put-word4 .ensures)
 
+same-length-5 : tie.Need-same-length-5
+same-length-5 c = search needs
+
+returns-5 : tie.Need-returns-5
+unfolding verdict-word
+returns-5 c =
+    let at-word = c .before .before in
+    rw (at-word .before .before .before .enum-told5 .given .1) (at-word .put-word5 .ensures)
+
 pub put-verdict-spec : {M : Type 1} → statement M
 put-verdict-spec =
     tie.close
@@ -92,6 +110,9 @@ put-verdict-spec =
     enum-told-4
     slice-aggregate-put-word-4
     put-word-requires-4
+    enum-told-5
+    slice-aggregate-put-word-5
+    put-word-requires-5
     same-length
     returns
     same-length-2
@@ -99,4 +120,6 @@ put-verdict-spec =
     same-length-3
     returns-3
     same-length-4
-    returns-4)
+    returns-4
+    same-length-5
+    returns-5)

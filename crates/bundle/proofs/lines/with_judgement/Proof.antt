@@ -1,5 +1,5 @@
 -- `bundle::lines::with_judgement` meets its contract. Assumes nothing.
-use Rattle.bundle.proofs.Adding.{accepted-added, ended-added, stuck-added, looping-added}
+use Rattle.bundle.proofs.Adding.{accepted-added, ended-added, stuck-added, looping-added, halted-added}
 use borrow.Author.Needs.{needs}
 use Rattle.bundle.proofs.lines.with_judgement.Statement.{statement}
 use Rattle.bundle.proofs.lines.with_judgement.Tie as tie
@@ -34,6 +34,12 @@ enum-told-4 c = search needs
 add-next-5 : tie.Need-add-next-5
 add-next-5 c = search needs
 
+enum-told-5 : tie.Need-enum-told-5
+enum-told-5 c = search needs
+
+add-next-6 : tie.Need-add-next-6
+add-next-6 c = search needs
+
 returns : tie.Need-returns
 returns c = accepted-added _ _ (c .before .enum-told .given .1)
 
@@ -45,6 +51,9 @@ returns-3 c = stuck-added _ _ (c .before .enum-told3 .given .1)
 
 returns-4 : tie.Need-returns-4
 returns-4 c = looping-added _ _ (c .before .enum-told4 .given .1)
+
+returns-5 : tie.Need-returns-5
+returns-5 c = halted-added _ _ (c .before .enum-told5 .given .1)
 
 pub with-judgement-spec : {M : Type 1} → statement M
 with-judgement-spec =
@@ -60,7 +69,10 @@ with-judgement-spec =
     add-next-4
     enum-told-4
     add-next-5
+    enum-told-5
+    add-next-6
     returns
     returns-2
     returns-3
-    returns-4)
+    returns-4
+    returns-5)

@@ -9,8 +9,8 @@ use Rattle.chain.proofs.resuming.after_pop.Tie as tie
 accepts-requires : tie.Need-accepts-requires
 accepts-requires c κs = search needs
 
-halt-verdict-requires : tie.Need-halt-verdict-requires
-halt-verdict-requires c κs = search needs
+termination-verdict-requires : tie.Need-termination-verdict-requires
+termination-verdict-requires c κs = search needs
 
 registers-of-requires : tie.Need-registers-of-requires
 registers-of-requires c κs = search needs
@@ -18,7 +18,7 @@ registers-of-requires c κs = search needs
 returns : tie.Need-returns
 returns c =
     let back4 = c .before .before .before .before in
-    simp (eq-eqb _ _ (c .before .before .before .if1 .taken), sym (c .before .before .accepts .ensures), sym (c .before .halt-verdict .ensures), sym (back4 .before .before .before .pre .terminator .is)) (c .registers-of .ensures)
+    simp (eq-eqb _ _ (c .before .before .before .if1 .taken), sym (c .before .before .accepts .ensures), sym (c .before .termination-verdict .ensures), sym (back4 .before .before .before .pre .terminator .is)) (c .registers-of .ensures)
 
 sub-j : tie.Need-sub-j
 sub-j c = search needs
@@ -69,7 +69,7 @@ after-pop-spec =
     tie.close
     (tie.spec
     accepts-requires
-    halt-verdict-requires
+    termination-verdict-requires
     registers-of-requires
     returns
     sub-j

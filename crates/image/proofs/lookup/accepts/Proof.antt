@@ -1,7 +1,7 @@
 -- `image::lookup::accepts` meets its contract: the test that is reached second is read only where the first holds. Assumes nothing.
 use borrow.Author.Tests.{eq-eqb, ne-eqb}
 use borrow.Author.Needs.{needs}
-use Rattle.machine.specs.Halting.{accepts-by}
+use Rattle.machine.specs.Terminating.{accepts-by}
 use Rattle.image.proofs.lookup.accepts.Statement.{statement}
 use Rattle.image.proofs.lookup.accepts.Tie as tie
 

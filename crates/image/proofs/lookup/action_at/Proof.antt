@@ -2,7 +2,7 @@
 use mathlib.Core.Path.{ap}
 use borrow.Author.Tests.{eq-eqb, ne-eqb}
 use borrow.Author.Needs.{needs}
-use Rattle.machine.specs.declared.Action.the-variants.{Change, Push}
+use Rattle.machine.specs.declared.Action.the-variants.{Stop, Change, Push}
 use Rattle.image.specs.Image.{rule-from, action-by}
 use Rattle.image.proofs.Lookups.{pop-is}
 use Rattle.image.proofs.lookup.action_at.Statement.{statement}
@@ -51,10 +51,14 @@ returns-3 c =
     let rule = rule-from (start .args .image .now) (start .args .offset) in
     pop-is rule _ _ (at-first .if1 .left) (at-kind .before .if2 .left) (at-kind .if3 .taken) (c .before .wide .ensures)
 
+reason-of-requires : tie.Need-reason-of-requires
+reason-of-requires c κs = search needs
+
 returns-4 : tie.Need-returns-4
 unfolding rule-from action-by
 returns-4 c =
-    simp (ne-eqb _ _ (c .before .before .if1 .left), ne-eqb _ _ (c .before .if2 .left), ne-eqb _ _ (c .if3 .left))
+    simp (ne-eqb _ _ (c .before .before .before .if1 .left), ne-eqb _ _ (c .before .before .if2 .left), ne-eqb _ _ (c .before .if3 .left))
+    (ap Stop (c .reason-of .ensures))
 
 pub action-at-spec : {M : Type 1} → statement M
 action-at-spec =
@@ -71,4 +75,5 @@ action-at-spec =
     add-returns
     shared-slice-read-returns
     returns-3
+    reason-of-requires
     returns-4)

@@ -9,8 +9,8 @@ use Rattle.sejimakpu.proofs.reply.exit_number.Tie as tie
 enum-known-exit : tie.Need-enum-known-exit
 enum-known-exit c = search needs
 
-halt-verdict-requires : tie.Need-halt-verdict-requires
-halt-verdict-requires c κs = search needs
+termination-verdict-requires : tie.Need-termination-verdict-requires
+termination-verdict-requires c κs = search needs
 
 verdict-number-requires : tie.Need-verdict-number-requires
 verdict-number-requires c κs = search needs
@@ -25,7 +25,7 @@ returns : tie.Need-returns
 unfolding exit-number
 returns c =
     let verdict = c .before in
-    rw (verdict .before .before .exit .given .1) (c .verdict-number .ensures ∙ ap verdict-number (verdict .halt-verdict .ensures))
+    rw (verdict .before .before .exit .given .1) (c .verdict-number .ensures ∙ ap verdict-number (verdict .termination-verdict .ensures))
 
 returns-2 : tie.Need-returns-2
 unfolding exit-number
@@ -40,7 +40,7 @@ exit-number-spec =
     tie.close
     (tie.spec
     enum-known-exit
-    halt-verdict-requires
+    termination-verdict-requires
     verdict-number-requires
     enum-told
     enum-told-2

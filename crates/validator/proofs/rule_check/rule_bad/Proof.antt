@@ -1,4 +1,5 @@
 -- `validator::rule_check::rule_bad` meets its contract: each return is the case of the rule's kind. Assumes nothing.
+use mathlib.Core.Path.{sym, _∙_}
 use borrow.Author.Tests.{eq-eqb, ne-eqb, lt-ltb, le-ltb, le-leb, lt-leb}
 use borrow.Author.Needs.{needs}
 use Rattle.image.specs.Refusals.{rule-bad}
@@ -31,13 +32,20 @@ returns : tie.Need-returns
 unfolding rule-bad rule-from
 returns c = simp (lt-ltb _ _ (c .if1 .taken))
 
+stops-run-requires : tie.Need-stops-run-requires
+stops-run-requires c κs = search needs
+
 says-more-requires : tie.Need-says-more-requires
 says-more-requires c κs = search needs
 
 returns-2 : tie.Need-returns-2
 unfolding rule-bad rule-from
 returns-2 c =
-    simp (le-ltb _ _ (c .before .before .if1 .left), eq-eqb _ _ (c .before .if2 .taken)) (c .says-more .ensures)
+    simp (
+      le-ltb _ _ (c .before .before .before .if1 .left),
+      sym (c .before .before .stops-run .ensures) ∙ c .before .if2 .taken,
+    )
+    (c .says-more .ensures)
 
 shared-slice-read-states : tie.Need-shared-slice-read-states
 shared-slice-read-states c = search needs
@@ -46,8 +54,8 @@ returns-3 : tie.Need-returns-3
 unfolding rule-bad rule-from states
 returns-3 c =
     simp (
-      le-ltb _ _ (c .before .before .before .if1 .left),
-      ne-eqb _ _ (c .before .before .if2 .left),
+      le-ltb _ _ (c .before .before .before .before .if1 .left),
+      sym (c .before .before .before .stops-run .ensures) ∙ c .before .before .if2 .left,
       le-leb _ _ (c .if3 .taken),
     )
 
@@ -59,10 +67,10 @@ unfolding rule-bad rule-from states
 returns-4 c =
     let at-if3 = c .before .before in
     let at-if2 = at-if3 .before .before in
-    let at-if1 = at-if2 .before in
+    let at-stops = at-if2 .before in
     simp (
-      le-ltb _ _ (at-if1 .if1 .left),
-      ne-eqb _ _ (at-if2 .if2 .left),
+      le-ltb _ _ (at-stops .before .if1 .left),
+      sym (at-stops .stops-run .ensures) ∙ at-if2 .if2 .left,
       lt-leb _ _ (at-if3 .if3 .left),
       eq-eqb _ _ (c .before .if4 .taken),
     )
@@ -77,10 +85,10 @@ returns-5 c =
     let at-if4 = c .before .before in
     let at-if3 = at-if4 .before in
     let at-if2 = at-if3 .before .before in
-    let at-if1 = at-if2 .before in
+    let at-stops = at-if2 .before in
     simp (
-      le-ltb _ _ (at-if1 .if1 .left),
-      ne-eqb _ _ (at-if2 .if2 .left),
+      le-ltb _ _ (at-stops .before .if1 .left),
+      sym (at-stops .stops-run .ensures) ∙ at-if2 .if2 .left,
       lt-leb _ _ (at-if3 .if3 .left),
       ne-eqb _ _ (at-if4 .if4 .left),
       le-leb _ _ (c .if5 .taken),
@@ -92,10 +100,10 @@ returns-6 c =
     let at-if4 = c .before .before .before in
     let at-if3 = at-if4 .before in
     let at-if2 = at-if3 .before .before in
-    let at-if1 = at-if2 .before in
+    let at-stops = at-if2 .before in
     simp (
-      le-ltb _ _ (at-if1 .if1 .left),
-      ne-eqb _ _ (at-if2 .if2 .left),
+      le-ltb _ _ (at-stops .before .if1 .left),
+      sym (at-stops .stops-run .ensures) ∙ at-if2 .if2 .left,
       lt-leb _ _ (at-if3 .if3 .left),
       ne-eqb _ _ (at-if4 .if4 .left),
       lt-leb _ _ (c .before .if5 .left),
@@ -112,10 +120,10 @@ returns-7 c =
     let at-if4 = at-if5 .before .before in
     let at-if3 = at-if4 .before in
     let at-if2 = at-if3 .before .before in
-    let at-if1 = at-if2 .before in
+    let at-stops = at-if2 .before in
     simp (
-      le-ltb _ _ (at-if1 .if1 .left),
-      ne-eqb _ _ (at-if2 .if2 .left),
+      le-ltb _ _ (at-stops .before .if1 .left),
+      sym (at-stops .stops-run .ensures) ∙ at-if2 .if2 .left,
       lt-leb _ _ (at-if3 .if3 .left),
       ne-eqb _ _ (at-if4 .if4 .left),
       lt-leb _ _ (at-if5 .if5 .left),
@@ -135,6 +143,7 @@ rule-bad-spec =
     add-direction
     shared-slice-read-direction
     returns
+    stops-run-requires
     says-more-requires
     returns-2
     shared-slice-read-states
