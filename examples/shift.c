@@ -139,11 +139,14 @@ static void print_line(const sejimakpu_line *line, const char *name)
     print_name(name);
 }
 
+/* The verdicts that judging gives, in the order of the totals; those of the plain run alone are not among them. */
+static const uint32_t judged[] = {SEJIMAKPU_ACCEPTED, SEJIMAKPU_ENDED, SEJIMAKPU_STUCK, SEJIMAKPU_LOOPING, SEJIMAKPU_HALTED};
+
 static void print_totals(const sejimakpu_totals *totals)
 {
     printf("totals");
-    for (uint32_t verdict = SEJIMAKPU_ACCEPTED; verdict <= SEJIMAKPU_LOOPING; verdict++)
-        printf(" %s %" PRIu64, sejimakpu_verdict_word(verdict), totals->verdicts[verdict]);
+    for (size_t i = 0; i < sizeof judged / sizeof judged[0]; i++)
+        printf(" %s %" PRIu64, sejimakpu_verdict_word(judged[i]), totals->verdicts[judged[i]]);
     printf(" refused %" PRIu64 " readings %" PRIu64 "\n", totals->refusals, totals->readings);
 }
 

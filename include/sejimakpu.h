@@ -24,7 +24,13 @@
 extern "C" {
 #endif
 
-/* Verdicts. Only SEJIMAKPU_ACCEPTED passes a unit. */
+/*
+ * Verdicts. Only SEJIMAKPU_ACCEPTED passes a unit.
+ *
+ * SEJIMAKPU_HALTED came last. A program written before it, which switches over the verdicts or adds up their counts, meets
+ * this number only with an image that has a rule of kind 4. Such an image was refused before; every other is answered as it
+ * was.
+ */
 enum {
     SEJIMAKPU_NO_VERDICT = 0, /* the call was refused, or it is one that gives no verdict */
     SEJIMAKPU_ACCEPTED = 1,   /* the run removed its last entry, in a final state, with the head at the end of the capture */
@@ -44,7 +50,8 @@ enum {
     SEJIMAKPU_IMAGE_COUNTS = 3,      /* a wrong count, byte 27 or the final states: 24 to 28, the first */
     SEJIMAKPU_IMAGE_LENGTH = 4,      /* rules of another length than the counts ask for: 20 */
     SEJIMAKPU_IMAGE_CLASS = 5,       /* a class that is not there: the offset of the first */
-    SEJIMAKPU_IMAGE_RULE = 6,        /* a bad rule: the offset of the first */
+    SEJIMAKPU_IMAGE_RULE = 6,        /* a bad rule, as one of kind 5 and above, or one of kind 0 or 4 with another byte that
+                                        is not 0: the offset of the first */
     SEJIMAKPU_CAPTURE_LONG = 7,      /* a capture of over 65,535 bytes: its length */
     SEJIMAKPU_NOTES_SHORT = 8,       /* fewer notes than configurations: the cells needed */
     SEJIMAKPU_WORK_SHORT = 9,        /* fewer work cells than configurations: the cells needed */
@@ -75,7 +82,7 @@ enum {
 /* A call's answer. Every call writes every field; a field that says nothing is 0. */
 typedef struct sejimakpu_answer {
     uint64_t place;   /* of a refusal */
-    uint64_t verdict; /* SEJIMAKPU_ACCEPTED to SEJIMAKPU_DEEP; SEJIMAKPU_NO_VERDICT where refused */
+    uint64_t verdict; /* SEJIMAKPU_ACCEPTED to SEJIMAKPU_HALTED; SEJIMAKPU_NO_VERDICT where refused */
     uint64_t count;   /* readings of a judging, steps of a plain run, bytes of an image or a grammar, cells needed,
                          captures of a bundle; of refusal 19 of a text the offset of a name */
     uint64_t state;   /* of the end configuration, or of the one reached; and so its head and symbol */
@@ -87,7 +94,7 @@ typedef struct sejimakpu_answer {
 typedef struct sejimakpu_line {
     uint64_t refusal; /* 0 where the capture was judged; else 7, 8 or 9, and all but the place are 0 */
     uint64_t place;   /* of the refusal */
-    uint64_t verdict; /* SEJIMAKPU_ACCEPTED to SEJIMAKPU_LOOPING; SEJIMAKPU_NO_VERDICT where refused */
+    uint64_t verdict; /* SEJIMAKPU_ACCEPTED to SEJIMAKPU_LOOPING, or SEJIMAKPU_HALTED; SEJIMAKPU_NO_VERDICT where refused */
     uint64_t count;   /* readings */
     uint64_t state;   /* of the end configuration; and so its head and symbol */
     uint64_t head;
@@ -96,7 +103,8 @@ typedef struct sejimakpu_line {
 
 /* The last line of that report: the sums over the captures' lines. */
 typedef struct sejimakpu_totals {
-    uint64_t verdicts[8]; /* at a verdict's number: how many lines have it; a refusal is no verdict, so that [0] is 0 */
+    uint64_t verdicts[8]; /* at a verdict's number: how many lines have it, those halted at [SEJIMAKPU_HALTED]; a refusal is
+                             no verdict, so that [0] is 0, and no line is spent or deep, so that [5] and [6] are 0 */
     uint64_t refusals;    /* how many lines are refusals */
     uint64_t readings;    /* the sum of the readings */
 } sejimakpu_totals;
@@ -165,6 +173,10 @@ static inline uint32_t *sejimakpu_lent_cells(uint32_t *cells, size_t length)
 
 /*
  * Checks an image: refusals 1 to 6.
+ *
+ * Two kinds of rule stop a run, and have no byte but their kind: the others are 0, or the rule has refusal 6. Kind 0 is a
+ * missing rule, where the run is stuck. Kind 4 halts the run on purpose. They differ in the verdict and in nothing else. No
+ * image that the library builds has kind 4.
  */
 static inline uint32_t sejimakpu_check(const uint8_t *image, size_t image_length, sejimakpu_answer *answer)
 {
@@ -186,8 +198,9 @@ static inline uint32_t sejimakpu_cells(const uint8_t *image, size_t image_length
 }
 
 /*
- * Judges a capture by an image: answer->verdict (accepted, ended, stuck or looping), the readings in answer->count, and
- * the end configuration. Refusals 1 to 9; a refused call changes no note and no work cell.
+ * Judges a capture by an image: answer->verdict (accepted, ended, stuck, looping or halted), the readings in
+ * answer->count, and the end configuration. A halted run has it, its readings and its notes as one that is stuck at the same
+ * rule. Refusals 1 to 9; a refused call changes no note and no work cell.
  *
  * After an answer the note of the configuration (state, head, symbol) stands at
  * (state * (capture_length + 2) + head) * symbols + symbol: 0 if the run never enters it, 1 if the run enters it and
@@ -210,8 +223,10 @@ static inline uint32_t sejimakpu_judge(const uint8_t *image, size_t image_length
 
 /*
  * Runs the machine step by step, at most budget steps, on a stack of lent cells, one an entry: answer->verdict (accepted,
- * ended, stuck, spent or deep), the steps taken in answer->count, and the configuration reached. Refusals 1 to 7 and 10;
- * a refused call changes no cell, and after an answer all cells are 0.
+ * ended, stuck, halted, spent or deep), the steps taken in answer->count, and the configuration reached. To be stuck or
+ * halted is no step, and comes first: before each step the run is stuck or halted, then spent, then deep. So a run that
+ * halts after as many steps as the budget has is halted, and not spent. Refusals 1 to 7 and 10; a refused call changes no
+ * cell, and after an answer all cells are 0.
  */
 static inline uint32_t sejimakpu_plain_run(const uint8_t *image, size_t image_length,
                                            const uint8_t *capture, size_t capture_length,
@@ -279,8 +294,9 @@ static inline uint32_t sejimakpu_build_text(const uint8_t *text, size_t text_len
 
 /*
  * Judges a capture by a typed grammar: builds its image at the start of a buffer, and judges by that as sejimakpu_judge
- * does, with the same answer, notes and work cells. The image stays in the buffer, and later bytes are as they were.
- * Refusals 15 to 17 as of sejimakpu_read_grammar, then 13, then 7 to 9; a refused call changes no byte and no cell.
+ * does, with the same answer, notes and work cells; the verdict is never halted. The image stays in the buffer, and later
+ * bytes are as they were. Refusals 15 to 17 as of sejimakpu_read_grammar, then 13, then 7 to 9; a refused call changes no
+ * byte and no cell.
  *
  * Of n bytes and m rules, N = 5 * (n + 2) * (2 * m + 1) notes and as many work cells are needed.
  */
@@ -418,6 +434,7 @@ static inline const char *sejimakpu_verdict_word(uint64_t verdict)
     case SEJIMAKPU_LOOPING: return "looping";
     case SEJIMAKPU_SPENT: return "spent";
     case SEJIMAKPU_DEEP: return "deep";
+    case SEJIMAKPU_HALTED: return "halted";
     default: return "unknown";
     }
 }

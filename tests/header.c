@@ -1,7 +1,8 @@
 /*
  * Tests of the header's inline functions, as C and as C++, but for bundles, which header_bundle.c and header_packing.c test,
- * and left recursion, which header_recursion.c tests. Linked with --wrap for each of the archive's functions, so that every
- * pointer that reaches the archive is seen here. Prints what does not hold, and leaves with status 1 if anything does.
+ * and left recursion, which header_recursion.c tests; and of rules that halt, by hand-made machines. Linked with --wrap for
+ * each of the archive's functions, so that every pointer that reaches the archive is seen here. Prints what does not hold,
+ * and leaves with status 1 if anything does.
  */
 #include "sejimakpu.h"
 
@@ -300,11 +301,12 @@ static int is_refusal(uint32_t r)
 
 static void words(void)
 {
-    static const char *const verdicts[] = {"none", "accepted", "ended", "stuck", "looping", "spent", "deep"};
-    for (uint64_t v = 0; v < 7; v++) {
+    static const char *const verdicts[] = {"none", "accepted", "ended", "stuck", "looping", "spent", "deep", "halted"};
+    for (uint64_t v = 0; v < 8; v++) {
         expect(strcmp(sejimakpu_verdict_word(v), verdicts[v]) == 0, verdicts[v], "another word");
     }
-    expect(strcmp(sejimakpu_verdict_word(7), "unknown") == 0, "verdict 7", "has a word");
+    expect(SEJIMAKPU_HALTED == 7, "halted", "another number");
+    expect(strcmp(sejimakpu_verdict_word(8), "unknown") == 0, "verdict 8", "has a word");
     expect(strcmp(sejimakpu_verdict_word(UINT64_C(0x100000001)), "unknown") == 0, "verdict 2^32 + 1", "has a word");
     for (uint32_t r = 0; r < 100; r++) {
         int has_meaning = strcmp(sejimakpu_refusal_meaning(r), "unknown refusal") != 0;
@@ -316,6 +318,119 @@ static void words(void)
         }
     }
     expect(strcmp(sejimakpu_refusal_meaning(UINT32_MAX), "unknown refusal") == 0, "the last refusal", "has a meaning");
+}
+
+/* A hand-made machine of one state, one class and one symbol. Its three rules are that on a byte, which halts, that on the
+   left marker, which goes right, and that on the right marker, which is missing. */
+enum { HAND_MADE = 300, ON_BYTE = 288, ON_LEFT = 292, ON_RIGHT = 296, TAPE = 3 };
+
+static uint8_t machine[HAND_MADE];
+
+/* Another rule in its place, and the others as above. */
+static void make_machine(size_t offset, uint8_t kind, uint8_t state, uint8_t symbol, uint8_t move)
+{
+    static const uint8_t head[32] = {24, 0, 0, 0, 8, 0, 0, 0, 32, 0, 0, 0, 0, 1, 0, 0, 32, 1, 0, 0, 12, 0, 0, 0, 1, 1, 1};
+    static const uint8_t rules[12] = {4, 0, 0, 0, 1, 0, 0, 1, 0, 0, 0, 0};
+    const uint8_t rule[4] = {kind, state, symbol, move};
+    memcpy(machine, head, sizeof head);
+    memcpy(machine + ON_BYTE, rules, sizeof rules);
+    memcpy(machine + offset, rule, sizeof rule);
+}
+
+static int is_answer(const sejimakpu_answer *answer, uint64_t verdict, uint64_t count, uint64_t head)
+{
+    const sejimakpu_answer expected = {0, verdict, count, 0, head, 0};
+    return memcmp(answer, &expected, sizeof expected) == 0;
+}
+
+/* The machine judges a capture of one byte with this verdict, after one step or in the first configuration. Its notes are
+   those of a run that stops: 1 for each configuration up to the end, and 0 for the others. */
+static void stops(const char *name, uint64_t verdict, uint32_t steps)
+{
+    sejimakpu_answer answer;
+    uint32_t lent[2][TAPE + 1], expected[2][TAPE + 1];
+    memset(lent, OLD, sizeof lent);
+    memset(expected, OLD, sizeof expected);
+    for (uint32_t place = 0; place < TAPE; place++) {
+        expected[0][place] = place <= steps;
+        expected[1][place] = 0;
+    }
+    expect(sejimakpu_judge(machine, HAND_MADE, grammar, 1, lent[0], TAPE + 1, lent[1], TAPE, &answer) == SEJIMAKPU_ANSWERED,
+           name, "is refused");
+    expect(is_answer(&answer, verdict, steps + 1, steps), name, "judged otherwise");
+    expect(memcmp(lent, expected, sizeof lent) == 0, name, "other notes or work cells");
+}
+
+/* A plain run of the machine, on one cell, leaves with this verdict after so many steps; each goes a place to the right. */
+static void runs(const char *name, uint64_t verdict, uint32_t steps, uint32_t budget)
+{
+    sejimakpu_answer answer;
+    uint32_t stack[1] = {OLD};
+    expect(sejimakpu_plain_run(machine, HAND_MADE, grammar, 1, budget, stack, 1, &answer) == SEJIMAKPU_ANSWERED, name,
+           "is refused");
+    expect(is_answer(&answer, verdict, steps, steps), name, "run otherwise");
+    expect(stack[0] == 0, name, "another cell than 0");
+}
+
+/* Every call that takes an image refuses the machine for the rule at this offset, and changes no cell. */
+static void bad_rule(const char *name, size_t offset)
+{
+    const sejimakpu_answer expected = {offset, 0, 0, 0, 0, 0};
+    sejimakpu_answer answers[4];
+    uint32_t lent[2][TAPE], old[2][TAPE];
+    memset(lent, OLD, sizeof lent);
+    memset(old, OLD, sizeof old);
+    memset(answers, OLD, sizeof answers);
+    expect(sejimakpu_check(machine, HAND_MADE, &answers[0]) == SEJIMAKPU_IMAGE_RULE &&
+               sejimakpu_cells(machine, HAND_MADE, 1, &answers[1]) == SEJIMAKPU_IMAGE_RULE &&
+               sejimakpu_judge(machine, HAND_MADE, grammar, 1, lent[0], TAPE, lent[1], TAPE, &answers[2]) ==
+                   SEJIMAKPU_IMAGE_RULE &&
+               sejimakpu_plain_run(machine, HAND_MADE, grammar, 1, 0, lent[0], TAPE, &answers[3]) == SEJIMAKPU_IMAGE_RULE,
+           name, "another number than 6");
+    for (size_t i = 0; i < 4; i++)
+        expect(memcmp(&answers[i], &expected, sizeof expected) == 0, name, "another place");
+    expect(memcmp(lent, old, sizeof lent) == 0, name, "a cell changed");
+}
+
+/* A rule that halts beside a missing one: only the verdict differs. To halt is no step, and comes before spent. */
+static void halting(void)
+{
+    make_machine(ON_BYTE, 4, 0, 0, 0);
+    stops("halted on a byte", SEJIMAKPU_HALTED, 1);
+    runs("halted within the budget", SEJIMAKPU_HALTED, 1, UINT32_MAX);
+    runs("halted as the budget ends", SEJIMAKPU_HALTED, 1, 1);
+    runs("spent before it halts", SEJIMAKPU_SPENT, 0, 0);
+    make_machine(ON_BYTE, 0, 0, 0, 0);
+    stops("stuck on a byte", SEJIMAKPU_STUCK, 1);
+    runs("stuck as the budget ends", SEJIMAKPU_STUCK, 1, 1);
+    make_machine(ON_LEFT, 4, 0, 0, 0);
+    stops("halted at once", SEJIMAKPU_HALTED, 0);
+    runs("halted with no budget", SEJIMAKPU_HALTED, 0, 0);
+    make_machine(ON_LEFT, 0, 0, 0, 0);
+    stops("stuck at once", SEJIMAKPU_STUCK, 0);
+    runs("stuck with no budget", SEJIMAKPU_STUCK, 0, 0);
+
+    for (size_t offset = ON_BYTE; offset <= ON_RIGHT; offset += 4) {
+        make_machine(offset, 4, 0, 0, 0);
+        expect(sejimakpu_check(machine, HAND_MADE, NULL) == SEJIMAKPU_ANSWERED, "a rule that halts", "is refused");
+        make_machine(offset, 3, 0, 0, 0);
+        expect(sejimakpu_check(machine, HAND_MADE, NULL) == SEJIMAKPU_ANSWERED, "a rule of kind 3", "is refused");
+        for (uint8_t byte = 255; byte > 0; byte--) {
+            make_machine(offset, 4, byte, 0, 0);
+            bad_rule("kind 4 with a state", offset);
+            make_machine(offset, 4, 0, byte, 0);
+            bad_rule("kind 4 with a symbol", offset);
+            make_machine(offset, 4, 0, 0, byte);
+            bad_rule("kind 4 with a move", offset);
+        }
+        for (uint8_t kind = 255; kind > 4; kind--) {
+            make_machine(offset, kind, 0, 0, 0);
+            bad_rule("a kind above 4", offset);
+        }
+    }
+    make_machine(ON_RIGHT, 5, 0, 0, 0);
+    machine[ON_BYTE + 3] = 1;
+    bad_rule("two bad rules", ON_BYTE);
 }
 
 int main(void)
@@ -363,5 +478,6 @@ int main(void)
     judge_text("judge text, nothing", SEJIMAKPU_TEXT_SYNTAX, NULL, 0, NULL, 0, 0, 0, 0);
     expect(calls == 1 + 2 * 37, "the linker", "did not lead every call through this file");
     words();
+    halting();
     return faults == 0 ? 0 : 1;
 }

@@ -8,12 +8,15 @@
 #include <string.h>
 
 /* By the image below N = 2 * (n + 2): 8 cells for two bytes. */
-enum { CELLS = 12, IMAGE = 336, OLD = 7, MOST = SEJIMAKPU_MAX_CAPTURES };
+enum { CELLS = 12, IMAGE = 344, OLD = 7, MOST = SEJIMAKPU_MAX_CAPTURES };
 
-/* A hand-made machine that has a capture for each verdict: it goes right over d, loops at a, is stuck at b, ends at c, and
-   accepts at the end. Two states, of which 1 is final, four classes, one symbol. */
+/* A hand-made machine that has a capture for each verdict: it goes right over d, loops at a, is stuck at b, ends at c, halts
+   at e, and accepts at the end. Two states, of which 1 is final, five classes, one symbol. */
 static uint8_t image[IMAGE];
-static const uint8_t accepted[] = {'d', 'd'}, looping[] = {'d', 'a'}, stuck[] = {'b'}, ended[] = {'c'};
+static const uint8_t accepted[] = {'d', 'd'}, looping[] = {'d', 'a'}, stuck[] = {'b'}, ended[] = {'c'}, halted[] = {'e'};
+
+/* The classes of a to e are 0 to 4, and those of the markers follow. */
+enum { CLASS_HALTS = 4, LEFT_MARKER = 5, RIGHT_MARKER = 6 };
 
 static int faults = 0;
 
@@ -33,16 +36,17 @@ static void put_rule(size_t class_, uint8_t kind, uint8_t state, uint8_t move)
 
 static void make_image(void)
 {
-    static const uint8_t head[32] = {24, 0, 0, 0, 8, 0, 0, 0, 32, 0, 0, 0, 0, 1, 0, 0, 32, 1, 0, 0, 48, 0, 0, 0,
-                                     2, 4, 1, 0, 2, 0, 0, 0};
+    static const uint8_t head[32] = {24, 0, 0, 0, 8, 0, 0, 0, 32, 0, 0, 0, 0, 1, 0, 0, 32, 1, 0, 0, 56, 0, 0, 0,
+                                     2, 5, 1, 0, 2, 0, 0, 0};
     memcpy(image, head, sizeof head);
-    for (uint8_t i = 0; i < 4; i++)
+    for (uint8_t i = 0; i < 5; i++)
         image[32 + 'a' + i] = i;
     put_rule(0, 1, 0, 0);
     put_rule(2, 3, 0, 0);
     put_rule(3, 1, 0, 1);
-    put_rule(4, 1, 0, 1);
-    put_rule(5, 3, 1, 0);
+    put_rule(CLASS_HALTS, 4, 0, 0);
+    put_rule(LEFT_MARKER, 1, 0, 1);
+    put_rule(RIGHT_MARKER, 3, 1, 0);
     expect(sejimakpu_check(image, IMAGE, NULL) == SEJIMAKPU_ANSWERED, "the image", "is refused");
 }
 
@@ -104,7 +108,16 @@ static report call(const uint8_t *by, size_t by_length, const uint8_t *bundle, s
     return r;
 }
 
-/* The same call must be as expected whatever is wanted, and leave what is not. */
+/* How many lines the totals count: with a verdict or refused. */
+static uint64_t counted(const sejimakpu_totals *totals)
+{
+    uint64_t lines = totals->refusals;
+    for (size_t verdict = 0; verdict < 8; verdict++)
+        lines += totals->verdicts[verdict];
+    return lines;
+}
+
+/* The same call must be as expected whatever is wanted, and leave what is not. Its totals count every capture once. */
 static void gives(const char *name, const report *expected, const uint8_t *by, size_t by_length,
                   const uint8_t *bundle, size_t length, size_t notes, size_t work)
 {
@@ -119,6 +132,8 @@ static void gives(const char *name, const report *expected, const uint8_t *by, s
         expect(memcmp(got.work, expected->work, sizeof got.work) == 0, name, "other work cells");
         expect(memcmp(got.lines, lines->lines, sizeof got.lines) == 0, name, "other lines");
         expect(memcmp(&got.totals, &totals->totals, sizeof got.totals) == 0, name, "other totals");
+        if (wanted == 7 && got.number == 0)
+            expect(counted(&got.totals) == got.answer.count, name, "a capture counted twice or not at all");
         expect(memcmp(&got.answer, &answer->answer, sizeof got.answer) == 0, name, "another answer");
     }
 }
@@ -188,23 +203,30 @@ static int is_refused(const sejimakpu_line *line, uint64_t refusal, uint64_t pla
 static void judging(void)
 {
     static const uint8_t zeros[65536] = {0};
-    const uint8_t *const shift[6] = {accepted, NULL, looping, stuck, ended, accepted};
-    const size_t lengths[6] = {2, 0, 2, 1, 1, 1};
-    report r = packed("every verdict", shift, lengths, 6, CELLS, CELLS);
+    enum { SHIFT = 7 };
+    const uint8_t *const shift[SHIFT] = {accepted, NULL, looping, stuck, halted, ended, accepted};
+    const size_t lengths[SHIFT] = {2, 0, 2, 1, 1, 1, 1};
+    report r = packed("every verdict", shift, lengths, SHIFT, CELLS, CELLS);
     expect(is_line(&r.lines[0], SEJIMAKPU_ACCEPTED, 4, 3) && is_line(&r.lines[1], SEJIMAKPU_ACCEPTED, 2, 1) &&
                is_line(&r.lines[2], SEJIMAKPU_LOOPING, 3, 2) && is_line(&r.lines[3], SEJIMAKPU_STUCK, 2, 1) &&
-               is_line(&r.lines[4], SEJIMAKPU_ENDED, 2, 1) && is_line(&r.lines[5], SEJIMAKPU_ACCEPTED, 3, 2),
+               is_line(&r.lines[4], SEJIMAKPU_HALTED, 2, 1) && is_line(&r.lines[5], SEJIMAKPU_ENDED, 2, 1) &&
+               is_line(&r.lines[6], SEJIMAKPU_ACCEPTED, 3, 2),
            "every verdict", "judged otherwise");
-    const sejimakpu_totals totals = {{0, 3, 1, 1, 1, 0, 0, 0}, 0, 16};
+    const sejimakpu_totals totals = {{0, 3, 1, 1, 1, 0, 0, 1}, 0, 18};
     expect(memcmp(&r.totals, &totals, sizeof totals) == 0, "every verdict", "added up otherwise");
 
-    r = packed("a note too few", shift, lengths, 6, 7, CELLS);
-    expect(is_refused(&r.lines[0], SEJIMAKPU_NOTES_SHORT, 8) && r.totals.refusals == 2 && r.totals.readings == 9,
+    const uint8_t *const halting[4] = {halted, stuck, halted, halted};
+    r = packed("three halted, one stuck", halting, lengths + 3, 4, CELLS, CELLS);
+    expect(r.totals.verdicts[SEJIMAKPU_HALTED] == 3 && r.totals.verdicts[SEJIMAKPU_STUCK] == 1, "three halted, one stuck",
+           "added up otherwise");
+
+    r = packed("a note too few", shift, lengths, SHIFT, 7, CELLS);
+    expect(is_refused(&r.lines[0], SEJIMAKPU_NOTES_SHORT, 8) && r.totals.refusals == 2 && r.totals.readings == 11,
            "a note too few", "is no line");
-    r = packed("a work cell too few", shift, lengths, 6, CELLS, 7);
+    r = packed("a work cell too few", shift, lengths, SHIFT, CELLS, 7);
     expect(is_refused(&r.lines[2], SEJIMAKPU_WORK_SHORT, 8) && r.totals.refusals == 2, "a work cell too few", "is no line");
-    r = packed("no cells", shift, lengths, 6, 0, 0);
-    expect(is_refused(&r.lines[1], SEJIMAKPU_NOTES_SHORT, 4) && r.totals.refusals == 6, "no cells", "are no lines");
+    r = packed("no cells", shift, lengths, SHIFT, 0, 0);
+    expect(is_refused(&r.lines[1], SEJIMAKPU_NOTES_SHORT, 4) && r.totals.refusals == SHIFT, "no cells", "are no lines");
 
     const uint8_t *const with_long[3] = {stuck, zeros, accepted};
     const size_t with_long_lengths[3] = {1, sizeof zeros, 2};
@@ -244,6 +266,10 @@ static void refusals(void)
     refused("no image", SEJIMAKPU_IMAGE_SHORT, 0, NULL, 0, by_hand(1, 12, 0, 0, 0), 28);
     refused("no image and no bundle", SEJIMAKPU_IMAGE_SHORT, 0, NULL, 0, NULL, 0);
     refused("an image cut short, and a wrong count", SEJIMAKPU_IMAGE_DIRECTORY, 16, image, IMAGE - 1, by_hand(0, 0, 0, 0, 0), 28);
+    uint8_t bad[IMAGE];
+    memcpy(bad, image, IMAGE);
+    bad[288 + 4 * CLASS_HALTS + 3] = 1;
+    refused("a halting rule that moves", SEJIMAKPU_IMAGE_RULE, 288 + 4 * CLASS_HALTS, bad, IMAGE, by_hand(1, 12, 0, 0, 0), 28);
     refused("no bundle", wrong, 0, image, IMAGE, NULL, 0);
     refused("a part of the count", wrong, 0, image, IMAGE, by_hand(1, 12, 0, 0, 0), 3);
     refused("a part of the pair", wrong, 0, image, IMAGE, by_hand(1, 12, 0, 0, 0), 11);
@@ -297,6 +323,6 @@ int main(void)
     layout();
     judging();
     refusals();
-    expect(calls == made && calls == 8 * 33, "the linker", "did not lead every call through this file");
+    expect(calls == made && calls == 8 * 35, "the linker", "did not lead every call through this file");
     return faults == 0 ? 0 : 1;
 }

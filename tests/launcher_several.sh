@@ -1,8 +1,8 @@
 # shellcheck shell=bash disable=SC2154,SC2016
 # The launcher with several captures: lines with names, totals and statuses; files of every kind; grammars that are refused; failures in the middle. Sourced by tests/launcher, whose functions and files it uses.
 
-# totals ACCEPTED ENDED STUCK LOOPING REFUSED READINGS: the last line
-totals() { printf 'totals accepted %s ended %s stuck %s looping %s refused %s readings %s' "$@"; }
+# totals ACCEPTED ENDED STUCK LOOPING HALTED REFUSED READINGS: the last line
+totals() { printf 'totals accepted %s ended %s stuck %s looping %s halted %s refused %s readings %s' "$@"; }
 broken=$here/examples/broken.capture
 a=$work/a.capture
 printf 'b' >"$work/b.capture"
@@ -10,16 +10,16 @@ b=$work/b.capture
 feed=$'\n'
 
 # lines in the order given, and statuses
-says 'several accepted' 0 "accepted 4 2 2 0 $a${feed}accepted 4 2 2 0 $a$feed$(totals 2 0 0 0 0 8)" '' "$judge" "$work/a.grammar" "$a" "$a"
-says 'several in order' 1 "stuck 105 2 13 0 $broken${feed}accepted 174 2 25 0 $formed${feed}stuck 13 3 1 0 $work/none$feed$(totals 1 0 2 0 0 292)" '' \
+says 'several accepted' 0 "accepted 4 2 2 0 $a${feed}accepted 4 2 2 0 $a$feed$(totals 2 0 0 0 0 0 8)" '' "$judge" "$work/a.grammar" "$a" "$a"
+says 'several in order' 1 "stuck 105 2 13 0 $broken${feed}accepted 174 2 25 0 $formed${feed}stuck 13 3 1 0 $work/none$feed$(totals 1 0 2 0 0 0 292)" '' \
     "$judge" "$ring" "$broken" "$formed" "$work/none"
-says 'several looping' 1 "looping 2 1 1 1 $work/none${feed}looping 2 1 1 1 $a$feed$(totals 0 0 0 2 0 4)" '' "$judge" "$work/endless.grammar" "$work/none" "$a"
-says 'several, typed' 1 "accepted 174 2 25 0 $formed${feed}stuck 105 2 13 0 $broken$feed$(totals 1 0 1 0 0 279)" '' "$judge" "$typed" "$formed" "$broken"
-says 'one of several refused' 2 "accepted 3 2 1 0 $work/none${feed}refused 8 16395 $work/1091.capture${feed}stuck 3 2 1 0 $a$feed$(totals 1 0 1 0 1 6)" '' \
+says 'several looping' 1 "looping 2 1 1 1 $work/none${feed}looping 2 1 1 1 $a$feed$(totals 0 0 0 2 0 0 4)" '' "$judge" "$work/endless.grammar" "$work/none" "$a"
+says 'several, typed' 1 "accepted 174 2 25 0 $formed${feed}stuck 105 2 13 0 $broken$feed$(totals 1 0 1 0 0 0 279)" '' "$judge" "$typed" "$formed" "$broken"
+says 'one of several refused' 2 "accepted 3 2 1 0 $work/none${feed}refused 8 16395 $work/1091.capture${feed}stuck 3 2 1 0 $a$feed$(totals 1 0 1 0 0 1 6)" '' \
     "$judge" "$work/empty.grammar" "$work/none" "$work/1091.capture" "$a"
-says 'others accepted, the last refused' 2 "accepted 3 2 1 0 $work/none${feed}refused 8 16395 $work/1091.capture$feed$(totals 1 0 0 0 1 3)" '' \
+says 'others accepted, the last refused' 2 "accepted 3 2 1 0 $work/none${feed}refused 8 16395 $work/1091.capture$feed$(totals 1 0 0 0 0 1 3)" '' \
     "$judge" "$work/empty.grammar" "$work/none" "$work/1091.capture"
-says 'several too long' 2 "refused 14 0 $work/65517.capture${feed}accepted 3 2 1 0 $work/none${feed}refused 14 0 /dev/zero$feed$(totals 1 0 0 0 2 3)" '' \
+says 'several too long' 2 "refused 14 0 $work/65517.capture${feed}accepted 3 2 1 0 $work/none${feed}refused 14 0 /dev/zero$feed$(totals 1 0 0 0 0 2 3)" '' \
     "$judge" "$work/empty.grammar" "$work/65517.capture" "$work/none" /dev/zero
 more=()
 lines=
@@ -27,7 +27,7 @@ for _ in {1..70}; do
     more+=("$work/none")
     lines+="accepted 3 2 1 0 $work/none$feed"
 done
-says 'more than a bundle holds' 0 "$lines$(totals 70 0 0 0 0 210)" '' "$judge" "$work/empty.grammar" "${more[@]}"
+says 'more than a bundle holds' 0 "$lines$(totals 70 0 0 0 0 0 210)" '' "$judge" "$work/empty.grammar" "${more[@]}"
 
 # names: what is not printed is #, and nothing in a name is taken for more than a byte
 mkdir "$work/names"
@@ -38,8 +38,8 @@ for i in "${!names[@]}"; do
     cp "$a" "$work/names/${names[i]}"
     lines+="accepted 4 2 2 0 ${shown[i]}$feed"
 done
-says 'names' 0 "$lines$(totals 13 0 0 0 0 52)" '' env -C "$work/names" "$judge" "$work/a.grammar" "${names[@]}"
-says 'names in another locale' 0 "$lines$(totals 13 0 0 0 0 52)" '' env -C "$work/names" LC_ALL=C.UTF-8 "$judge" "$work/a.grammar" "${names[@]}"
+says 'names' 0 "$lines$(totals 13 0 0 0 0 0 52)" '' env -C "$work/names" "$judge" "$work/a.grammar" "${names[@]}"
+says 'names in another locale' 0 "$lines$(totals 13 0 0 0 0 0 52)" '' env -C "$work/names" LC_ALL=C.UTF-8 "$judge" "$work/a.grammar" "${names[@]}"
 
 # every file is read, once, before a line is written
 says 'missing among several' 2 '' "judge: no such file: $work/missing" "$judge" "$work/a.grammar" "$a" "$work/missing" "$a"
@@ -57,9 +57,9 @@ from_pipes() {
     printf a | "$judge" "$work/both.peg" "$work/two" "$work/a.capture" /dev/stdin "$work/one"
 }
 export -f from_pipes
-says 'several from pipes' 1 "stuck 3 3 1 0 $work/two${feed}accepted 4 2 2 0 $a${feed}accepted 4 2 2 0 /dev/stdin${feed}accepted 4 2 2 0 $work/one$feed$(totals 3 0 1 0 0 15)" '' \
+says 'several from pipes' 1 "stuck 3 3 1 0 $work/two${feed}accepted 4 2 2 0 $a${feed}accepted 4 2 2 0 /dev/stdin${feed}accepted 4 2 2 0 $work/one$feed$(totals 3 0 1 0 0 0 15)" '' \
     bash -c from_pipes
-says 'temporary files of several' 0 "accepted 4 2 2 0 $a${feed}accepted 4 2 2 0 $a$feed$(totals 2 0 0 0 0 8)" '' \
+says 'temporary files of several' 0 "accepted 4 2 2 0 $a${feed}accepted 4 2 2 0 $a$feed$(totals 2 0 0 0 0 0 8)" '' \
     env TMPDIR="$work/temporary" "$judge" "$work/a.grammar" "$a" "$a"
 same 'temporary files of several removed' 0 '' ls -A "$work/temporary"
 
@@ -81,16 +81,23 @@ says 'text that is too long for several' 2 'refused 14 0' '' "$judge" "$work/lon
 printf 'c' >"$work/c.capture"
 c=$work/c.capture
 program 'echo accepted 4294967295 2 2 0'
-says 'a sum past 32 bits' 0 "accepted 4294967295 2 2 0 $a${feed}accepted 4294967295 2 2 0 $a${feed}accepted 4294967295 2 2 0 $a$feed$(totals 3 0 0 0 0 12884901885)" '' \
+says 'a sum past 32 bits' 0 "accepted 4294967295 2 2 0 $a${feed}accepted 4294967295 2 2 0 $a${feed}accepted 4294967295 2 2 0 $a$feed$(totals 3 0 0 0 0 0 12884901885)" '' \
     "$stand/judge" "$work/a.grammar" "$a" "$a" "$a"
-program 'case $(tail -c 1) in a) echo ended 5 0 0 0 ;; b) echo looping 7 0 0 0 ;; c) echo refused 9 1000 ;; *) echo stuck 11 0 0 0 ;; esac'
+printf 'd' >"$work/d.capture"
+d=$work/d.capture
+program 'case $(tail -c 1) in a) echo ended 5 0 0 0 ;; b) echo looping 7 0 0 0 ;; c) echo refused 9 1000 ;; d) echo halted 13 0 0 0 ;; *) echo stuck 11 0 0 0 ;; esac'
 says 'every kind of line' 2 \
-    "ended 5 0 0 0 $a${feed}looping 7 0 0 0 $b${feed}refused 9 1000 $c${feed}stuck 11 0 0 0 $work/1090.capture${feed}ended 5 0 0 0 $a$feed$(totals 0 2 1 1 1 28)" '' \
-    "$stand/judge" "$work/a.grammar" "$a" "$b" "$c" "$work/1090.capture" "$a"
+    "ended 5 0 0 0 $a${feed}looping 7 0 0 0 $b${feed}refused 9 1000 $c${feed}halted 13 0 0 0 $d${feed}stuck 11 0 0 0 $work/1090.capture${feed}ended 5 0 0 0 $a${feed}halted 13 0 0 0 $d${feed}halted 13 0 0 0 $d$feed$(totals 0 2 1 1 3 1 67)" '' \
+    "$stand/judge" "$work/a.grammar" "$a" "$b" "$c" "$d" "$work/1090.capture" "$a" "$d" "$d"
+says 'several halted' 1 "halted 13 0 0 0 $d${feed}halted 13 0 0 0 $d$feed$(totals 0 0 0 0 2 0 26)" '' "$stand/judge" "$work/a.grammar" "$d" "$d"
 reader 'printf x >>"${0%/*}/reads"; printf "\004\000\000\000"'
-says 'a text for several' 1 "ended 5 0 0 0 $a${feed}looping 7 0 0 0 $b$feed$(totals 0 1 0 1 0 12)" '' "$stand/judge" "$work/short.peg" "$a" "$b"
+says 'a text for several' 1 "ended 5 0 0 0 $a${feed}looping 7 0 0 0 $b$feed$(totals 0 1 0 1 0 0 12)" '' "$stand/judge" "$work/short.peg" "$a" "$b"
 same 'a text for several is read once' 0 x cat "$stand/target/bin/reads"
 rm "$stand/target/bin/reads"
+
+# one that is halted passes no shift
+program 'case $(tail -c 1) in d) echo halted 13 0 0 0 ;; *) echo accepted 4 2 2 0 ;; esac'
+says 'others accepted, the last halted' 1 "accepted 4 2 2 0 $a${feed}halted 13 0 0 0 $d$feed$(totals 1 0 0 0 1 0 17)" '' "$stand/judge" "$work/a.grammar" "$a" "$d"
 
 # failures in the middle: the lines before are there, and no totals
 program 'case $(tail -c 1) in b) exit 3 ;; c) echo accepted 12345678901 2 2 0 ;; *) echo accepted 4 2 2 0 ;; esac'

@@ -44,11 +44,11 @@ says 'a missing capture, and a line that leads back' 2 '' "judge: no such file: 
 same 'no warning before every file is taken' 1 '' grep warning "$work/err"
 
 # several captures: one warning
-says 'a warning for several' 1 "looping 2 1 1 1 $a${feed}looping 2 1 1 1 $work/none${feed}looping 2 1 1 1 $a$feed$(totals 0 0 0 3 0 6)" '    ^' \
+says 'a warning for several' 1 "looping 2 1 1 1 $a${feed}looping 2 1 1 1 $work/none${feed}looping 2 1 1 1 $a$feed$(totals 0 0 0 3 0 0 6)" '    ^' \
     "$judge" "$work/loop.peg" "$a" "$work/none" "$a"
 same 'one warning for several' 0 "$(warning 'line 1, column 1: a' 'a=a;' '^')" cat "$work/err"
 printf 'a=./b;b=b;' >"$work/back.peg"
-says 'a warning, and all accepted' 0 "accepted 6 2 2 0 $a${feed}accepted 6 2 2 0 $b$feed$(totals 2 0 0 0 0 12)" '          ^' "$judge" "$work/back.peg" "$a" "$b"
+says 'a warning, and all accepted' 0 "accepted 6 2 2 0 $a${feed}accepted 6 2 2 0 $b$feed$(totals 2 0 0 0 0 0 12)" '          ^' "$judge" "$work/back.peg" "$a" "$b"
 
 # a warning that cannot be written changes nothing; a line that cannot is a failure as before
 warned_to_full() { "$judge" "$work/loop.peg" "$work/a.capture" 2>/dev/full; }
@@ -73,7 +73,7 @@ program 'echo "ended 1 0 0 0"'
 grammar='printf "\004\000\000\000"'
 check_instead 'the text is checked' 'cat >&2; echo >&2; echo passes' 1 'ended 1 0 0 0' 'a=.'
 reader "$grammar" 'printf x >>"${0%/*}/checks"; echo passes'
-says 'a text for several is checked' 1 "ended 1 0 0 0 $a${feed}ended 1 0 0 0 $b$feed$(totals 0 2 0 0 0 2)" '' "$stand/judge" "$work/short.peg" "$a" "$b"
+says 'a text for several is checked' 1 "ended 1 0 0 0 $a${feed}ended 1 0 0 0 $b$feed$(totals 0 2 0 0 0 0 2)" '' "$stand/judge" "$work/short.peg" "$a" "$b"
 same 'and checked once' 0 x cat "$stand/target/bin/checks"
 rm "$stand/target/bin/checks"
 says 'bytes are not checked' 1 'ended 1 0 0 0' '' "$stand/judge" "$work/a.grammar" "$a"

@@ -1,4 +1,4 @@
--- What is proved of images, by topic: what their refusals mean, their rules, that what is encoded reads back, and that their machine stays inside.
+-- What is proved of images, by topic: what their refusals mean, their rules, halting ones among them, that what is encoded reads back, and that their machine stays inside.
 pub mod Bits
 pub mod CountingOn
 pub mod Encoded
@@ -10,5 +10,6 @@ pub mod CheckGood
 pub mod Rules
 pub mod Lookups
 pub mod Inside
+pub mod HaltingRules
 pub mod NotesImplied
 pub mod CaptureRefused

@@ -13,10 +13,10 @@ use Rattle.image.specs.declared.Sizes.{Sizes}
 use Rattle.machine.specs.declared.Action.{Action}
 use Rattle.machine.specs.declared.Action.the-variants.{Pop}
 use Rattle.image.specs.Format
-use Rattle.image.specs.Image.{Rule, classes, symbols, rule-from, rule-offset, rule-at, sizes-of, class-under, action-by, action}
+use Rattle.image.specs.Image.{Rule, classes, symbols, rule-from, rule-offset, rule-at, sizes-of, class-under, rule-of, action-by, action}
 use Rattle.image.specs.Refusals.{Unrefused}
 use Rattle.image.specs.code.Lookup.{Lookup-ready, Rule-fits, offset-by, Rule-ready}
-use Rattle.image.proofs.Rules.{good, class-below, rule-index, rule-of, state-there, head-there, symbol-there, rule-whole, left-room}
+use Rattle.image.proofs.Rules.{good, class-below, rule-index, state-there, head-there, symbol-there, rule-whole, left-room}
 
 pub kept-classes : (bs cs : List ℕ) {s : Sizes} → s ≡ sizes-of bs cs → s .classes ≡ classes bs
 unfolding sizes-of

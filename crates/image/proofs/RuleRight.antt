@@ -147,6 +147,16 @@ selected bs i h =
       index-is = number-of-digits (classes bs + 2) (symbols bs) i;
     }
 
+-- what holds of the rule of each state, class and symbol holds of each rule by its index
+pub each-index :
+    (bs : List ℕ) (P : Rule → Type 0) → ((p k a : ℕ) → p < states bs → k < classes bs + 2 → a < symbols bs → P (rule-at bs p k a)) →
+    (i : ℕ) → i < rule-count bs → P (rule-from bs (Format.rules-offset + Format.rule-length * i))
+unfolding rule-at rule-offset
+each-index bs P h i less =
+    let s = selected bs i less in
+    subst (λ (j : ℕ). P (rule-from bs (Format.rules-offset + Format.rule-length * j))) (s .index-is)
+    (h (s .state) (s .class) (s .symbol) (s .state-below) (s .class-below) (s .symbol-below))
+
 module _ (bs : List ℕ) where
   -- what holds of each state, class and symbol whose rule's offset is less holds of each lesser index
   lesser-indices :

@@ -14,7 +14,7 @@ use Rattle.machine.specs.declared.Config.{Config}
 use Rattle.image.specs.Format
 use Rattle.machine.specs.Run.{Valid-config}
 use Rattle.codec.specs.Bytes.{byte}
-use Rattle.image.specs.Image.{states, classes, symbols, Rule, rule-at, class-under, machine}
+use Rattle.image.specs.Image.{states, classes, symbols, Rule, class-under, rule-of, machine}
 use Rattle.image.specs.Refusals.{move-off, rule-count, Unrefused}
 use Rattle.image.specs.Conditions.{Target-right, Rule-right, none-right, change-right, push-right, pop-right, halt-right}
 use Rattle.machine.proofs.Digits.{digits-below}
@@ -98,9 +98,6 @@ good-rule (halt-right e p a m) =
 abbrev pub rule-index : (image capture : List ℕ) → Config → ℕ
 rule-index bs cs c = (c .state * (classes bs + 2) + class-under bs cs (c .head)) * symbols bs + c .symbol
 
-abbrev pub rule-of : (image capture : List ℕ) → Config → Rule
-rule-of bs cs c = rule-at bs (c .state) (class-under bs cs (c .head)) (c .symbol)
-
 module _ {bs cs : List ℕ} (u : Unrefused bs cs) {c : Config} (t : Valid-config (machine bs cs) c) where
   pub state-there : c .state < states bs
   unfolding machine
@@ -118,7 +115,7 @@ module _ {bs cs : List ℕ} (u : Unrefused bs cs) {c : Config} (t : Valid-config
   unfolding rule-count
   rule-index-below = digits-below state-there (class-below u (c .head)) symbol-there
 
-  rule-right : Rule-right bs (class-under bs cs (c .head)) (rule-of bs cs c)
+  pub rule-right : Rule-right bs (class-under bs cs (c .head)) (rule-of bs cs c)
   rule-right = image-right bs (u .good) .rules _ _ _ state-there (class-below u (c .head)) symbol-there
 
   pub rule-there : Good-rule bs (class-under bs cs (c .head)) (rule-of bs cs c)

@@ -70,8 +70,12 @@ action-by r i =
     (cond (eqb (r .kind) Format.kind-push) (Push (led-to r i))
     (cond (eqb (r .kind) Format.kind-pop) (Pop (r .state) (eqb (r .direction) Format.pop-return)) (Stop (stop-reason (r .kind)))))
 
+-- the rule that a configuration selects: by its state, the class under its head and its symbol
+abbrev pub rule-of : (image capture : List ℕ) → Config → Rule
+rule-of bs cs c = rule-at bs (c .state) (class-under bs cs (c .head)) (c .symbol)
+
 unfoldable pub action : (image capture : List ℕ) → Config → Action
-action bs cs c = action-by (rule-at bs (c .state) (class-under bs cs (c .head)) (c .symbol)) (c .head)
+action bs cs c = action-by (rule-of bs cs c) (c .head)
 
 -- accepting: by the image's finals, and the capture's places with the two markers
 unfoldable pub accepting : (image capture : List ℕ) → (state head : ℕ) → Bool

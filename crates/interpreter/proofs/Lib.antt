@@ -2,6 +2,7 @@
 pub mod Heights
 pub mod TrueEnd
 pub mod Answered
+pub mod RunStops
 pub mod ConditionsMet
 pub mod CellLaws
 pub mod RunSteps

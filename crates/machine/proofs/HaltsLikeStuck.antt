@@ -22,7 +22,7 @@ use Rattle.machine.specs.Run.{Machine, Valid-config, Entry, Description,
 use Rattle.machine.specs.Verdicts.{Terminates-at, Says, terminates, loops, Note-right, never, unended, ended, Noted, note-of}
 use Rattle.machine.specs.LikeStuck.{missing-for-halting, without-halting, Like-stuck}
 use Rattle.machine.proofs.Terminates.{termination-stopped, stopped-from, says-stopped, says-stuck, stopped-verdict, stop-action}
-use Rattle.machine.proofs.SameRuns.{Same-runs, same-back, entered-alike, ends-alike, goes-on-alike, first-again-alike}
+use Rattle.machine.proofs.SameRuns.{Same-runs, same-back, entered-alike, all-entered-alike, ends-alike, goes-on-alike, first-again-alike}
 
 -- a step's outcome with a missing rule for a halting one
 missing : Outcome → Outcome
@@ -226,6 +226,7 @@ halts-like-stuck M =
     record {
       runs = after-missing M;
       notes = λ ns. (noted-on M ns, noted-back M ns);
+      readings = λ n. (all-entered-alike (runs-on M), all-entered-alike (same-back (runs-on M)));
       halted = λ d. by-halting M;
       stuck = λ d. by-missing-rule M;
       others = λ v d not-stuck not-halted. (others-on M not-stuck not-halted, others-back M not-stuck not-halted);

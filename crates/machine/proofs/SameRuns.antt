@@ -4,7 +4,7 @@ use mathlib.Core.List.{[]}
 use Prim.Native.Nat.{ℕ}
 use Rattle.machine.specs.declared.Config.{Config}
 use Rattle.machine.specs.Run.{Machine, Description, start, over, step, after}
-use Rattle.machine.specs.Verdicts.{Entered, Ends-with, Goes-on, Again, First-again, over-base}
+use Rattle.machine.specs.Verdicts.{Entered, Ends-with, Goes-on, Again, First-again, All-entered, over-base}
 
 pub record Same-runs (M N : Machine) : Type 0 where
   pub runs : (n : ℕ) (x : Description) → after n M x ≡ after n N x
@@ -15,6 +15,16 @@ same-back s = record { runs = λ n x. sym (s .runs n x) }
 pub entered-alike : {M N : Machine} {c : Config} → Same-runs M N → Entered M c → Entered N c
 entered-alike s e =
     record { steps = e .steps; place = e .place; reached = sym (s .runs (e .steps) start) ∙ e .reached; is = e .is }
+
+pub all-entered-alike : {M N : Machine} {count : ℕ} → Same-runs M N → All-entered M count → All-entered N count
+all-entered-alike s l =
+    record {
+      configs = l .configs;
+      distinct = l .distinct;
+      only = λ c m. entered-alike s (l .only c m);
+      all = λ c e. l .all c (entered-alike (same-back s) e);
+      counted = l .counted;
+    }
 
 pub ends-alike :
     {M N : Machine} {c d : Config} {k : ℕ} → Same-runs M N → ((x : Description) (p i : ℕ) → step M x ≡ over p i → step N x ≡ over p i) →

@@ -2,6 +2,7 @@
 use mathlib.Core.Path.{_≡_, refl, sym, ap, _∙_, subst}
 use mathlib.Core.Bool.{Bool, true, false}
 use mathlib.Core.List.{List, [], _∷_}
+use mathlib.Core.Logic.{_↔_}
 use mathlib.Core.Option.{some, none}
 use Prim.Native.Nat.{ℕ, suc}
 use native.Mathlib.Nat.{le-refl}
@@ -17,8 +18,8 @@ use Rattle.machine.specs.declared.Verdict.{Verdict}
 use Rattle.machine.specs.declared.Verdict.the-variants.{Accepted, Stuck, Looping}
 use Rattle.machine.specs.Terminating.{stop-verdict, termination-verdict}
 use Rattle.machine.specs.Run.{Machine, Entry, entry, Description, Outcome, stopped, over, next, step-by, step-on, step, start, termination, only-next, after, config-of}
-use Rattle.machine.specs.Verdicts.{over-base, Terminates-at, Goes-on, First-again, Says, terminates, loops}
-use Rattle.machine.proofs.Runs.{Terminated, terminated-no-more, terminates-once, entered-topped, not-none, some-same}
+use Rattle.machine.specs.Verdicts.{Entered, over-base, Terminates-at, Goes-on, First-again, Says, terminates, loops}
+use Rattle.machine.proofs.Runs.{Terminated, terminated-no-more, terminates-once, entered-topped, step-stop, not-none, some-same}
 
 -- the way of terminating, by the last step
 pub termination-stopped : (M : Machine) (x : Description) {r : Reason} → step M x ≡ stopped r → termination M (step M x) ≡ some (Stopped r)
@@ -128,6 +129,23 @@ stopped-verdict {M} {d} r (terminates {h} v e) = go h v e
     go (Over t) w f = absurd (stop-not-over r t f)
     go (Stopped q) w f = subst (λ (z : Reason). Terminates-at M d (Stopped z)) (stop-verdict-one r q f) w
 stopped-verdict r (loops on first e) = absurd (stop-not-looping r (sym e))
+
+-- A RUN STOPS WHERE IT COMES TO A RULE THAT STOPS IT, with that rule's verdict
+stops-at : {M : Machine} {d : Config} {r : Reason} → Entered M d → M .action d ≡ Stop r → Terminates-at M d (Stopped r)
+stops-at {M} {d} {r} e a =
+    let t = entered-topped M (e .steps) (e .reached) in
+    let here : M .action (config-of (e .place)) ≡ Stop r = ap (λ (c : Config). M .action c) (e .is) ∙ a in
+    record {
+      steps = e .steps;
+      place = e .place;
+      reached = e .reached;
+      is = e .is;
+      last = termination-stopped M (e .place) (ap (step M) (t .is) ∙ step-stop M (config-of (e .place)) (t .pointer) (t .base) here);
+    }
+
+pub stops-there : (M : Machine) (r : Reason) (d : Config) → Says M (stop-verdict r) d ↔ (Entered M d × (M .action d ≡ Stop r))
+stops-there M r d =
+    (λ s. let t = stopped-verdict r s in (record { steps = t .steps; place = t .place; reached = t .reached; is = t .is }, stop-action t), λ (e, a). says-stopped (stops-at e a))
 
 -- so a looping one goes on,
 pub says-looping : {M : Machine} {d : Config} → Says M Looping d → Goes-on M × First-again M d

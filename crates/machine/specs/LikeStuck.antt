@@ -10,7 +10,7 @@ use Rattle.machine.specs.declared.Action.the-variants.{Stop, Change, Pus
 use Rattle.machine.specs.declared.Verdict.{Verdict}
 use Rattle.machine.specs.declared.Verdict.the-variants.{Stuck, Halted}
 use Rattle.machine.specs.Run.{Machine, Description, after}
-use Rattle.machine.specs.Verdicts.{Says, Noted}
+use Rattle.machine.specs.Verdicts.{Says, Noted, All-entered}
 
 unfoldable pub missing-for-halting : Action → Action
 missing-for-halting (Stop r) = Stop Missing
@@ -28,10 +28,11 @@ without-halting M =
       accepting = M .accepting;
     }
 
--- LIKE STUCK: it runs through the same descriptions, with the same notes, and where it halts the other one is stuck; else they differ in nothing
+-- LIKE STUCK: it runs through the same descriptions, with the same notes and as many readings; where it halts the other one is stuck, at the same end configuration; and in no other verdict do they differ
 pub record Like-stuck (M : Machine) : Type 0 where
   pub runs : (n : ℕ) (x : Description) → after n M x ≡ after n (without-halting M) x
   pub notes : (ns : List ℕ) → Noted M ns ↔ Noted (without-halting M) ns
+  pub readings : (count : ℕ) → All-entered M count ↔ All-entered (without-halting M) count
   pub halted : (d : Config) → Says M Halted d ↔ (Says (without-halting M) Stuck d × (M .action d ≡ Stop Halting))
   pub stuck : (d : Config) → Says M Stuck d ↔ (Says (without-halting M) Stuck d × (M .action d ≡ Stop Halting → ⊥))
   pub others :
