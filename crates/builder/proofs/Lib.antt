@@ -8,6 +8,7 @@ pub mod PartsMade
 pub mod BuiltImage
 pub mod BuiltRules
 pub mod BuiltGood
+pub mod BuiltKinds
 pub mod Answered
 pub mod BuildingMet
 pub mod CodeClasses

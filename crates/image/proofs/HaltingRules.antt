@@ -22,7 +22,7 @@ use Rattle.image.specs.Format
 use Rattle.image.specs.Image.{Rule, rule-from, led-to, rule-of, action-by, action, machine}
 use Rattle.image.specs.Refusals.{rule-bad, rules-refusal-from, index-class, rule-count, image-refusal, Unrefused}
 use Rattle.image.specs.Conditions.{Rule-right, none-right, change-right, push-right, pop-right, halt-right}
-use Rattle.image.specs.BeforeHalting.{No-halting-rule, rule-bad-before, rules-refusal-before, image-refusal-before, action-before, As-before}
+use Rattle.image.specs.WithoutHalting.{No-halting-rule, rule-bad-before, rules-refusal-before, image-refusal-before, action-before, As-before}
 use Rattle.image.proofs.RuleRight.{each-index}
 use Rattle.image.proofs.Rules.{class-below, state-there, symbol-there, rule-right}
 use Rattle.image.proofs.Inside.{inside}

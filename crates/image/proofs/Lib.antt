@@ -11,5 +11,6 @@ pub mod Rules
 pub mod Lookups
 pub mod Inside
 pub mod HaltingRules
+pub mod HaltingMissing
 pub mod NotesImplied
 pub mod CaptureRefused

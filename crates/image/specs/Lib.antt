@@ -3,6 +3,6 @@ pub mod Format
 pub mod Image
 pub mod Refusals
 pub mod Conditions
-pub mod BeforeHalting
+pub mod WithoutHalting
 pub mod Encoding
 pub mod code

@@ -4,7 +4,7 @@ use mathlib.Core.Bool.{Bool, true, false}
 use mathlib.Core.List.{List, [], _∷_}
 use mathlib.Core.Logic.{_↔_}
 use mathlib.Core.Option.{Option, none, some}
-use Prim.Native.Nat.{ℕ, zero, suc}
+use Prim.Native.Nat.{ℕ, zero, suc, _<_}
 use native.Mathlib.Omega.{arith}
 use lib.ListN.{getD}
 use Rattle.machine.specs.declared.Config.{Config}
@@ -16,11 +16,12 @@ use Rattle.machine.specs.declared.Action.the-variants.{Stop, Change, Pus
 use Rattle.machine.specs.declared.Termination.{Termination}
 use Rattle.machine.specs.declared.Termination.the-variants.{Over, Stopped}
 use Rattle.machine.specs.declared.Verdict.{Verdict}
-use Rattle.machine.specs.declared.Verdict.the-variants.{Stuck, Halted}
+use Rattle.machine.specs.declared.Verdict.the-variants.{Accepted, Ended, Stuck, Looping, Halted}
 use Rattle.machine.specs.Terminating.{stop-verdict, termination-verdict}
+use Rattle.machine.specs.Replies.{verdict-number}
 use Rattle.machine.specs.Run.{Machine, Valid-config, Entry, Description, Outcome, stopped, over, next, step-by, step-on, step, start, only-next, further, after, termination, number}
 use Rattle.machine.specs.Verdicts.{Terminates-at, Says, terminates, loops, Note-right, never, unended, ended, Noted, note-of}
-use Rattle.machine.specs.LikeStuck.{missing-for-halting, without-halting, Like-stuck}
+use Rattle.machine.specs.LikeStuck.{missing-for-halting, without-halting, Like-stuck, stuck-for-halted}
 use Rattle.machine.proofs.Terminates.{termination-stopped, stopped-from, says-stopped, says-stuck, stopped-verdict, stop-action}
 use Rattle.machine.proofs.SameRuns.{Same-runs, same-back, entered-alike, all-entered-alike, ends-alike, goes-on-alike, first-again-alike}
 
@@ -231,3 +232,15 @@ halts-like-stuck M =
       stuck = λ d. by-missing-rule M;
       others = λ v d not-stuck not-halted. (others-on M not-stuck not-halted, others-back M not-stuck not-halted);
     }
+
+-- so its verdict, with stuck for halted, is the other one's
+other-verdict : (v w : Verdict) → verdict-number v < verdict-number w → v ≡ w → ⊥
+other-verdict v w l e = let n = ap verdict-number e in omega arith
+
+pub says-without : (M : Machine) (v : Verdict) (d : Config) → Says M v d → Says (without-halting M) (stuck-for-halted v) d
+unfolding stuck-for-halted verdict-number
+says-without M Accepted d s = others-on M (other-verdict Accepted Stuck (omega arith)) (other-verdict Accepted Halted (omega arith)) s
+says-without M Ended d s = others-on M (other-verdict Ended Stuck (omega arith)) (other-verdict Ended Halted (omega arith)) s
+says-without M Stuck d s = by-missing-rule M .0 s .0
+says-without M Looping d s = others-on M (λ e. other-verdict Stuck Looping (omega arith) (sym e)) (other-verdict Looping Halted (omega arith)) s
+says-without M Halted d s = by-halting M .0 s .0

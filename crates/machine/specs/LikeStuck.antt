@@ -8,7 +8,7 @@ use Rattle.machine.specs.declared.Reason.the-variants.{Missing, Halting}
 use Rattle.machine.specs.declared.Action.{Action}
 use Rattle.machine.specs.declared.Action.the-variants.{Stop, Change, Push, Pop}
 use Rattle.machine.specs.declared.Verdict.{Verdict}
-use Rattle.machine.specs.declared.Verdict.the-variants.{Stuck, Halted}
+use Rattle.machine.specs.declared.Verdict.the-variants.{Accepted, Ended, Stuck, Looping, Halted}
 use Rattle.machine.specs.Run.{Machine, Description, after}
 use Rattle.machine.specs.Verdicts.{Says, Noted, All-entered}
 
@@ -37,3 +37,11 @@ pub record Like-stuck (M : Machine) : Type 0 where
   pub stuck : (d : Config) → Says M Stuck d ↔ (Says (without-halting M) Stuck d × (M .action d ≡ Stop Halting → ⊥))
   pub others :
       (v : Verdict) (d : Config) → (v ≡ Stuck → ⊥) → (v ≡ Halted → ⊥) → Says M v d ↔ Says (without-halting M) v d
+
+-- the verdict that it then has
+unfoldable pub stuck-for-halted : Verdict → Verdict
+stuck-for-halted Accepted = Accepted
+stuck-for-halted Ended = Ended
+stuck-for-halted Stuck = Stuck
+stuck-for-halted Looping = Looping
+stuck-for-halted Halted = Stuck

@@ -25,7 +25,6 @@ use Rattle.machine.proofs.Reach.{entered-there}
 use Rattle.machine.proofs.RightNotes.{never-only}
 use Rattle.machine.proofs.NotesOfRun.{note-tells}
 use Rattle.machine.proofs.Terminates.{says-looping}
-use Rattle.machine.proofs.Terminates.{says-looping}
 use Rattle.machine.proofs.OneVerdict.{one-verdict, goes-on-loops}
 use Rattle.machine.proofs.Listing.{all-entered, one-count}
 use Rattle.simulator.specs.declared.Judgement.{Judgement}
@@ -111,14 +110,17 @@ module _
         in
         answer-same (x .answers) .1 ∙ x .right .counted ∙ sym front ∙ ap (nonzero (how-many (machine bs cs))) (sym (x .notes-now))
 
+    pub first-notes : take (how-many (machine bs cs)) a-now ≡ answered bs cs a a-now b b-now v n d bytes says .right .notes
+    first-notes =
+        let x = answered bs cs a a-now b b-now v n d bytes says .right in
+        ap (take (how-many (machine bs cs))) (x .notes-now)
+        ∙ take-at (x .notes) (drop (how-many (machine bs cs)) a) (how-many (machine bs cs)) (x .right .noted-cells)
+
     pub by-the-chain : Chain-ends bs cs v n d (take (how-many (machine bs cs)) a-now)
     by-the-chain =
         let x = answered bs cs a a-now b b-now v n d bytes says .right in
-        let first : take (how-many (machine bs cs)) a-now ≡ x .notes =
-        ap (take (how-many (machine bs cs))) (x .notes-now)
-        ∙ take-at (x .notes) (drop (how-many (machine bs cs)) a) (how-many (machine bs cs)) (x .right .noted-cells)
-        in
-        let (verdicts, counts, ends) = answer-same (x .answers) in chain-as bs cs v _ n _ d _ _ _ verdicts counts ends first (x .right .by-chain)
+        let (verdicts, counts, ends) = answer-same (x .answers) in
+        chain-as bs cs v _ n _ d _ _ _ verdicts counts ends first-notes (x .right .by-chain)
 
     pub work-cleared : take (how-many (machine bs cs)) b-now ≡ replicate (how-many (machine bs cs)) 0
     work-cleared =

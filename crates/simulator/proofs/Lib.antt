@@ -10,3 +10,5 @@ pub mod ConditionsMet
 pub mod Answered
 pub mod LengthsKept
 pub mod JudgingRight
+pub mod StopsExact
+pub mod JudgedLikeStuck

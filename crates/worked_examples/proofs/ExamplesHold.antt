@@ -1,4 +1,4 @@
--- The ten examples hold: the test of a row computes over the whole table. So do C1's facts. Assumes nothing.
+-- The ten examples hold: the test of a row computes over the whole table. So do C1's facts and the examples of halting rules. Assumes nothing.
 use mathlib.Core.Path.{_≡_, refl, ap}
 use mathlib.Core.List.{List, [], _∷_, map}
 use lib.ListN.{length, getD, drop}
@@ -19,7 +19,8 @@ use Rattle.grammar.specs.Grammar as Grammar
 use Rattle.builder.specs.Classes.{cuts-at, cut-from, cut, class-of, class-count, class-in}
 use Rattle.builder.specs.Table.{rows, by-state, select, row-zero, class-inside, rows-at, made}
 use Rattle.builder.specs.Image.{symbols-of, built-rules, rules-made, map-made, built, parts}
-use Rattle.worked_examples.specs.Examples.{Row, Row-holds, Each, nil, cons, table, image-of, source-refusal, row-machine, popping-image, empty-grammar, plain-table, Plain-holds, popping-parts}
+use Rattle.worked_examples.specs.Examples.{Row, Row-holds, Each, nil, cons, table, image-of, source-refusal, row-machine, marker-parts, marker-image, empty-grammar, plain-table, Plain-holds}
+use Rattle.worked_examples.specs.HaltingExamples.{telling-image, halting-table, Halts-at-once, halting-budgets, Rule-refused-so, halting-rules}
 use Rattle.worked_examples.proofs.ChainEnd.{steps-on}
 use Rattle.worked_examples.proofs.RowLaws.{Found, found, found-by, said, exit-verdict, ran-found, ran-said, chain-last, enough, all-bytes, found-holds}
 
@@ -29,10 +30,11 @@ each-holds [] e = nil
 each-holds (r ∷ rs) e =
     cons (found-holds r (ap (λ (l : List Found). getD l 0 (said r)) e)) (each-holds rs (ap (λ (l : List Found). drop 1 l) e))
 
--- THE TEST and C1's facts, computed
+-- THE TESTS, C1's facts and those of halting rules, computed
 computed :
     (map found table ≡ map said table) × (length (built empty-grammar) ≡ 468) × (how-many (machine (built empty-grammar) []) ≡ 30) × Each Plain-holds plain-table
-unfolding table plain-table found said found-by ran-found ran-said chain-last enough all-bytes steps-on image-of source-refusal row-machine popping-parts popping-image
+    × (map found halting-table ≡ map said halting-table) × Each Halts-at-once halting-budgets × Each Rule-refused-so halting-rules
+unfolding table plain-table telling-image halting-table Halts-at-once halting-budgets Rule-refused-so halting-rules found said found-by ran-found ran-said chain-last enough all-bytes steps-on image-of source-refusal row-machine marker-parts marker-image
     start step step-on step-by config-of top how-many number-by config-by note-of sizes-of
     machine number-at little-endian pair-bytes header rule-bytes rules-bytes encode states classes symbols rule-offset rule-from rule-at class-under moved action-by action accepting
     or-else refuse-if pair-is directory counts count-wrong map-from move-off rule-bad index-class rules-refusal-from rule-count image-refusal
@@ -42,7 +44,8 @@ unfolding table plain-table found said found-by ran-found ran-said chain-last en
     cuts-at cut-from cut class-of class-count class-in
     rows by-state select row-zero class-inside rows-at made
     symbols-of built-rules rules-made map-made parts built
-computed = (refl, refl, refl, cons refl (cons refl (cons refl nil)))
+computed =
+    (refl, refl, refl, cons refl (cons refl (cons refl nil)), refl, cons refl (cons refl nil), cons refl (cons refl (cons refl (cons refl (cons refl (cons refl nil))))))
 
 pub examples-hold : Each Row-holds table
 examples-hold = each-holds table (computed .0)
@@ -56,3 +59,13 @@ c1-cells = computed .2
 
 pub c1-plain-runs : Each Plain-holds plain-table
 c1-plain-runs = computed .3
+
+-- halting rules
+pub halting-rows : Each Row-holds halting-table
+halting-rows = each-holds halting-table (computed .4)
+
+pub halting-runs : Each Halts-at-once halting-budgets
+halting-runs = computed .5
+
+pub halting-images : Each Rule-refused-so halting-rules
+halting-images = computed .6

@@ -13,7 +13,7 @@ use Rattle.machine.specs.declared.Termination.the-variants.{Over}
 use Rattle.image.specs.Format
 use Rattle.machine.specs.Terminating.{termination-verdict}
 use Rattle.machine.specs.Run.{Machine, config, start}
-use Rattle.image.specs.Image.{machine}
+use Rattle.image.specs.Image.{Rule, machine}
 use Rattle.image.specs.Encoding.{Parts, encode}
 use Rattle.image.specs.Refusals.{Unrefused}
 use Rattle.machine.specs.Verdicts.{Says, Goes-on, All-entered}
@@ -52,20 +52,24 @@ row s cs v r d n = record { source = s; capture = cs; verdict = v; readings = r;
 unfoldable pub row-machine : Row → Machine
 row-machine r = machine (image-of (r .source)) (r .capture)
 
--- C10's image: Q, K and G are 1, no state is final; the three rules are those of the one byte class, the left marker, which pops and stays, and the right marker
-unfoldable pub popping-parts : Parts
-popping-parts =
+-- an image with Q, K and G 1 and no final state, in which the left marker alone has a rule: the three are those of the one byte class, of the left marker and of the right one
+unfoldable pub marker-parts : Rule → Parts
+marker-parts r =
     record {
       states = 1;
       classes = 1;
       symbols = 1;
       finals = 0;
       class-map = replicate Format.map-length 0;
-      rules = no-rule ∷ rule Format.kind-pop 0 0 Format.pop-stay ∷ no-rule ∷ [];
+      rules = no-rule ∷ r ∷ no-rule ∷ [];
     }
 
-unfoldable pub popping-image : List ℕ
-popping-image = encode popping-parts
+unfoldable pub marker-image : Rule → List ℕ
+marker-image r = encode (marker-parts r)
+
+-- C10's: it pops and stays
+abbrev pub popping-image : List ℕ
+popping-image = marker-image (rule Format.kind-pop 0 0 Format.pop-stay)
 
 -- the grammars, in hex; 97 and 98 are the bytes 61 and 62
 -- 04000000

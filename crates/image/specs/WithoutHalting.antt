@@ -1,10 +1,11 @@
--- Images without a halting rule: when a rule was bad, and what it did, before there was kind 4; and what it is for such an image to be refused and run as then. Assumes nothing: these are definitions.
+-- Images without a halting rule: when a rule was bad, and what it did, before there was kind 4, and what it is for such an image to be refused and run as then; and an image with missing rules for the halting ones of another. Assumes nothing: these are definitions.
 use mathlib.Core.Path.{_≡_}
 use mathlib.Core.Bool.{Bool, true, _&&_, _||_, not, cond}
 use mathlib.Core.List.{List}
 use Prim.Native.Nat.{ℕ, zero, suc, _+_, _*_, _<_}
 use lib.Dec.{ltb, leb, eqb}
 use lib.ListN.{length}
+use Rattle.codec.specs.Bytes.{byte}
 use Rattle.refusal.specs.declared.Refusal.{Refusal}
 use Rattle.refusal.specs.First.{refusal, no-refusal, or-else}
 use Rattle.machine.specs.declared.Config.{Config}
@@ -60,3 +61,13 @@ pub record As-before (bs : List ℕ) : Type 0 where
       (cs : List ℕ) (c : Config) → Unrefused bs cs → Valid-config (machine bs cs) c →
       machine bs cs .action c ≡ action-before (rule-of bs cs c) (c .head)
   pub never-halted : (cs : List ℕ) (d : Config) → Unrefused bs cs → Says (machine bs cs) Halted d → ⊥
+
+-- MISSING FOR HALTING: the same bytes up to the rules, and the same rules, but for each that has kind 4 a missing one
+unfoldable pub missing-rule : Rule → Rule
+missing-rule r = cond (eqb (r .kind) Format.kind-halt) (record { kind = Format.kind-none; state = 0; symbol = 0; direction = 0 }) r
+
+pub record Missing-for-halting (bs zs : List ℕ) : Type 0 where
+  pub header : (i : ℕ) → i < Format.rules-offset → byte zs i ≡ byte bs i
+  pub rules :
+      (i : ℕ) →
+      rule-from zs (Format.rules-offset + Format.rule-length * i) ≡ missing-rule (rule-from bs (Format.rules-offset + Format.rule-length * i))
