@@ -3,9 +3,11 @@ use Rattle.image.specs.Image.{machine}
 use Rattle.image.proofs.ConditionsMet.{image-answer}
 use Rattle.image.proofs.CaptureMet.{capture-answer}
 use Rattle.image.proofs.Inside.{inside}
+use Rattle.image.proofs.HaltingRules.{halting-right, lookup-apart, rule-as-before, image-as-before}
 use Rattle.machine.proofs.Reach.{entered-there}
 use Rattle.machine.proofs.Listing.{one-count}
 use Rattle.machine.proofs.OneVerdict.{one-verdict}
+use Rattle.machine.proofs.HaltsLikeStuck.{halts-like-stuck}
 use Rattle.machine.proofs.Terminators.{one-end, terminators-of-run}
 use Rattle.machine.proofs.NotesOfRun.{same-each-time, notes-of-run}
 use Rattle.image.proofs.NotesImplied.{noted-implies}
@@ -17,13 +19,17 @@ use Rattle.simulator.proofs.Determined.{judge-determined, judge-independent}
 use Rattle.simulator.proofs.Needing.{cells-are}
 use Rattle.simulator.proofs.JudgeLoop.{start-is}
 use Rattle.simulator.proofs.JudgingRight.{verdict-there, verdict-exact, looping-exact, readings-entered, readings-noted, entered-numbered, notes-left, unentered-zero, notes-tell, by-the-chain, work-cleared}
+use Rattle.simulator.proofs.StopsExact.{halted-exact, stuck-exact}
+use Rattle.simulator.proofs.JudgedLikeStuck.{judged-like-stuck}
 use Rattle.interpreter.proofs.ConditionsMet.{running-answer}
 use Rattle.interpreter.proofs.TrueEnd.{plain-run-true}
+use Rattle.interpreter.proofs.RunStops.{run-stops}
 use Rattle.interpreter.proofs.Answered.{run-determined, run-independent}
 use Rattle.grammar.proofs.ConditionsMet.{grammar-answer}
 use Rattle.grammar.proofs.Inverted.{inverted-legal, inverted-fails, inverted-as-failure}
 use Rattle.builder.proofs.BuildingMet.{building-answer}
 use Rattle.builder.proofs.BuiltGood.{built-good}
+use Rattle.builder.proofs.BuiltKinds.{built-without-halting}
 use Rattle.builder.proofs.BuiltImage.{built-length-is}
 use Rattle.builder.proofs.LongestImage.{longest-image, longest-there}
 use Rattle.builder.proofs.RangeClasses.{classes-count, range-classes}
@@ -49,7 +55,7 @@ use Rattle.bundle.proofs.CellsIndependent.{bundle-cells-independent}
 use Rattle.bundle.proofs.LineAlone.{line-alone, bundle-later}
 use Rattle.bundle.proofs.Sums.{totals-sum, totals-whole}
 use Rattle.bundle.proofs.Reporting.{bundle-refuses, bundle-answers, bundle-determined, bundle-independent}
-use Rattle.worked_examples.proofs.ExamplesHold.{examples-hold, c1-image, c1-cells, c1-plain-runs}
+use Rattle.worked_examples.proofs.ExamplesHold.{examples-hold, c1-image, c1-cells, c1-plain-runs, halting-rows, halting-runs, halting-images}
 use Rattle.worked_examples.proofs.ProgramPrints.{endless-printed}
 use Rattle.worked_examples.proofs.BundlesHold.{bundle-examples, capture-example, totals-example, cells-example}
 use Rattle.worked_examples.proofs.RecursionHolds.{recursion-examples}
@@ -102,6 +108,7 @@ promises =
       built-goes-on = λ gs cs good bytes. let b = built-parses gs cs good bytes in (λ on o p. b .parses-terminates o p on, b .no-parse-goes-on);
       built-stuck = λ gs cs good bytes. let b = built-parses gs cs good bytes in (λ (d, s). b .stuck-parses d s, λ (o, p, other). b .parses-stuck o p other);
       built-not-ended = λ gs cs good bytes. built-parses gs cs good bytes .never-ended;
+      built-not-halted = λ gs cs good bytes. built-parses gs cs good bytes .never-halted;
       inverted-fails = inverted-fails;
       inverted-as-failure = inverted-as-failure;
       inverted-pops = inverted-pops;
@@ -196,4 +203,17 @@ promises =
       tried-first-endless = met-loops;
       recursion-harmless = (fails-first-harmless, never-reached-harmless);
       recursion-examples = recursion-examples;
+      halting-right = halting-right;
+      lookup-apart = lookup-apart;
+      halted-exact = halted-exact;
+      stuck-exact = stuck-exact;
+      halted-like-stuck = halts-like-stuck;
+      judged-like-stuck = judged-like-stuck;
+      run-stops = run-stops;
+      rule-as-before = rule-as-before;
+      image-as-before = image-as-before;
+      built-without-halting = built-without-halting;
+      halting-rows = halting-rows;
+      halting-runs = halting-runs;
+      halting-images = halting-images;
     }

@@ -6,4 +6,5 @@ pub mod Users
 pub mod Typed
 pub mod Bundles
 pub mod Recursion
+pub mod Halting
 pub mod Promises

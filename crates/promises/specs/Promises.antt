@@ -6,6 +6,7 @@ use Rattle.promises.specs.Users as Users
 use Rattle.promises.specs.Typed as Typed
 use Rattle.promises.specs.Bundles as Bundles
 use Rattle.promises.specs.Recursion as Recursion
+use Rattle.promises.specs.Halting as Halting
 
 pub record Promises : Type 0 where
   -- the first demand: refusals, and what follows from the input alone
@@ -43,6 +44,7 @@ pub record Promises : Type 0 where
   pub built-goes-on : Second.Built-goes-on
   pub built-stuck : Second.Built-stuck
   pub built-not-ended : Second.Built-not-ended
+  pub built-not-halted : Second.Built-not-halted
   pub inverted-fails : Second.Inverted-fails
   pub inverted-as-failure : Second.Inverted-as-failure
   pub inverted-pops : Second.Inverted-pops
@@ -142,3 +144,17 @@ pub record Promises : Type 0 where
   pub tried-first-endless : Recursion.Tried-first-endless
   pub recursion-harmless : Recursion.Recursion-harmless
   pub recursion-examples : Recursion.Recursion-examples
+  -- a rule that halts on purpose
+  pub halting-right : Halting.Halting-right
+  pub lookup-apart : Halting.Lookup-apart
+  pub halted-exact : Halting.Halted-exact
+  pub stuck-exact : Halting.Stuck-exact
+  pub halted-like-stuck : Halting.Halted-like-stuck
+  pub judged-like-stuck : Halting.Judged-like-stuck
+  pub run-stops : Halting.Run-stops
+  pub rule-as-before : Halting.Rule-as-before
+  pub image-as-before : Halting.Image-as-before
+  pub built-without-halting : Halting.Built-without-halting
+  pub halting-rows : Halting.Halting-rows
+  pub halting-runs : Halting.Halting-runs
+  pub halting-images : Halting.Halting-images

@@ -1,4 +1,4 @@
--- THE SECOND DEMAND: accepted, ended, stuck exactly where the step-by-step run, unbounded in time and stack, ends so; looping only where it has no end. A machine built from a grammar accepts where parsing from the start rule consumes all, loops where parsing has no result, and is stuck in all other cases. Assumes nothing: each claim is a type, and proofs/ has its proof.
+-- THE SECOND DEMAND: accepted, ended, stuck, halted exactly where the step-by-step run, unbounded in time and stack, ends so; looping only where it has no end. A machine built from a grammar accepts where parsing from the start rule consumes all, loops where parsing has no result, and is stuck in all other cases. Assumes nothing: each claim is a type, and proofs/ has its proof.
 use mathlib.Core.Path.{_≡_}
 use mathlib.Core.Bool.{true, false}
 use mathlib.Core.List.{List, _++_}
@@ -9,7 +9,7 @@ use lib.ListN.{length, take, replicate}
 use Rattle.machine.specs.declared.Config.{Config}
 use Rattle.machine.specs.declared.Action.the-variants.{Pop}
 use Rattle.machine.specs.declared.Verdict.{Verdict}
-use Rattle.machine.specs.declared.Verdict.the-variants.{Accepted, Ended, Stuck, Looping}
+use Rattle.machine.specs.declared.Verdict.the-variants.{Accepted, Ended, Stuck, Looping, Halted}
 use Rattle.image.specs.Format.{max-capture}
 use Rattle.machine.specs.Run.{Machine, config, start, how-many}
 use Rattle.codec.specs.Bytes.{Bytes}
@@ -51,7 +51,7 @@ Judge-answers =
     Judge-says bs cs r a a-now b b-now →
     (v : Verdict) × (n : ℕ) × (d : Config) × (r ≡ Answer (judgement v n d)) × (of-judged r ≡ answer-reply (verdict-number v) n d)
 
--- ACCEPTED, ENDED, STUCK, LOOPING EXACTLY WHERE THE RUN ENDS SO, and at the run's end configuration
+-- ACCEPTED, ENDED, STUCK, HALTED EXACTLY WHERE THE RUN ENDS SO, looping exactly where it has no end, and at the run's end configuration
 abbrev pub Judge-exact : Type 0
 Judge-exact =
     (bs cs a a-now b b-now : List ℕ) (v : Verdict) (n : ℕ) (d : Config) → Bytes cs → Judge-says bs cs (Answer (judgement v n d)) a a-now b b-now →
@@ -92,10 +92,15 @@ Built-stuck =
     ((d : Config) × Says (machine (built gs) cs) Stuck d)
     ↔ ((o : Option ℕ) × Parses (expression gs) cs 0 0 o × (o ≡ some (length cs) → ⊥))
 
--- and never ends otherwise
+-- never ends otherwise
 abbrev pub Built-not-ended : Type 0
 Built-not-ended =
     (gs cs : List ℕ) → grammar-refusal gs .number ≡ 0 → Bytes cs → (d : Config) → Says (machine (built gs) cs) Ended d → ⊥
+
+-- and is never halted
+abbrev pub Built-not-halted : Type 0
+Built-not-halted =
+    (gs cs : List ℕ) → grammar-refusal gs .number ≡ 0 → Bytes cs → (d : Config) → Says (machine (built gs) cs) Halted d → ⊥
 
 -- A RANGE WITH ITS LOW BYTE ABOVE ITS HIGH BYTE ALWAYS FAILS: at every place of every capture it has one result, failure,
 abbrev pub Inverted-fails : Type 0
