@@ -54,7 +54,7 @@ impl Lent {
 
 /// Whether the twin reports what the library does: the same refusal, or the same lines and totals.
 pub fn report_the_same(library: &Result<Report, Error>, other: &Result<twin::Report, Error>) -> bool {
-    use Verdict::{Accepted, Deep, Ended, Looping, Spent, Stuck};
+    use Verdict::{Accepted, Deep, Ended, Halted, Looping, Spent, Stuck};
     let (report, other) = match (library, other) {
         (Ok(report), Ok(other)) => (report, other),
         (Err(error), Err(other)) => return error == other,
@@ -62,7 +62,7 @@ pub fn report_the_same(library: &Result<Report, Error>, other: &Result<twin::Rep
     };
     let totals = report.totals();
     report.lines().eq(other.lines.iter().copied())
-        && [Accepted, Ended, Stuck, Looping, Spent, Deep].iter().all(|&of| totals.of(of) == other.of(of))
+        && [Accepted, Ended, Stuck, Looping, Spent, Deep, Halted].iter().all(|&of| totals.of(of) == other.of(of))
         && (totals.refusals(), totals.readings()) == (other.refusals, other.readings)
 }
 

@@ -1,7 +1,7 @@
 //! The twin, and its tuned forms, give the library's answers, notes and cells, on small cases drawn from a fixed sequence of numbers.
 use benchmark::bundles::report_the_same;
 use benchmark::twin;
-use sejimakpu::{MAX_BUILT_IMAGE, MAX_GRAMMAR};
+use sejimakpu::{Error, Judged, Verdict, MAX_BUILT_IMAGE, MAX_GRAMMAR};
 
 /// The names of a text's lines: one begins as another does, and one as a reserved word.
 const NAMES: [&[u8]; 3] = [b"a", b"ab", b"emptyx"];
@@ -67,7 +67,7 @@ impl Numbers {
 
     fn rule(&mut self, q: usize, g: usize, is_left: bool, is_right: bool) -> [u8; 4] {
         match self.below(8) {
-            0 => [0, 0, 0, 0],
+            0 => [[0, 4][self.below(2)], 0, 0, 0],
             1..=2 => [3, self.byte(q), 0, self.byte(2)],
             kind => {
                 let moves: &[u8] = if is_left {
@@ -80,6 +80,15 @@ impl Numbers {
                 [1 + (kind % 2) as u8, self.byte(q), self.byte(g), moves[self.below(moves.len())]]
             }
         }
+    }
+
+    /// A rule that stops the run, or one that is nearly such.
+    fn stop(&mut self) -> [u8; 4] {
+        let mut rule = [[0, 4, 4, 4, 5][self.below(5)], 0, 0, 0];
+        if self.below(3) == 0 {
+            rule[1 + self.below(3)] = [1, 255][self.below(2)];
+        }
+        rule
     }
 
     /// A text that is right, but for the rules that it may need.
@@ -134,7 +143,7 @@ impl Numbers {
 }
 
 /// Library, twin and tuned forms judge the same, and leave the same in all lent cells.
-fn judge_the_same(image: &[u8], capture: &[u8], lent: (Vec<u32>, Vec<u32>)) {
+fn judge_the_same(image: &[u8], capture: &[u8], lent: (Vec<u32>, Vec<u32>)) -> Result<Judged, Error> {
     let mut cells = lent.clone();
     let judged = sejimakpu::judge(image, capture, &mut cells.0, &mut cells.1);
     for judge in [twin::judge, twin::judge_tuned, twin::judge_fastest] {
@@ -142,10 +151,12 @@ fn judge_the_same(image: &[u8], capture: &[u8], lent: (Vec<u32>, Vec<u32>)) {
         assert_eq!(judge(image, capture, &mut other.0, &mut other.1), judged);
         assert!(other == cells);
     }
+    judged
 }
 
-/// Both judge and run the same on an image, good or not, and leave the same in all lent cells.
-fn agree_on(image: &[u8], numbers: &mut Numbers) {
+/// Both judge and run the same on an image, good or not, and leave the same in all lent cells. Gives the verdict of
+/// judging and that of running, where they are not refused.
+fn agree_on(image: &[u8], numbers: &mut Numbers) -> [Option<Verdict>; 2] {
     let capture = numbers.capture();
     let checked = sejimakpu::check(image);
     assert_eq!(twin::check(image), checked);
@@ -153,13 +164,14 @@ fn agree_on(image: &[u8], numbers: &mut Numbers) {
     let needed = sejimakpu::cells(image, capture.len()).unwrap_or(3);
     let few = |numbers: &mut Numbers| needed + 2 - numbers.below(8).saturating_sub(4).min(needed);
     let (notes, work) = (vec![7; few(numbers)], vec![8; few(numbers)]);
-    judge_the_same(image, &capture, (notes, work));
+    let judged = judge_the_same(image, &capture, (notes, work));
 
     let (budget, cells) = (numbers.below(60) as u32, numbers.below(8));
     let (mut a, mut b) = (vec![7; cells], vec![7; cells]);
     let ran = sejimakpu::plain_run(image, &capture, budget, &mut a);
     assert_eq!(twin::plain_run(image, &capture, budget, &mut b), ran);
     assert_eq!(a, b);
+    [judged.ok().map(|judged| judged.verdict), ran.ok().map(|ran| ran.verdict)]
 }
 
 #[test]
@@ -170,6 +182,27 @@ fn on_images() {
         numbers.spoil(&mut image);
         agree_on(&image, &mut numbers);
     }
+}
+
+#[test]
+fn on_rules_that_stop() {
+    let mut numbers = Numbers(0x2545_F491_4F6C_DD1D);
+    let (mut stuck, mut halted, mut bad) = ([0; 2], [0; 2], 0);
+    for _ in 0..2000 {
+        let mut image = numbers.image();
+        // The rule that the run starts with, any, or the last.
+        let (count, start) = ((image.len() - 288) / 4, usize::from(image[25]) * usize::from(image[26]));
+        let rule = [start, numbers.below(count), count - 1][numbers.below(3)];
+        image[288 + 4 * rule..][..4].copy_from_slice(&numbers.stop());
+        bad += usize::from(sejimakpu::check(&image).is_err());
+        for (call, verdict) in agree_on(&image, &mut numbers).into_iter().enumerate() {
+            stuck[call] += usize::from(verdict == Some(Verdict::Stuck));
+            halted[call] += usize::from(verdict == Some(Verdict::Halted));
+        }
+    }
+    assert!((400..1200).contains(&bad), "{bad} images are bad, and the others are not");
+    assert!(stuck.iter().all(|&count| count > 50), "{stuck:?} are stuck");
+    assert!(halted.iter().all(|&count| count > 200), "{halted:?} are halted");
 }
 
 #[test]
@@ -243,7 +276,7 @@ fn on_left_recursion() {
 #[test]
 fn on_bundles() {
     let mut numbers = Numbers(0xE703_7ED1_A0B4_28DB);
-    let mut judged = 0;
+    let (mut judged, mut halted) = (0, 0);
     for _ in 0..2000 {
         let mut image = numbers.image();
         let count = [1, 2, 5, 64][numbers.below(4)];
@@ -263,8 +296,10 @@ fn on_bundles() {
         assert!(report_the_same(&report, &other), "{report:?} and {other:?}");
         assert!(a == b);
         judged += usize::from(report.is_ok());
+        halted += report.map_or(0, |report| report.totals().of(Verdict::Halted));
     }
     assert!((500..1900).contains(&judged), "{judged} bundles are right, and the others are not");
+    assert!(halted > 500, "{halted} lines are halted");
 }
 
 #[test]
@@ -272,7 +307,8 @@ fn on_long_captures() {
     let image = Numbers(3).image();
     for n in [65_535, 65_536] {
         let capture = vec![b'a'; n];
-        judge_the_same(&image, &capture, (vec![7; 900_000], vec![7; 900_000]));
+        let judged = judge_the_same(&image, &capture, (vec![7; 900_000], vec![7; 900_000]));
+        assert_eq!(judged.is_ok(), n == 65_535);
 
         let lent = (vec![7; 500], vec![7; 1_000_000], vec![8; 1_000_000]);
         let (mut a, mut b) = (lent.clone(), lent);

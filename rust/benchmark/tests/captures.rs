@@ -1,6 +1,6 @@
 //! The twin on the ten captures of the scope: verdict, readings, end configuration, and the plain run's steps.
 use benchmark::twin;
-use sejimakpu::{Config, Judged, Ran, Verdict, MAX_BUILT_IMAGE};
+use sejimakpu::{Config, Judged, Ran, Reason, Refusal, Verdict, MAX_BUILT_IMAGE};
 
 const EMPTY: [u8; 4] = [4, 0, 0, 0];
 const A: [u8; 4] = [5, b'a', b'a', 0];
@@ -52,12 +52,32 @@ fn captures_of_grammars() {
     }
 }
 
-#[test]
-fn capture_of_an_image() {
+/// One state, one class and one symbol, with this rule on the left marker and no other.
+fn image_of(rule: [u8; 4]) -> Vec<u8> {
     let mut image: Vec<u8> =
         [24, 8, 32, 256, 288, 12, u32::from_le_bytes([1, 1, 1, 0]), 0].into_iter().flat_map(u32::to_le_bytes).collect();
     image.extend([0; 256]);
-    image.extend([0, 0, 0, 0, 3, 0, 0, 0, 0, 0, 0, 0]);
+    image.extend([[0; 4], rule, [0; 4]].concat());
+    image
+}
+
+#[test]
+fn capture_of_an_image() {
+    let image = image_of([3, 0, 0, 0]);
     assert_eq!(judged(&image, b""), (Verdict::Ended, 1, [0, 0, 0]), "C10");
     assert_eq!(ran(&image, b""), (Verdict::Ended, 1, [0, 0, 0]), "C10");
+}
+
+#[test]
+fn missing_and_halting_rules() {
+    for (rule, verdict) in [([0; 4], Verdict::Stuck), ([4, 0, 0, 0], Verdict::Halted)] {
+        let image = image_of(rule);
+        assert_eq!(judged(&image, b""), (verdict, 1, [0, 0, 0]));
+        assert_eq!(ran(&image, b""), (verdict, 0, [0, 0, 0]));
+        // It comes before spent.
+        assert_eq!(twin::plain_run(&image, b"", 0, &mut [9]).unwrap().verdict, verdict);
+    }
+    for rule in [[4, 1, 0, 0], [4, 0, 1, 0], [4, 0, 0, 1], [5, 0, 0, 0], [255, 0, 0, 0]] {
+        assert_eq!(twin::check(&image_of(rule)), Err(Refusal::new(Reason::ImageRule, 292).into()), "{rule:?}");
+    }
 }

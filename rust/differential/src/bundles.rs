@@ -1,6 +1,7 @@
 //! Random bundles, right and wrong, and the cases made of them.
 
 use crate::damage::{damage, damage_rule};
+use crate::edges::tools::HALT;
 use crate::findings::Findings;
 use crate::rng::Rng;
 use crate::{compare, grammars, machines, sides};
@@ -18,12 +19,25 @@ struct Draft {
 /// An image by whose classes the first byte that is no `a` decides: `e` ends, `l` loops, any other is stuck; where there
 /// is none, the right marker accepts. It has two states, of which 1 is final, and one symbol: n bytes need 2 (n + 2) cells.
 pub fn deciding() -> Vec<u8> {
+    deciding_by(&[(b'a', RIGHT), (b'e', [3, 0, 0, 0]), (b's', [0; 4]), (b'l', [1, 0, 0, 0])])
+}
+
+/// The same, but that `h` halts.
+pub fn deciding_to_halt() -> Vec<u8> {
+    deciding_by(&[(b'a', RIGHT), (b'e', [3, 0, 0, 0]), (b's', [0; 4]), (b'l', [1, 0, 0, 0]), (b'h', HALT)])
+}
+
+const RIGHT: [u8; 4] = [1, 0, 0, 1];
+
+/// One class for each of these bytes, with its rule; any other byte is of class 2.
+fn deciding_by(bytes: &[(u8, [u8; 4])]) -> Vec<u8> {
     let mut class_map = [2; 256];
-    (class_map[b'a' as usize], class_map[b'e' as usize], class_map[b'l' as usize]) = (0, 1, 3);
-    let right = [1, 0, 0, 1];
-    let mut rules = vec![right, [3, 0, 0, 0], [0; 4], [1, 0, 0, 0], right, [3, 1, 0, 0]];
-    rules.resize(12, [0; 4]);
-    write(&Parts { states: 2, classes: 4, symbols: 1, finals: 0b10, class_map, rules })
+    for (class, &(byte, _)) in (0..).zip(bytes) {
+        class_map[byte as usize] = class;
+    }
+    let mut rules: Vec<[u8; 4]> = bytes.iter().map(|&(_, rule)| rule).chain([RIGHT, [3, 1, 0, 0]]).collect();
+    rules.resize(2 * rules.len(), [0; 4]);
+    write(&Parts { states: 2, classes: bytes.len() as u8, symbols: 1, finals: 0b10, class_map, rules })
 }
 
 /// An image and captures for it, sometimes as many as a bundle holds.
@@ -48,8 +62,9 @@ fn image_with_captures(rng: &mut Rng) -> (Vec<u8>, Vec<Vec<u8>>) {
         }
         2..=3 => (machines::small_image(rng), (0..count).map(|_| machines::capture(rng)).collect()),
         _ => {
-            let some = |rng: &mut Rng| (0..rng.below(12)).map(|_| rng.pick(b"aaaaaaaels")).collect();
-            (deciding(), (0..count).map(|_| some(rng)).collect())
+            let some = |rng: &mut Rng| (0..rng.below(12)).map(|_| rng.pick(b"aaaaaaaaelsh")).collect();
+            let image = if rng.percent(50) { deciding() } else { deciding_to_halt() };
+            (image, (0..count).map(|_| some(rng)).collect())
         }
     };
     if rng.percent(30) {

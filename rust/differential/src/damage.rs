@@ -48,8 +48,12 @@ fn change(rng: &mut Rng, bytes: &mut [u8], places: &[usize]) {
 pub fn damage_rule(rng: &mut Rng, image: &mut [u8]) {
     let at = 288 + 4 * rng.below((image.len() - 288) / 4);
     let (states, symbols) = (image[24] as usize, image[26] as usize);
-    let kind = rng.within(0..=4);
+    let kind = rng.within(0..=5);
     let symbol = if kind == 3 && rng.percent(80) { 0 } else { rng.within(0..=symbols) };
-    let rule = [kind, rng.within(0..=states), symbol, rng.within(0..=3)];
+    let mut rule = [kind, rng.within(0..=states), symbol, rng.within(0..=3)];
+    // One that stops the run says nothing more: half of these are good.
+    if (kind == 0 || kind == 4) && rng.percent(50) {
+        rule = [kind, 0, 0, 0];
+    }
     image[at..at + 4].copy_from_slice(&rule.map(|part| part as u8));
 }

@@ -2,7 +2,7 @@
 //! a number, and its digits are the rules or the bytes.
 
 use crate::bundles::deciding;
-use crate::edges::tools::{blank, set};
+use crate::edges::tools::{blank, set, HALT};
 use crate::findings::Findings;
 use crate::kinds::{grammar_on, text_on};
 use crate::rng::Rng;
@@ -16,7 +16,7 @@ pub struct Machines {
     states: u8,
     symbols: u8,
     finals: u32,
-    length: usize,
+    pub length: usize,
 }
 
 /// With no byte on the tape the rules for bytes play no part, and machines may be a little larger.
@@ -37,6 +37,7 @@ impl Machines {
         if class == 0 && self.length == 0 {
             return rules;
         }
+        rules.push(HALT);
         for state in 0..self.states {
             for kind in [1, 2] {
                 for symbol in 0..self.symbols {
@@ -53,7 +54,7 @@ impl Machines {
         of_one_pair.pow(self.states as u32 * self.symbols as u32)
     }
 
-    fn image(&self, mut number: usize) -> Vec<u8> {
+    pub fn image(&self, mut number: usize) -> Vec<u8> {
         let mut parts = blank(self.states, 1, self.symbols, self.finals);
         for state in 0..self.states as usize {
             for class in 0..3 {

@@ -115,6 +115,11 @@ impl Tally {
         self.kinds.iter().map(|(_, count)| count.cases).sum()
     }
 
+    /// How many runs of one kind had this verdict.
+    pub fn runs(&mut self, kind: &'static str, verdict: Verdict) -> usize {
+        self.count(kind).verdicts.get(&verdict.to_string()).copied().unwrap_or(0)
+    }
+
     /// What the checks for left recursion of one kind came to.
     pub fn recursion(&mut self, kind: &'static str) -> Seen {
         self.count(kind).recursion.clone()

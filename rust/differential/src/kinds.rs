@@ -3,7 +3,7 @@
 use crate::damage::{damage, damage_rule};
 use crate::findings::Findings;
 use crate::rng::Rng;
-use crate::{bundles, compare, grammars, machines, program, recursion, sides, texts};
+use crate::{bundles, compare, grammars, machines, program, recursion, sides, stops, texts};
 use model::answer::{Judged, Verdict};
 use model::grammar::Part;
 use model::parse::{parse, parse_from, Parsed};
@@ -21,7 +21,7 @@ pub struct Kind {
 }
 
 pub const KINDS: &[Kind] = &[
-    Kind { name: "machines", seed: 0x5e71_0001, share: 3600, case: machine },
+    Kind { name: MACHINES, seed: 0x5e71_0001, share: 3600, case: machine },
     Kind { name: "grammars", seed: 0x5e71_0002, share: 2500, case: grammar_case },
     Kind { name: "damaged-images", seed: 0x5e71_0003, share: 1400, case: damaged_image },
     Kind { name: "damaged-grammars", seed: 0x5e71_0004, share: 900, case: damaged_grammar },
@@ -34,9 +34,11 @@ pub const KINDS: &[Kind] = &[
     Kind { name: "bundles", seed: 0x5e71_000b, share: 1200, case: bundles::case },
     Kind { name: RECURSION, seed: 0x5e71_000c, share: 1500, case: recursion::case },
     Kind { name: "damaged-recursion", seed: 0x5e71_000d, share: 500, case: recursion::damaged },
+    Kind { name: "stops", seed: 0x5e71_000e, share: 500, case: stops::case },
 ];
 
-/// Its cases are looked at together too.
+/// The cases of each of these are looked at together too.
+pub const MACHINES: &str = "machines";
 pub const RECURSION: &str = "recursion";
 
 /// Parsing that takes more calls is not compared: the judge has no such limit, plain recursion has.
@@ -46,7 +48,7 @@ const PARSE_CALLS: usize = 20_000;
 const SHORT: usize = 40;
 
 /// Plain runs that might not end get about so many steps.
-const LONG: usize = 10_000;
+pub const LONG: usize = 10_000;
 
 /// A good image with a capture, in every call.
 fn machine(found: &mut Findings, rng: &mut Rng) {
@@ -57,14 +59,14 @@ fn machine(found: &mut Findings, rng: &mut Rng) {
 }
 
 /// Judges with a few cells more than needed.
-fn judge_with_spare_cells(found: &mut Findings, rng: &mut Rng, image: &[u8], capture: &[u8]) -> Option<Judged> {
+pub fn judge_with_spare_cells(found: &mut Findings, rng: &mut Rng, image: &[u8], capture: &[u8]) -> Option<Judged> {
     let needed = sides::cells(found, image, capture.len()).unwrap_or(8);
     let (notes, work) = (needed + rng.below(9), needed + rng.below(9));
     sides::judge(found, rng, image, capture, notes, work).ok()
 }
 
 /// Budget and cells near those that the run takes, or anything.
-fn some_plain_run(found: &mut Findings, rng: &mut Rng, image: &[u8], capture: &[u8], long: usize) {
+pub fn some_plain_run(found: &mut Findings, rng: &mut Rng, image: &[u8], capture: &[u8], long: usize) {
     let (steps, height, ends) = match image::read(image) {
         Ok(machine) => sides::measure(machine, capture, long),
         Err(_) => (3, 3, false),

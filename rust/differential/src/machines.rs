@@ -1,5 +1,6 @@
 //! Random machines, mostly small and with dense rules, in three styles whose runs do a lot.
 
+use crate::edges::tools::{HALT, NONE};
 use crate::lively::{liveliest, Drawn};
 use crate::rng::Rng;
 use model::image::{write, Parts};
@@ -22,8 +23,10 @@ struct Recipe {
     style: Style,
     /// How many rules in a thousand are wild whatever the style.
     noise: usize,
-    /// Weights of the kinds 0 to 3 in a wild rule.
-    kinds: [usize; 4],
+    /// Weights of the kinds 0 to 4 in a wild rule.
+    kinds: [usize; 5],
+    /// How many rules in a thousand are missing or halt, whatever the style.
+    stops: usize,
     /// Weights of stay, right and left.
     moves: [usize; 3],
     /// How many removals in a hundred return.
@@ -53,7 +56,14 @@ pub fn image_of(rng: &mut Rng, (states, classes, symbols): (usize, usize, usize)
         symbols,
         style: rng.pick(&[Style::Wild, Style::Ranked, Style::Ranked, Style::Sweeping]),
         noise: rng.pick(&[0, 0, 2, 10, 50]),
-        kinds: [rng.pick(&[0, 0, 1, 2]), rng.within(1..=8), rng.within(1..=6), rng.within(1..=8)],
+        kinds: [
+            rng.pick(&[0, 0, 1, 2]),
+            rng.within(1..=8),
+            rng.within(1..=6),
+            rng.within(1..=8),
+            rng.pick(&[0, 0, 1, 2]),
+        ],
+        stops: rng.pick(&[0, 0, 20, 50]),
         moves: rng.pick(&[[2, 2, 2], [1, 4, 1], [1, 3, 2], [4, 2, 1], [0, 1, 1], [0, 5, 1]]),
         returns: rng.pick(&[0, 20, 50, 100]),
     };
@@ -85,6 +95,9 @@ fn rule(rng: &mut Rng, recipe: &Recipe, state: usize, class: usize, symbol: usiz
     if rng.below(1000) < recipe.noise {
         return wild(rng, recipe, class);
     }
+    if rng.below(1000) < recipe.stops {
+        return rng.pick(&[NONE, HALT]);
+    }
     match recipe.style {
         Style::Wild => wild(rng, recipe, class),
         Style::Ranked => ranked(rng, recipe, state, class, symbol),
@@ -95,7 +108,8 @@ fn rule(rng: &mut Rng, recipe: &Recipe, state: usize, class: usize, symbol: usiz
 fn wild(rng: &mut Rng, recipe: &Recipe, class: usize) -> [u8; 4] {
     let (state, symbol) = (rng.below(recipe.states), rng.below(recipe.symbols));
     match rng.weighted(&recipe.kinds) {
-        0 => [0; 4],
+        0 => NONE,
+        4 => HALT,
         3 => pop(rng, recipe, state),
         kind => [kind as u8, state as u8, symbol as u8, some_move(rng, recipe, class)],
     }

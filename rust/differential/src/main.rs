@@ -21,10 +21,11 @@ mod rng;
 #[cfg(test)]
 mod selftest;
 mod sides;
+mod stops;
 mod texts;
 
 use findings::{Findings, Tally};
-use kinds::{KINDS, RECURSION};
+use kinds::{KINDS, MACHINES, RECURSION};
 use rng::Rng;
 use std::panic::{catch_unwind, AssertUnwindSafe};
 use std::process::ExitCode;
@@ -32,7 +33,7 @@ use std::time::Instant;
 use std::{env, process};
 
 /// How many random cases run where SEJIMAKPU_CASES says nothing.
-const CASES: usize = 94_200;
+const CASES: usize = 97_200;
 
 fn main() -> ExitCode {
     let arguments: Vec<String> = env::args().skip(1).collect();
@@ -77,8 +78,10 @@ fn all(tally: &mut Tally, cases: usize) {
             run_random(tally, kind, case as u64);
         }
     }
-    // Fewer cases than usual may leave a rule out.
+    // Fewer cases than usual may leave a verdict or a rule out.
     if cases >= CASES {
+        let runs = lively::VERDICTS.map(|verdict| tally.runs(MACHINES, verdict));
+        run(tally, MACHINES, "all together", |found| lively::each_often(found, runs));
         let seen = tally.recursion(RECURSION);
         run(tally, RECURSION, "all together", |found| seen.enough(found, 31));
     }

@@ -28,6 +28,7 @@ pub enum Verdict {
     Looping,
     Spent,
     Deep,
+    Halted,
 }
 
 impl fmt::Display for Verdict {
@@ -39,6 +40,7 @@ impl fmt::Display for Verdict {
             Verdict::Looping => "looping",
             Verdict::Spent => "spent",
             Verdict::Deep => "deep",
+            Verdict::Halted => "halted",
         })
     }
 }

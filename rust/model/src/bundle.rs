@@ -18,6 +18,7 @@ pub struct Totals {
     pub ended: u64,
     pub stuck: u64,
     pub looping: u64,
+    pub halted: u64,
     pub refusals: u64,
     pub readings: u64,
 }
@@ -77,6 +78,7 @@ pub fn totals(lines: &[Line]) -> Totals {
             Verdict::Ended => &mut totals.ended,
             Verdict::Stuck => &mut totals.stuck,
             Verdict::Looping => &mut totals.looping,
+            Verdict::Halted => &mut totals.halted,
             verdict => unreachable!("judging never says {verdict}"),
         } += 1;
     }

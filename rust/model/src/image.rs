@@ -87,7 +87,8 @@ fn is_bad(machine: &Machine, class: usize, rule: &[u8]) -> bool {
     let bad_state = state >= machine.states;
     let off_the_tape = class == machine.classes && go == 2 || class == machine.classes + 1 && go == 1;
     match kind {
-        0 => state != 0 || symbol != 0 || go != 0,
+        // A missing rule and a halting one say nothing more.
+        0 | 4 => state != 0 || symbol != 0 || go != 0,
         1 | 2 => bad_state || symbol >= machine.symbols || go > 2 || off_the_tape,
         3 => bad_state || symbol != 0 || go > 1,
         _ => true,

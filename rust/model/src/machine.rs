@@ -24,12 +24,14 @@ impl Move {
     }
 }
 
+/// What is done. `None` is no rule at all, where `Halt` is one written to stop the run.
 #[derive(Clone, Copy, Debug, PartialEq, Eq)]
 pub enum Rule {
     None,
     Change { state: usize, symbol: usize, go: Move },
     Push { state: usize, symbol: usize, go: Move },
     Pop { state: usize, returns: bool },
+    Halt,
 }
 
 /// A good image's bytes with its counts read. Made by [`crate::image::read`] alone.
@@ -73,6 +75,7 @@ impl<'a> Machine<'a> {
             1 => Rule::Change { state, symbol, go: tape_move(bytes[3]) },
             2 => Rule::Push { state, symbol, go: tape_move(bytes[3]) },
             3 => Rule::Pop { state, returns: bytes[3] == 1 },
+            4 => Rule::Halt,
             kind => unreachable!("kind {kind} in a checked image"),
         }
     }

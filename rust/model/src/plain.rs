@@ -4,15 +4,17 @@ use crate::answer::{Ran, Verdict};
 use crate::machine::{Machine, Rule};
 use crate::run::{Run, Step};
 
-/// Before each step: stuck first, then spent, then deep.
+/// Before each step: stuck or halted first, then spent, then deep.
 pub fn run(machine: Machine, capture: &[u8], budget: u32, cells: usize) -> Ran {
     let mut run = Run::start(machine, capture);
     let mut steps: u64 = 0;
     loop {
         let (reached, rule) = (run.config(), run.rule());
         let answer = |verdict, steps| Ran { verdict, steps, reached };
-        if rule == Rule::None {
-            return answer(Verdict::Stuck, steps);
+        match rule {
+            Rule::None => return answer(Verdict::Stuck, steps),
+            Rule::Halt => return answer(Verdict::Halted, steps),
+            Rule::Change { .. } | Rule::Push { .. } | Rule::Pop { .. } => {}
         }
         if steps == budget as u64 {
             return answer(Verdict::Spent, steps);

@@ -22,6 +22,8 @@ pub struct Run<'a> {
 pub enum Step {
     /// There is no rule: no step was taken.
     Stuck,
+    /// The rule halts the run: no step was taken either.
+    Halted,
     Changed,
     Pushed,
     /// The top entry was removed and another is on top now.
@@ -51,6 +53,7 @@ impl<'a> Run<'a> {
     pub fn step(&mut self) -> Step {
         match self.rule() {
             Rule::None => Step::Stuck,
+            Rule::Halt => Step::Halted,
             Rule::Change { state, symbol, go } => {
                 let pointer = self.top().pointer;
                 self.stack.pop();

@@ -39,7 +39,8 @@ struct Graph<'a> {
     fresh: Vec<u32>,
     /// Nodes whose terminator has just become known.
     solved: Vec<u32>,
-    stuck: Option<Config>,
+    /// Where no rule leads on, and whether the run is stuck or halted there.
+    stopped: Option<(Verdict, Config)>,
 }
 
 pub fn judge(machine: Machine, capture: &[u8]) -> Outcome {
@@ -50,7 +51,7 @@ pub fn judge(machine: Machine, capture: &[u8]) -> Outcome {
         node_of: vec![NONE; machine.configs(capture.len())],
         fresh: Vec::new(),
         solved: Vec::new(),
-        stuck: None,
+        stopped: None,
     };
     let start = graph.node(Config { state: 0, head: 0, symbol: 0 });
     graph.saturate();
@@ -96,7 +97,8 @@ impl Graph<'_> {
     fn look(&mut self, node: u32) {
         let config = self.nodes[node as usize].config;
         match self.machine.rule(self.capture, config) {
-            Rule::None => self.stuck = Some(config),
+            Rule::None => self.stopped = Some((Verdict::Stuck, config)),
+            Rule::Halt => self.stopped = Some((Verdict::Halted, config)),
             Rule::Change { state, symbol, go } => {
                 let next = self.node(Config { state, head: go.from(config.head), symbol });
                 self.lead(node, next);
@@ -176,10 +178,7 @@ impl Graph<'_> {
             let (state, head) = self.removed(end, 0);
             return (verdict_at_end(&self.machine, self.capture, state, head), end);
         }
-        match self.stuck {
-            Some(config) => (Verdict::Stuck, config),
-            None => (Verdict::Looping, self.first_again(start)),
-        }
+        self.stopped.unwrap_or_else(|| (Verdict::Looping, self.first_again(start)))
     }
 
     /// The first configuration of an endless run to come again above its earlier entry. Entries that are removed again

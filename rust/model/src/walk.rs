@@ -54,7 +54,7 @@ impl Books {
         }
     }
 
-    /// What is still listed when the run is stuck or found to loop has no terminator, this time or any other.
+    /// What is still listed when the run is stuck, halted or found to loop has no terminator, this time or any other.
     fn close(&self) {
         for &number in self.entered_on.iter().flatten() {
             assert!(self.notes[number] == 1, "{number} had a terminator and has none now");
@@ -79,6 +79,7 @@ pub fn judge(machine: Machine, capture: &[u8], limit: usize) -> Option<Walked> {
         }
         match run.step() {
             Step::Stuck => return walked(Verdict::Stuck, books, steps),
+            Step::Halted => return walked(Verdict::Halted, books, steps),
             Step::Over(verdict) => {
                 books.remove(number);
                 return walked(verdict, books, steps + 1);

@@ -144,11 +144,33 @@ fn a_bundle_judged_by_hand() {
         judged(Accepted, 2, 1),
         judged(Accepted, 2, 1),
     ];
-    let totals = Totals { accepted: 3, ended: 1, stuck: 1, looping: 1, refusals: 1, readings: 17 };
+    let totals = Totals { accepted: 3, ended: 1, stuck: 1, looping: 1, halted: 0, refusals: 1, readings: 17 };
     assert_eq!(report, Report { lines, totals });
     // The last one wrote four notes; behind them l left two more, and aas four more. The refused one left all as it was.
     assert_eq!(notes, [3, 3, 0, 0, 0, 0, 0, 0, 0, 0, 77, 77]);
     assert_eq!(work, [0, 0, 0, 0, 0, 0, 0, 0, 0, 0, 88]);
+}
+
+#[test]
+fn halted_lines_are_counted_apart() {
+    // The same machine, halted by `e` where it would have ended.
+    let mut image = deciding();
+    image[292..296].copy_from_slice(&[4, 0, 0, 0]);
+    let bundle = write(5, &[(44, 1), (45, 3), (48, 1), (49, 3), (52, 0)], b"eaasaaae");
+    let (mut notes, mut work) = (vec![77; 12], vec![88; 12]);
+    let report = by_model(&image, &bundle, &mut notes, &mut work).unwrap();
+    let lines = vec![
+        judged(Verdict::Halted, 2, 1),
+        judged(Verdict::Stuck, 4, 3),
+        judged(Verdict::Accepted, 3, 2),
+        judged(Verdict::Halted, 4, 3),
+        judged(Verdict::Accepted, 2, 1),
+    ];
+    let totals = Totals { accepted: 2, stuck: 1, halted: 2, readings: 15, ..Totals::default() };
+    assert_eq!(report, Report { lines, totals });
+    // The last one wrote four notes; behind them aae left what it entered, without terminators.
+    assert_eq!(notes, [3, 3, 0, 0, 0, 0, 0, 0, 0, 0, 77, 77]);
+    assert_eq!(work, [0, 0, 0, 0, 0, 0, 0, 0, 0, 0, 88, 88]);
 }
 
 #[test]
@@ -180,7 +202,7 @@ fn refusals_in_their_order() {
     assert_eq!(refusal(&[0; 31], &wrong), Err((1, 31)));
     assert_eq!(refusal(&[0; 32], &[]), Err((2, 0)));
     let mut image = deciding();
-    image[288] = 4;
+    image[288] = 5;
     assert_eq!(refusal(&image, &wrong), Err((6, 288)));
     assert_eq!(refusal(&deciding(), &wrong), Err((18, 4)));
     assert_eq!(refusal(&deciding(), &[]), Err((18, 0)));
@@ -194,6 +216,8 @@ fn totals_past_32_bits() {
     let lines = vec![judged(Verdict::Stuck, most, 0); 64];
     assert_eq!(totals(&lines), Totals { stuck: 64, readings: 64 * most as u64, ..Totals::default() });
     assert_eq!(totals(&lines).readings, 17_180_131_328);
+    let lines = vec![judged(Verdict::Halted, most, 0); 64];
+    assert_eq!(totals(&lines), Totals { halted: 64, readings: 64 * most as u64, ..Totals::default() });
     let refusal = Err(Refusal { number: 9, place: most });
     let lines = [vec![refusal; 63], vec![judged(Verdict::Ended, u32::MAX as usize, 0)]].concat();
     let readings = u32::MAX as u64;

@@ -10,7 +10,7 @@ pub enum Verdict {
     Accepted = 1,
     /// The run removed its last entry otherwise.
     Ended,
-    /// The run came to a configuration that has no rule.
+    /// The run came to a configuration that has no rule. Where a rule halts it on purpose it is [`Halted`](Self::Halted).
     Stuck,
     /// The run has no end. Never said by [`plain_run`](crate::plain_run), nor of a grammar that passes
     /// [`check_recursion`](crate::check_recursion).
@@ -19,10 +19,12 @@ pub enum Verdict {
     Spent,
     /// A push found no stack cell. Said by [`plain_run`](crate::plain_run) alone.
     Deep,
+    /// The run came to a rule that is written to halt it. Never said of a grammar's image, which has no such rule.
+    Halted,
 }
 
 impl Verdict {
-    /// The verdict of a number, if there is one: 1 to 6.
+    /// The verdict of a number, if there is one: 1 to 7.
     pub(crate) fn of_number(number: u64) -> Option<Verdict> {
         Some(match number {
             1 => Verdict::Accepted,
@@ -31,6 +33,7 @@ impl Verdict {
             4 => Verdict::Looping,
             5 => Verdict::Spent,
             6 => Verdict::Deep,
+            7 => Verdict::Halted,
             _ => return None,
         })
     }
@@ -50,6 +53,7 @@ impl fmt::Display for Verdict {
             Verdict::Looping => "looping",
             Verdict::Spent => "spent",
             Verdict::Deep => "deep",
+            Verdict::Halted => "halted",
         })
     }
 }
@@ -69,11 +73,11 @@ pub struct Config {
 #[must_use = "only an accepted capture passes"]
 #[derive(Clone, Copy, Debug, PartialEq, Eq, Hash)]
 pub struct Judged {
-    /// Accepted, ended, stuck or looping.
+    /// Accepted, ended, stuck, looping or halted.
     pub verdict: Verdict,
     /// How many different configurations the run enters.
     pub readings: u32,
-    /// The configuration that removed the last entry, the stuck one, or the first to come again.
+    /// The configuration that removed the last entry, the stuck or halting one, or the first to come again.
     pub end: Config,
 }
 
@@ -81,7 +85,7 @@ pub struct Judged {
 #[must_use = "only an accepted capture passes"]
 #[derive(Clone, Copy, Debug, PartialEq, Eq, Hash)]
 pub struct Ran {
-    /// Accepted, ended, stuck, spent or deep.
+    /// Accepted, ended, stuck, spent, deep or halted.
     pub verdict: Verdict,
     /// The steps taken.
     pub steps: u32,

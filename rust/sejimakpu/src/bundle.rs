@@ -177,11 +177,11 @@ mod tests {
 
     #[test]
     fn totals_by_verdict() {
-        use Verdict::{Accepted, Deep, Ended, Looping, Spent, Stuck};
+        use Verdict::{Accepted, Deep, Ended, Halted, Looping, Spent, Stuck};
         let totals = report().totals();
         assert_eq!(
-            [Accepted, Ended, Stuck, Looping, Spent, Deep].map(|verdict| totals.of(verdict)),
-            [1, 2, 3, 4, 5, 6]
+            [Accepted, Ended, Stuck, Looping, Spent, Deep, Halted].map(|verdict| totals.of(verdict)),
+            [1, 2, 3, 4, 5, 6, 7]
         );
         assert_eq!((totals.refusals(), totals.readings()), (8, 1 << 40));
     }

@@ -22,14 +22,14 @@ fn named(name: &str, number: u32, word: &str) {
 fn verdicts() {
     named("NO_VERDICT", 0, "none");
     assert_eq!(Verdict::of_number(0), None);
-    let names = ["ACCEPTED", "ENDED", "STUCK", "LOOPING", "SPENT", "DEEP"];
+    let names = ["ACCEPTED", "ENDED", "STUCK", "LOOPING", "SPENT", "DEEP", "HALTED"];
     for (number, name) in (1..).zip(names) {
         let verdict = Verdict::of_number(number.into()).unwrap();
         assert_eq!(verdict.number(), number as usize);
         assert_eq!(format!("{verdict:?}").to_uppercase(), name);
         named(name, number, &verdict.to_string());
     }
-    assert_eq!(Verdict::of_number(7), None);
+    assert_eq!(Verdict::of_number(8), None);
 }
 
 #[test]

@@ -11,7 +11,7 @@ const PAIR: usize = 8;
 #[derive(Clone, Debug, Default, PartialEq, Eq)]
 pub struct Report {
     pub lines: Vec<Result<Judged, Refusal>>,
-    verdicts: [u64; 4],
+    verdicts: [u64; 5],
     pub refusals: u64,
     pub readings: u64,
 }
@@ -43,6 +43,7 @@ fn index(verdict: Verdict) -> Option<usize> {
         Verdict::Ended => Some(1),
         Verdict::Stuck => Some(2),
         Verdict::Looping => Some(3),
+        Verdict::Halted => Some(4),
         _ => None,
     }
 }

@@ -114,16 +114,19 @@ fn check_rules(rules: &[u8], counts: Counts) -> Result<(), Error> {
     Ok(())
 }
 
+/// Asked in the library's order. As a match on the kind it took a third longer.
 fn is_bad([kind, state, symbol, direction]: [u8; 4], class: u32, counts: Counts) -> bool {
-    let state_is_bad = u32::from(state) >= counts.states;
-    match kind {
-        0 => state != 0 || symbol != 0 || direction != 0,
-        1 | 2 => {
-            let off_the_tape =
-                (class == counts.classes && direction == 2) || (class == counts.classes + 1 && direction == 1);
-            state_is_bad || u32::from(symbol) >= counts.symbols || direction > 2 || off_the_tape
-        }
-        3 => state_is_bad || symbol != 0 || direction > 1,
-        _ => true,
+    if kind > 4 {
+        return true;
     }
+    // No rule, or one that halts: there is nothing more to say.
+    if kind == 0 || kind == 4 {
+        return state != 0 || symbol != 0 || direction != 0;
+    }
+    let state_is_bad = u32::from(state) >= counts.states;
+    if kind == 3 {
+        return state_is_bad || symbol != 0 || direction > 1;
+    }
+    let off_the_tape = (class == counts.classes && direction == 2) || (class == counts.classes + 1 && direction == 1);
+    state_is_bad || u32::from(symbol) >= counts.symbols || direction > 2 || off_the_tape
 }

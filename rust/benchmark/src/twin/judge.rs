@@ -50,9 +50,9 @@ impl Record {
         if note == NEW {
             self.readings += 1;
             match machine.action(self.at) {
-                Action::Stop => {
+                Action::Stop(stop) => {
                     self.open(notes, work);
-                    self.mode = Mode::Clear(Verdict::Stuck);
+                    self.mode = Mode::Clear(stop.verdict());
                 }
                 Action::Change(next) => {
                     self.open(notes, work);

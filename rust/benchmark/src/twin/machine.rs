@@ -3,9 +3,32 @@ use super::cells::Reciprocal;
 use super::check::{Counts, MAP, RULES};
 use sejimakpu::{Config, Verdict};
 
+/// Why a rule stops a run: there is none, or it is written to halt it.
+pub(super) enum Stop {
+    Missing,
+    Halting,
+}
+
+impl Stop {
+    fn of(kind: u8) -> Self {
+        if kind == 4 {
+            Stop::Halting
+        } else {
+            Stop::Missing
+        }
+    }
+
+    pub fn verdict(self) -> Verdict {
+        match self {
+            Stop::Missing => Verdict::Stuck,
+            Stop::Halting => Verdict::Halted,
+        }
+    }
+}
+
 /// What a configuration's rule does. A change and a push name the configuration that they lead to.
 pub(super) enum Action {
-    Stop,
+    Stop(Stop),
     Change(Config),
     Push(Config),
     Pop { state: u32, returns: bool },
@@ -104,7 +127,7 @@ impl<'a> Machine<'a> {
             1 => Action::Change(next()),
             2 => Action::Push(next()),
             3 => Action::Pop { state, returns: direction == 1 },
-            _ => Action::Stop,
+            kind => Action::Stop(Stop::of(kind)),
         }
     }
 

@@ -16,6 +16,7 @@ use sejimakpu::{Config, Error, Judged, Verdict};
 const CHANGE: u32 = 1;
 const PUSH: u32 = 2;
 const POP: u32 = 3;
+const HALT: u32 = 4;
 const RIGHT: u32 = 1;
 const LEFT: u32 = 2;
 const RETURNS: u32 = 1;
@@ -85,10 +86,11 @@ fn run<O: Opens>(machine: &Machine, notes: &mut [u32], work: &mut [u32]) -> Judg
                     (end, end_column) = (Config { state, head, symbol }, column);
                     (next, direction) = (rule[1], rule[3]);
                 }
-                _ => {
+                kind => {
                     notes[number as usize] = ENDLESS;
                     give_up(opens, notes, work);
-                    return Judged { verdict: Verdict::Stuck, readings, end: Config { state, head, symbol } };
+                    let verdict = if kind == HALT { Verdict::Halted } else { Verdict::Stuck };
+                    return Judged { verdict, readings, end: Config { state, head, symbol } };
                 }
             }
         } else if note >= OPEN_BIT {

@@ -2,6 +2,8 @@
 //! here, so that the model is held against it too.
 
 mod bundles;
+mod halted_reports;
+mod halting;
 mod inverted;
 mod long;
 mod numbers;
@@ -45,12 +47,14 @@ pub fn all() -> Vec<Edge> {
     inverted::add(&mut edges);
     refusals::add(&mut edges);
     runs::add(&mut edges);
+    halting::add(&mut edges);
     long::add(&mut edges);
     numbers::add(&mut edges);
     program::add(&mut edges);
     texts::add(&mut edges);
     bundles::add(&mut edges);
     reports::add(&mut edges);
+    halted_reports::add(&mut edges);
     recursion::add(&mut edges);
     recursive_texts::add(&mut edges);
     edges.0

@@ -131,14 +131,21 @@ fn classes(edges: &mut Edges) {
     changed(edges, "the last class", &[(287, 3)], 5, 287);
     changed(edges, "a class of 255", &[(100, 255)], 5, 100);
     changed(edges, "two classes", &[(101, 64), (200, 3)], 5, 101);
-    changed(edges, "the last class and the first rule", &[(287, 3), (288, 4)], 5, 287);
+    changed(edges, "the last class and the first rule", &[(287, 3), (288, 5)], 5, 287);
 }
 
 /// Each kind of bad rule, as the first rule and as the last one.
 fn bad_rules(edges: &mut Edges) {
     let bad: &[(&str, [u8; 4])] = &[
-        ("kind 4", [4, 0, 0, 0]),
+        ("kind 5", [5, 0, 0, 0]),
         ("kind 255", [255, 0, 0, 0]),
+        ("halt with state 1", [4, 1, 0, 0]),
+        ("halt with state 255", [4, 255, 0, 0]),
+        ("halt with symbol 1", [4, 0, 1, 0]),
+        ("halt with symbol 255", [4, 0, 255, 0]),
+        ("halt with move 1", [4, 0, 0, 1]),
+        ("halt with move 255", [4, 0, 0, 255]),
+        ("halt with all of them", [4, 1, 1, 1]),
         ("none with a state", [0, 1, 0, 0]),
         ("none with a symbol", [0, 0, 1, 0]),
         ("none with a move", [0, 0, 0, 1]),

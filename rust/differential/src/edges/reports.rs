@@ -10,12 +10,12 @@ use model::answer::Verdict::*;
 use model::answer::{Judged, Refusal};
 use model::bundle::{write, Line, Report, Totals};
 
-fn refusal(number: u32, place: usize) -> Line {
+pub fn refusal(number: u32, place: usize) -> Line {
     Err(Refusal { number, place })
 }
 
 /// A bundle of these captures, one behind the other.
-fn of(captures: &[&[u8]]) -> Vec<u8> {
+pub fn of(captures: &[&[u8]]) -> Vec<u8> {
     let mut offset = 4 + 8 * captures.len() as u32;
     let mut pairs = Vec::new();
     for capture in captures {
@@ -26,7 +26,7 @@ fn of(captures: &[&[u8]]) -> Vec<u8> {
 }
 
 /// The report has these lines and these totals.
-fn told(
+pub fn told(
     found: &mut Findings,
     rng: &mut Rng,
     (image, bundle): (&[u8], &[u8]),
@@ -59,7 +59,7 @@ fn verdicts(edges: &mut Edges) {
             reported(Ended, 3, 2),
             reported(Looping, 4, 3),
         ];
-        let totals = Totals { accepted: 2, ended: 2, stuck: 1, looping: 2, refusals: 1, readings: 22 };
+        let totals = Totals { accepted: 2, ended: 2, stuck: 1, looping: 2, halted: 0, refusals: 1, readings: 22 };
         told(found, rng, (&deciding(), &bundle), (15, 16), &lines, totals);
     });
     for (name, byte, verdict) in [("accepted", b'a', Accepted), ("ended", b'e', Ended), ("stuck", b's', Stuck)] {
@@ -188,7 +188,7 @@ fn order(edges: &mut Edges) {
                 (24, 3, 4, 20),
                 (32, 4, 5, 32),
                 (287, 255, 5, 287),
-                (288, 4, 6, 288),
+                (288, 5, 6, 288),
                 (good.len() - 1, 1, 6, good.len() - 4),
             ] {
                 let mut image = good.clone();

@@ -158,7 +158,7 @@ fn counts(edges: &mut Edges) {
         }
     });
     edges.add("1 state, 1 class, 1 symbol", |found, rng| {
-        for rule in [[0; 4], change(0, 0, STAY), push(0, 0, STAY), pop(0), pop_return(0)] {
+        for rule in [NONE, change(0, 0, STAY), push(0, 0, STAY), pop(0), pop_return(0), HALT] {
             let image = machine(1, 1, 1, &[(0, LEFT_MARKER, 0, rule)]);
             let _ = judge(found, rng, &image, b"");
             let _ = sides::plain_run(found, rng, &image, b"", 50, 20);

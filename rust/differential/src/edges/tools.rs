@@ -34,6 +34,10 @@ pub fn pop_return(state: u8) -> [u8; 4] {
     [3, state, 0, 1]
 }
 
+/// No rule, and the rule that halts on purpose.
+pub const NONE: [u8; 4] = [0; 4];
+pub const HALT: [u8; 4] = [4, 0, 0, 0];
+
 /// A machine without rules, with every byte in class 0.
 pub fn blank(states: u8, classes: u8, symbols: u8, finals: u32) -> Parts {
     let count = states as usize * (classes as usize + 2) * symbols as usize;

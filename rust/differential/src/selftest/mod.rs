@@ -1,5 +1,6 @@
 //! The tests can fail: wrong answers made on purpose are told apart from right ones by the comparing functions.
 
+mod halting;
 mod recursion;
 
 use crate::compare::{

@@ -74,14 +74,14 @@ pub fn put(left: &mut Bundling, report: &Result<Report, Refusal>) {
             for (at, line) in left.lines[FENCE..].iter_mut().zip(lines) {
                 *at = numbers(line);
             }
-            let Totals { accepted, ended, stuck, looping, refusals, readings } = *totals;
+            let Totals { accepted, ended, stuck, looping, halted, refusals, readings } = *totals;
             left.totals[FENCE..][..10]
-                .copy_from_slice(&[0, accepted, ended, stuck, looping, 0, 0, 0, refusals, readings]);
+                .copy_from_slice(&[0, accepted, ended, stuck, looping, 0, 0, halted, refusals, readings]);
         }
     }
 }
 
-/// A line as seven numbers; the verdicts that judging gives are 1 to 4.
+/// A line as seven numbers; the verdicts that judging gives are 1 to 4, and 7.
 fn numbers(line: &bundle::Line) -> Line {
     match line {
         Err(Refusal { number, place }) => [(*number).into(), *place as u64, 0, 0, 0, 0, 0],
@@ -91,6 +91,7 @@ fn numbers(line: &bundle::Line) -> Line {
                 Verdict::Ended => 2,
                 Verdict::Stuck => 3,
                 Verdict::Looping => 4,
+                Verdict::Halted => 7,
                 other => panic!("judging never says {other}"),
             };
             [0, 0, verdict, *readings as u64, end.state as u64, end.head as u64, end.symbol as u64]
@@ -123,6 +124,7 @@ fn reported(of: sejimakpu::Report) -> Report {
             ended: totals.of(sejimakpu::Verdict::Ended),
             stuck: totals.of(sejimakpu::Verdict::Stuck),
             looping: totals.of(sejimakpu::Verdict::Looping),
+            halted: totals.of(sejimakpu::Verdict::Halted),
             refusals: totals.refusals(),
             readings: totals.readings(),
         },

@@ -10,6 +10,7 @@ use crate::findings::Findings;
 use crate::rng::Rng;
 use model::answer::{Config, Judged, Ran, Refusal, Verdict};
 use model::machine::Machine;
+use model::run::{Run, Step};
 use model::{calls, image, summary, walk};
 
 pub use bundle::{judge_bundle, pack_bundle};
@@ -37,6 +38,7 @@ fn verdict(of: sejimakpu::Verdict) -> Verdict {
         sejimakpu::Verdict::Looping => Verdict::Looping,
         sejimakpu::Verdict::Spent => Verdict::Spent,
         sejimakpu::Verdict::Deep => Verdict::Deep,
+        sejimakpu::Verdict::Halted => Verdict::Halted,
         other => panic!("the model has no verdict {other}"),
     }
 }
@@ -76,13 +78,16 @@ pub fn judge(
     work: usize,
 ) -> Result<Judged, Refusal> {
     let (notes, work) = (rng.cells(notes), rng.cells(work));
-    let mut got_notes = notes.clone();
-    let mut got_work = work.clone();
-    let answer = sejimakpu::judge(image, capture, &mut got_notes, &mut got_work).map_err(refusal).map(judged);
-    let got = Judging { answer, notes: got_notes, work: got_work };
+    let got = judged_by_library(image, capture, notes.clone(), work.clone());
     let expected = judged_by_model(found, image, capture, notes, work);
     found.note(compare::judging(&expected, &got), &[("image", image), ("capture", capture)]);
     got.answer
+}
+
+/// Judging by the library, over these cells.
+pub fn judged_by_library(image: &[u8], capture: &[u8], mut notes: Vec<u32>, mut work: Vec<u32>) -> Judging {
+    let answer = sejimakpu::judge(image, capture, &mut notes, &mut work).map_err(refusal).map(judged);
+    Judging { answer, notes, work }
 }
 
 /// Judging by the model, in both of its ways where the run is short enough; these are compared too.
@@ -129,12 +134,7 @@ pub fn plain_run(
     cells: usize,
 ) -> Result<Ran, Refusal> {
     let mut stack = rng.cells(cells);
-    let mut got_stack = stack.clone();
-    let answer = sejimakpu::plain_run(image, capture, budget, &mut got_stack).map_err(refusal).map(|ran| {
-        let (verdict, steps) = (verdict(ran.verdict), ran.steps as u64);
-        Ran { verdict, steps, reached: config(ran.reached) }
-    });
-    let got = Running { answer, stack: got_stack };
+    let got = run_by_library(image, capture, budget, stack.clone());
     let answer = calls::plain_run(image::read(image), capture, budget, &mut stack);
     if let Ok(ran) = answer {
         found.verdicts.push(ran.verdict);
@@ -143,6 +143,15 @@ pub fn plain_run(
     let inputs: &[(&str, &[u8])] = &[("image", image), ("capture", capture), ("budget", &budget.to_le_bytes())];
     found.note(compare::running(&expected, &got), inputs);
     got.answer
+}
+
+/// The plain run by the library, over these cells.
+pub fn run_by_library(image: &[u8], capture: &[u8], budget: u32, mut stack: Vec<u32>) -> Running {
+    let answer = sejimakpu::plain_run(image, capture, budget, &mut stack).map_err(refusal).map(|ran| {
+        let (verdict, steps) = (verdict(ran.verdict), ran.steps as u64);
+        Ran { verdict, steps, reached: config(ran.reached) }
+    });
+    Running { answer, stack }
 }
 
 /// Building into a buffer of so many bytes; answers what the library built, if it did.
@@ -231,13 +240,13 @@ pub fn judge_text(
 
 /// How long a run is and how high its stack gets, if it ends within the limit; by the model's run.
 pub fn measure(machine: Machine, capture: &[u8], limit: usize) -> (usize, usize, bool) {
-    let mut run = model::run::Run::start(machine, capture);
+    let mut run = Run::start(machine, capture);
     let (mut steps, mut height) = (0, 1);
     while steps < limit {
         match run.step() {
-            model::run::Step::Stuck => return (steps, height, true),
-            model::run::Step::Over(_) => return (steps + 1, height, true),
-            _ => {
+            Step::Stuck | Step::Halted => return (steps, height, true),
+            Step::Over(_) => return (steps + 1, height, true),
+            Step::Changed | Step::Pushed | Step::Popped => {
                 steps += 1;
                 height = height.max(run.stack.len());
             }

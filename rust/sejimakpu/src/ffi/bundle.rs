@@ -78,7 +78,7 @@ pub(crate) fn judge_bundle(
 
 #[cfg(test)]
 mod tests {
-    use super::super::build;
+    use super::super::{build, tests::halting};
     use super::*;
     use crate::{pack_bundle, Reason};
     use std::mem::{offset_of, size_of};
@@ -107,9 +107,13 @@ mod tests {
     fn written(bundle: &[u8], notes: usize) -> Written {
         let mut image = [0; 468];
         assert_eq!(build(&[4, 0, 0, 0], &mut image, &mut Answer::default()), 0);
+        written_by(&image, bundle, notes)
+    }
+
+    fn written_by(image: &[u8], bundle: &[u8], notes: usize) -> Written {
         let (mut answer, mut lines, mut totals) = (UNWRITTEN, [OLD_LINE; MAX_CAPTURES], OLD_TOTALS);
         let (mut notes, mut work) = (vec![7; notes], [7; 45]);
-        let returned = judge_bundle(&image, bundle, &mut notes, &mut work, &mut lines, &mut totals, &mut answer);
+        let returned = judge_bundle(image, bundle, &mut notes, &mut work, &mut lines, &mut totals, &mut answer);
         Written { returned, answer, lines, totals }
     }
 
@@ -139,6 +143,18 @@ mod tests {
     }
 
     #[test]
+    fn halted_lines_have_a_count_of_their_own() {
+        let bundle = pack_bundle(&[&b"a"[..], b"", b"a", b"aa"]).unwrap();
+        let Written { returned, lines, totals, .. } = written_by(&halting(), &bundle, 45);
+        assert_eq!(returned, 0);
+        let halted = (0, [0, 7, 3, 2, 1, 0]);
+        for (line, told) in lines.iter().zip([halted, (0, [0, 1, 3, 2, 1, 0]), halted]) {
+            assert_eq!((line.refusal, fields(&line.answer)), told);
+        }
+        assert_eq!(totals, Totals { verdicts: [0, 1, 0, 0, 0, 0, 0, 2], refusals: 1, readings: 9 });
+    }
+
+    #[test]
     fn a_refused_call_writes_the_answer_alone() {
         let bundle = pack_bundle(&[b"a"]).unwrap();
         for (bundle, place) in [(&bundle[..11], 0), (&bundle[..12], 4)] {
@@ -163,7 +179,7 @@ mod tests {
         for refusal in [14, 20, 1 << 32 | 8, OLD] {
             assert_eq!(Line { refusal, ..zero }.judged(), Err(of("refusal", refusal)));
         }
-        for verdict in [0, 7, OLD] {
+        for verdict in [0, 8, OLD] {
             let line = Line { refusal: 0, answer: Answer { verdict, ..Answer::default() } };
             assert_eq!(line.judged(), Err(of("verdict", verdict)));
         }

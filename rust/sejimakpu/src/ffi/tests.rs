@@ -21,6 +21,14 @@ fn image() -> [u8; 468] {
     image
 }
 
+/// The same, with a rule that halts where C2 is stuck: in state 2, on a byte, at (2 · 3 + 0) · 3 + 0.
+pub(super) fn halting() -> [u8; 468] {
+    let mut image = image();
+    assert_eq!(image[360..364], [0; 4]);
+    image[360] = 4;
+    image
+}
+
 #[test]
 fn build_writes_every_field() {
     let mut image = [9; 467];
@@ -33,6 +41,10 @@ fn check_writes_every_field() {
     let image = image();
     assert_eq!(told(|answer| check(&image, answer)), [0; 7]);
     assert_eq!(told(|answer| check(&image[..31], answer)), [1, 31, 0, 0, 0, 0, 0]);
+    let mut image = halting();
+    assert_eq!(told(|answer| check(&image, answer)), [0; 7]);
+    image[360] = 5;
+    assert_eq!(told(|answer| check(&image, answer)), [6, 360, 0, 0, 0, 0, 0]);
 }
 
 #[test]
@@ -58,6 +70,19 @@ fn plain_run_writes_every_field() {
     assert_eq!(run(3, 2), [0, 0, 1, 3, 2, 1, 0]);
     assert_eq!(run(2, 2), [0, 0, 5, 2, 2, 1, 0]);
     assert_eq!(run(3, 1), [0, 0, 6, 0, 0, 0, 0]);
+}
+
+/// C2, stuck and halted: the verdict alone is another. Of the plain run it comes before spent.
+#[test]
+fn halting_is_told_apart_from_stuck() {
+    let (mut notes, mut work, mut stack) = ([7; 45], [7; 45], [7; 2]);
+    for (image, verdict) in [(image(), 3), (halting(), 7)] {
+        assert_eq!(told(|answer| judge(&image, b"a", &mut notes, &mut work, answer)), [0, 0, verdict, 3, 2, 1, 0]);
+        let mut run = |budget| told(|answer| plain_run(&image, b"a", budget, &mut stack, answer));
+        assert_eq!(run(9), [0, 0, verdict, 2, 2, 1, 0]);
+        assert_eq!(run(2), [0, 0, verdict, 2, 2, 1, 0]);
+        assert_eq!(run(1), [0, 0, 5, 1, 1, 1, 1]);
+    }
 }
 
 #[test]
@@ -121,7 +146,7 @@ fn check_text_recursion_writes_every_field() {
 #[test]
 fn unknown_numbers_are_a_mismatch() {
     let of = |field, value| Error::Mismatch { field, value };
-    for verdict in [0, 7, OLD] {
+    for verdict in [0, 8, OLD] {
         assert_eq!(Answer { verdict, ..UNWRITTEN }.verdict(), Err(of("verdict", verdict)));
     }
     assert_eq!(UNWRITTEN.count::<u32>(), Err(of("count", OLD)));
