@@ -73,6 +73,7 @@ module _
         (rule-of bs cs (config-of x) .kind ≡ 4 → of-ran r ≡ answer-reply 7 n (config-of x))
         × (rule-of bs cs (config-of x) .kind ≡ 0 → of-ran r ≡ answer-reply 3 n (config-of x))
     unfolding stop-verdict verdict-number machine action
-    run-stops =
-        (λ kind. stops-by Halting (halts (rule-of bs cs (config-of x)) (config-of x .head) kind),
-        λ kind. stops-by Missing (misses (rule-of bs cs (config-of x)) (config-of x .head) kind))
+    run-stops = (
+      λ kind. stops-by Halting (halts (rule-of bs cs (config-of x)) (config-of x .head) kind),
+      λ kind. stops-by Missing (misses (rule-of bs cs (config-of x)) (config-of x .head) kind),
+    )

@@ -140,14 +140,16 @@ module _ (M : Machine) where
   unfolding stop-verdict
   stop-back s =
       let t = stopped-verdict Missing s in
-      let (r, stops) = stop-from (step M (t .place)) (sym (step-missing M (t .place)) ∙ stopped-from (without-halting M) (step (without-halting M) (t .place)) (t .last)) in
-      (r, record {
-        steps = t .steps;
-        place = t .place;
-        reached = after-missing (t .steps) start ∙ t .reached;
-        is = t .is;
-        last = termination-stopped M (t .place) stops;
-      })
+      let (r, stops) = stop-from (step M (t .place)) (sym (step-missing M (t .place)) ∙ stopped-from (without-halting M) (step (without-halting M) (t .place)) (t .last)) in (
+        r,
+        record {
+          steps = t .steps;
+          place = t .place;
+          reached = after-missing (t .steps) start ∙ t .reached;
+          is = t .is;
+          last = termination-stopped M (t .place) stops;
+        },
+      )
 
   -- ANY OTHER END
   over-missing : (o : Outcome) {t : Bool} → termination M o ≡ some (Over t) → termination (without-halting M) (missing o) ≡ some (Over t)
@@ -199,6 +201,7 @@ module _ (M : Machine) where
     where
       same : {a b : Reason} → Stop a ≡ Stop b → a ≡ b
       same e = cc
+
       back : Says (without-halting M) Stuck d → M .action d ≡ Stop r → Says M (stop-verdict r) d
       back s e =
           let (q, t) = stop-back s in
@@ -216,9 +219,11 @@ module _ (M : Machine) where
       on s =
           let (t, e) = says-by-reason {r = Missing} .0 s in
           (t, λ h. let z : _≡_ {A = ℕ} 0 1 = cc in omega arith)
+
       pick : (r : Reason) → Terminates-at M d (Stopped r) → (M .action d ≡ Stop Halting → ⊥) → Says M Stuck d
       pick Missing t f = says-stuck t
       pick Halting t f = absurd (f (stop-action t))
+
       back : Says (without-halting M) Stuck d → (M .action d ≡ Stop Halting → ⊥) → Says M Stuck d
       back s f = let (r, t) = stop-back s in pick r t f
 
