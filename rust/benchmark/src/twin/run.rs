@@ -18,14 +18,10 @@ impl Spot {
     /// Takes one step, or says why there is none after it.
     fn step(&mut self, machine: &Machine, budget: u32, stack: &mut [u32]) -> Option<Verdict> {
         let action = machine.action(self.at);
-        if let Action::Stop(stop) = action {
-            return Some(stop.verdict());
-        }
-        if self.steps == budget {
-            return Some(Verdict::Spent);
-        }
         match action {
-            Action::Stop(_) => unreachable!("a stopped run takes no step"),
+            // It comes before the budget, and takes no step.
+            Action::Stop(stop) => return Some(stop.verdict()),
+            _ if self.steps == budget => return Some(Verdict::Spent),
             Action::Change(next) => self.at = next,
             Action::Push(next) => {
                 if self.below + 1 >= stack.len() {
