@@ -1,5 +1,5 @@
 -- No rule of a built image halts: each has one of the kinds 0 to 3. Assumes nothing.
-use mathlib.Core.Path.{_≡_, sym, ap, _∙_}
+use mathlib.Core.Path.{sym, ap, _∙_}
 use mathlib.Core.Bool.{Bool, _&&_}
 use mathlib.Core.List.{List}
 use Prim.Native.Nat.{ℕ, zero, suc, _+_, _/_, _%_, _<_, _≤_}
@@ -12,7 +12,7 @@ use Rattle.grammar.specs.declared.Expression.{Expression}
 use Rattle.grammar.specs.declared.Expression.the-variants.{Sequence, Choice, Not, Empty, Range}
 use Rattle.grammar.specs.Grammar.{expression, range-of}
 use Rattle.builder.specs.Classes.{class-count}
-use Rattle.builder.specs.Table.{state-start, state-ok, state-count, rule, no-rule, pass-byte, pop-fail, rows, select, row-zero, class-inside, rows-at, made}
+use Rattle.builder.specs.Table.{state-start, state-ok, state-count, rule, no-rule, pass-byte, pop-fail, rows, row-zero, class-inside, rows-at, made}
 use Rattle.builder.specs.Image.{symbols-of, built}
 use Rattle.builder.proofs.BuiltImage.{built-states, built-classes, built-symbols, built-rule-at}
 use Rattle.builder.proofs.BuiltRules.{by-cond}

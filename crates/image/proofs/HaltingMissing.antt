@@ -2,20 +2,17 @@
 use mathlib.Core.Path.{_≡_, refl, sym, ap, _∙_, fun-ext}
 use mathlib.Core.Bool.{Bool, true, false, cond}
 use mathlib.Core.List.{List}
-use Prim.Native.Nat.{ℕ, zero, suc, _+_, _*_, _<_}
+use Prim.Native.Nat.{ℕ, zero, suc, _+_, _*_}
 use native.Mathlib.Omega.{arith}
-use lib.Dec.{eqb, ltb}
-use lib.ListN.{length}
+use lib.Dec.{eqb}
 use borrow.Author.Tests.{eqb-true}
 use Rattle.codec.specs.Bytes.{byte, Bytes}
 use Rattle.codec.specs.Numbers.{number-at, u32-at}
 use Rattle.machine.specs.declared.Config.{Config}
-use Rattle.machine.specs.declared.Action.{Action}
 use Rattle.machine.specs.declared.Action.the-variants.{Stop, Change, Push, Pop}
-use Rattle.machine.specs.declared.Reason.the-variants.{Missing, Halting}
 use Rattle.machine.specs.LikeStuck.{missing-for-halting, without-halting}
 use Rattle.image.specs.Format
-use Rattle.image.specs.Image.{states, classes, symbols, Rule, rule-offset, rule-from, rule-at, class-under, led-to, stop-reason, rule-of, action-by, action, accepting, machine}
+use Rattle.image.specs.Image.{states, classes, symbols, Rule, rule-offset, rule-at, class-under, led-to, stop-reason, rule-of, action-by, action, accepting, machine}
 use Rattle.image.specs.WithoutHalting.{missing-rule, Missing-for-halting}
 use Rattle.image.proofs.HaltingRules.{halts}
 

@@ -1,21 +1,18 @@
 -- Halting rules: lookup tells them from missing ones, when one is right, and an image without any is refused and run as before there were any. Assumes nothing.
-use mathlib.Core.Path.{_≡_, refl, sym, ap, _∙_}
-use mathlib.Core.Bool.{Bool, true, false, _||_, cond}
+use mathlib.Core.Path.{_≡_, refl, sym, _∙_}
+use mathlib.Core.Bool.{Bool, true, false, _||_}
 use mathlib.Core.List.{List}
 use mathlib.Core.Logic.{_↔_}
 use Prim.Native.Nat.{ℕ, zero, suc, _+_, _*_, _<_, _≤_}
 use native.Mathlib.Decide.{decLt}
 use native.Mathlib.Omega.{arith}
 use lib.Dec.{eqb, ltb}
-use borrow.Author.Tests.{eq-eqb, ne-eqb, lt-ltb, le-ltb}
+use borrow.Author.Tests.{ne-eqb, lt-ltb, le-ltb}
 use Rattle.machine.specs.declared.Config.{Config}
-use Rattle.machine.specs.declared.Action.{Action}
 use Rattle.machine.specs.declared.Action.the-variants.{Stop, Change, Push, Pop}
 use Rattle.machine.specs.declared.Reason.the-variants.{Missing, Halting}
-use Rattle.machine.specs.declared.Verdict.the-variants.{Halted}
 use Rattle.machine.specs.Run.{Valid-config}
 use Rattle.machine.specs.Terminating.{stop-verdict}
-use Rattle.machine.specs.Verdicts.{Says}
 use Rattle.machine.proofs.Terminates.{stops-there}
 use Rattle.machine.proofs.Reach.{entered-there}
 use Rattle.image.specs.Format

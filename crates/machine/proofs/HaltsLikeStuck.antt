@@ -1,12 +1,11 @@
 -- A halting rule ends a run as a missing one does: the same descriptions, the same notes, and another verdict. Assumes nothing.
 use mathlib.Core.Path.{_≡_, refl, sym, ap, _∙_, subst}
-use mathlib.Core.Bool.{Bool, true, false}
+use mathlib.Core.Bool.{Bool}
 use mathlib.Core.List.{List, [], _∷_}
 use mathlib.Core.Logic.{_↔_}
 use mathlib.Core.Option.{Option, none, some}
 use Prim.Native.Nat.{ℕ, zero, suc, _<_}
 use native.Mathlib.Omega.{arith}
-use lib.ListN.{getD}
 use Rattle.machine.specs.declared.Config.{Config}
 use Rattle.machine.specs.declared.Note.{Note}
 use Rattle.machine.specs.declared.Reason.{Reason}
@@ -19,8 +18,8 @@ use Rattle.machine.specs.declared.Verdict.{Verdict}
 use Rattle.machine.specs.declared.Verdict.the-variants.{Accepted, Ended, Stuck, Looping, Halted}
 use Rattle.machine.specs.Terminating.{stop-verdict, termination-verdict}
 use Rattle.machine.specs.Replies.{verdict-number}
-use Rattle.machine.specs.Run.{Machine, Valid-config, Entry, Description, Outcome, stopped, over, next, step-by, step-on, step, start, only-next, further, after, termination, number}
-use Rattle.machine.specs.Verdicts.{Terminates-at, Says, terminates, loops, Note-right, never, unended, ended, Noted, note-of}
+use Rattle.machine.specs.Run.{Machine, Entry, Description, Outcome, stopped, over, next, step-by, step-on, step, start, only-next, further, after, termination, number}
+use Rattle.machine.specs.Verdicts.{Terminates-at, Says, terminates, loops, Note-right, never, unended, ended, Noted}
 use Rattle.machine.specs.LikeStuck.{missing-for-halting, without-halting, Like-stuck, stuck-for-halted}
 use Rattle.machine.proofs.Terminates.{termination-stopped, stopped-from, says-stopped, says-stuck, stopped-verdict, stop-action}
 use Rattle.machine.proofs.SameRuns.{Same-runs, same-back, entered-alike, all-entered-alike, ends-alike, goes-on-alike, first-again-alike}
