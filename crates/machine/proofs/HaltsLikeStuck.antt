@@ -226,7 +226,7 @@ module _ (M : Machine) where
       back : Says (without-halting M) Stuck d → (M .action d ≡ Stop Halting → ⊥) → Says M Stuck d
       back s f = let (r, t) = stop-back s in pick r t f
 
-pub halts-like-stuck : (M : Machine) → Like-stuck M
+pub halts-like-stuck : (M : Machine) → Like-stuck M (without-halting M)
 halts-like-stuck M =
     record {
       runs = after-missing M;

@@ -28,15 +28,15 @@ without-halting M =
       accepting = M .accepting;
     }
 
--- LIKE STUCK: it runs through the same descriptions, with the same notes and as many readings; where it halts the other one is stuck, at the same end configuration; and in no other verdict do they differ
-pub record Like-stuck (M : Machine) : Type 0 where
-  pub runs : (n : ℕ) (x : Description) → after n M x ≡ after n (without-halting M) x
-  pub notes : (ns : List ℕ) → Noted M ns ↔ Noted (without-halting M) ns
-  pub readings : (count : ℕ) → All-entered M count ↔ All-entered (without-halting M) count
-  pub halted : (d : Config) → Says M Halted d ↔ (Says (without-halting M) Stuck d × (M .action d ≡ Stop Halting))
-  pub stuck : (d : Config) → Says M Stuck d ↔ (Says (without-halting M) Stuck d × (M .action d ≡ Stop Halting → ⊥))
+-- LIKE STUCK: M runs through the same descriptions as N, with the same notes and as many readings; where M halts N is stuck, at the same end configuration; and in no other verdict do they differ
+pub record Like-stuck (M N : Machine) : Type 0 where
+  pub runs : (n : ℕ) (x : Description) → after n M x ≡ after n N x
+  pub notes : (ns : List ℕ) → Noted M ns ↔ Noted N ns
+  pub readings : (count : ℕ) → All-entered M count ↔ All-entered N count
+  pub halted : (d : Config) → Says M Halted d ↔ (Says N Stuck d × (M .action d ≡ Stop Halting))
+  pub stuck : (d : Config) → Says M Stuck d ↔ (Says N Stuck d × (M .action d ≡ Stop Halting → ⊥))
   pub others :
-      (v : Verdict) (d : Config) → (v ≡ Stuck → ⊥) → (v ≡ Halted → ⊥) → Says M v d ↔ Says (without-halting M) v d
+      (v : Verdict) (d : Config) → (v ≡ Stuck → ⊥) → (v ≡ Halted → ⊥) → Says M v d ↔ Says N v d
 
 -- the verdict that it then has
 unfoldable pub stuck-for-halted : Verdict → Verdict

@@ -13,7 +13,7 @@ use Rattle.machine.specs.declared.Verdict.{Verdict}
 use Rattle.machine.specs.declared.Verdict.the-variants.{Stuck, Halted}
 use Rattle.machine.specs.Run.{Machine, Description, start, after, config-of, how-many}
 use Rattle.machine.specs.Verdicts.{Entered}
-use Rattle.machine.specs.LikeStuck.{Like-stuck, stuck-for-halted}
+use Rattle.machine.specs.LikeStuck.{without-halting, Like-stuck, stuck-for-halted}
 use Rattle.machine.specs.Replies.{answer-reply}
 use Rattle.image.specs.Image.{Rule, rule-of, action-by, machine}
 use Rattle.image.specs.Refusals.{rule-bad}
@@ -26,7 +26,7 @@ use Rattle.interpreter.specs.Calls.{run-refusal, Run-says}
 use Rattle.interpreter.specs.Replies.{of-ran}
 use Rattle.builder.specs.Image.{built}
 use Rattle.worked_examples.specs.Examples.{Each, Row-holds}
-use Rattle.worked_examples.specs.HaltingExamples.{halting-table, Halts-at-once, halting-budgets, Rule-refused-so, halting-rules}
+use Rattle.worked_examples.specs.HaltingExamples.{halting-table, Halts-after, halting-budgets, Rule-refused-so, halting-rules}
 
 -- A RULE OF KIND 4 IS RIGHT exactly if its other bytes are zero, for every class, the markers among them; from kind 5 on no rule is. Where a rule is not right, 6 is given at the first such one's offset (`image-refused`)
 abbrev pub Halting-right : Type 0
@@ -55,7 +55,7 @@ Stuck-exact =
 
 -- NOTES, READINGS AND END CONFIGURATION TREAT IT LIKE STUCK: any machine beside the same one with missing rules for its halting ones,
 abbrev pub Halted-like-stuck : Type 0
-Halted-like-stuck = (M : Machine) → Like-stuck M
+Halted-like-stuck = (M : Machine) → Like-stuck M (without-halting M)
 
 -- and two calls, by an image and by the same one with missing rules for its halting ones: verdict, stuck for halted, readings, end configuration, the first N notes and work cells
 abbrev pub Judged-like-stuck : Type 0
@@ -90,12 +90,12 @@ Built-without-halting = (gs : List ℕ) → No-halting-rule (built gs)
 
 -- WORKED EXAMPLES, computed: runs to a halting rule and to a missing one on the same path,
 abbrev pub Halting-rows : Type 0
-Halting-rows = Each Row-holds halting-table
+Halting-rows = Each Row-holds (halting-table Halted)
 
 -- plain runs that are halted after no step, with budget 0 and with 9,
 abbrev pub Halting-runs : Type 0
-Halting-runs = Each Halts-at-once halting-budgets
+Halting-runs = Each (Halts-after 0) halting-budgets
 
 -- and rules of kind 4 and above, good and bad
 abbrev pub Halting-images : Type 0
-Halting-images = Each Rule-refused-so halting-rules
+Halting-images = Each Rule-refused-so (halting-rules 4)

@@ -2,6 +2,7 @@
 use mathlib.Core.Path.{_≡_, refl, ap}
 use mathlib.Core.List.{List, [], _∷_, map}
 use lib.ListN.{length, getD, drop}
+use Rattle.machine.specs.declared.Verdict.the-variants.{Halted}
 use Rattle.machine.specs.Terminating.{stop-verdict, termination-verdict, accepts-by}
 use Rattle.machine.specs.Run.{start, step, step-on, step-by, config-of, top, how-many, number-by, config-by}
 use Rattle.codec.specs.Numbers.{number-at, little-endian, pair-bytes}
@@ -20,7 +21,7 @@ use Rattle.builder.specs.Classes.{cuts-at, cut-from, cut, class-of, class-count
 use Rattle.builder.specs.Table.{rows, by-state, select, row-zero, class-inside, rows-at, made}
 use Rattle.builder.specs.Image.{symbols-of, built-rules, rules-made, map-made, built, parts}
 use Rattle.worked_examples.specs.Examples.{Row, Row-holds, Each, nil, cons, table, image-of, source-refusal, row-machine, marker-parts, marker-image, empty-grammar, plain-table, Plain-holds}
-use Rattle.worked_examples.specs.HaltingExamples.{telling-image, halting-table, Halts-at-once, halting-budgets, Rule-refused-so, halting-rules}
+use Rattle.worked_examples.specs.HaltingExamples.{telling-image, halting-table, Halts-after, halting-budgets, Rule-refused-so, halting-rules}
 use Rattle.worked_examples.proofs.ChainEnd.{steps-on}
 use Rattle.worked_examples.proofs.RowLaws.{Found, found, found-by, said, exit-verdict, ran-found, ran-said, chain-last, enough, all-bytes, found-holds}
 
@@ -33,8 +34,8 @@ each-holds (r ∷ rs) e =
 -- THE TESTS, C1's facts and those of halting rules, computed
 computed :
     (map found table ≡ map said table) × (length (built empty-grammar) ≡ 468) × (how-many (machine (built empty-grammar) []) ≡ 30) × Each Plain-holds plain-table
-    × (map found halting-table ≡ map said halting-table) × Each Halts-at-once halting-budgets × Each Rule-refused-so halting-rules
-unfolding table plain-table telling-image halting-table Halts-at-once halting-budgets Rule-refused-so halting-rules found said found-by ran-found ran-said chain-last enough all-bytes steps-on image-of source-refusal row-machine marker-parts marker-image
+    × (map found (halting-table Halted) ≡ map said (halting-table Halted)) × Each (Halts-after 0) halting-budgets × Each Rule-refused-so (halting-rules 4)
+unfolding table plain-table telling-image halting-table Halts-after halting-budgets Rule-refused-so halting-rules found said found-by ran-found ran-said chain-last enough all-bytes steps-on image-of source-refusal row-machine marker-parts marker-image
     start step step-on step-by config-of top how-many number-by config-by note-of sizes-of
     machine number-at little-endian pair-bytes header rule-bytes rules-bytes encode states classes symbols rule-offset rule-from rule-at class-under moved action-by action accepting
     or-else refuse-if pair-is directory counts count-wrong map-from move-off rule-bad index-class rules-refusal-from rule-count image-refusal
@@ -61,11 +62,11 @@ pub c1-plain-runs : Each Plain-holds plain-table
 c1-plain-runs = computed .3
 
 -- halting rules
-pub halting-rows : Each Row-holds halting-table
-halting-rows = each-holds halting-table (computed .4)
+pub halting-rows : Each Row-holds (halting-table Halted)
+halting-rows = each-holds (halting-table Halted) (computed .4)
 
-pub halting-runs : Each Halts-at-once halting-budgets
+pub halting-runs : Each (Halts-after 0) halting-budgets
 halting-runs = computed .5
 
-pub halting-images : Each Rule-refused-so halting-rules
+pub halting-images : Each Rule-refused-so (halting-rules 4)
 halting-images = computed .6

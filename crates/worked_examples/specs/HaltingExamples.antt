@@ -2,13 +2,14 @@
 use mathlib.Core.Path.{_≡_}
 use mathlib.Core.List.{List, [], _∷_, _++_}
 use mathlib.Core.Option.{some}
-use Prim.Native.Nat.{ℕ}
+use Prim.Native.Nat.{ℕ, suc}
 use lib.ListN.{replicate}
 use Rattle.refusal.specs.declared.Refusal.{Refusal}
 use Rattle.refusal.specs.First.{refusal, no-refusal}
 use Rattle.machine.specs.declared.Reason.the-variants.{Halting}
 use Rattle.machine.specs.declared.Termination.the-variants.{Stopped}
-use Rattle.machine.specs.declared.Verdict.the-variants.{Stuck, Halted}
+use Rattle.machine.specs.declared.Verdict.{Verdict}
+use Rattle.machine.specs.declared.Verdict.the-variants.{Stuck}
 use Rattle.machine.specs.Run.{config, start}
 use Rattle.image.specs.Format
 use Rattle.image.specs.Image.{Rule, machine}
@@ -36,17 +37,17 @@ telling-image =
       rules = no-rule ∷ rule 4 0 0 0 ∷ rule Format.kind-change 0 0 Format.direction-right ∷ no-rule ∷ [];
     })
 
--- verdict, readings, end configuration and steps: the two stops on one path differ in the verdict alone
-unfoldable pub halting-table : List Row
-halting-table =
-    row (from-image halting-image) [] Halted 1 (config 0 0 0) (some 0)
-    ∷ row (from-image telling-image) (97 ∷ []) Halted 2 (config 0 1 0) (some 1)
+-- by the verdict at a rule of kind 4, with readings, end configuration and steps: the two stops on one path differ in the verdict alone
+unfoldable pub halting-table : Verdict → List Row
+halting-table v =
+    row (from-image halting-image) [] v 1 (config 0 0 0) (some 0)
+    ∷ row (from-image telling-image) (97 ∷ []) v 2 (config 0 1 0) (some 1)
     ∷ row (from-image telling-image) (98 ∷ []) Stuck 2 (config 0 1 0) (some 1)
     ∷ []
 
--- THE PLAIN RUN by a budget: halted after no step, whatever the budget
-unfoldable pub Halts-at-once : (budget : ℕ) → Type 0
-Halts-at-once b = run-on b (machine halting-image []) 0 1 start ≡ run-end (Terminated (Stopped Halting)) 0 (config 0 0 0)
+-- THE PLAIN RUN with a budget is halted on the left marker, after so many steps
+unfoldable pub Halts-after : (steps budget : ℕ) → Type 0
+Halts-after n b = run-on b (machine halting-image []) 0 1 start ≡ run-end (Terminated (Stopped Halting)) n (config 0 0 0)
 
 unfoldable pub halting-budgets : List ℕ
 halting-budgets = 0 ∷ 9 ∷ []
@@ -62,13 +63,13 @@ example r f = record { on-marker = r; refused = f }
 unfoldable pub Rule-refused-so : Rule-example → Type 0
 Rule-refused-so e = image-refusal (marker-image (e .on-marker)) ≡ e .refused
 
--- kind 4 with no other byte is good; with any other byte it is not, and neither are kinds 5 and 255
-unfoldable pub halting-rules : List Rule-example
-halting-rules =
-    example (rule 4 0 0 0) no-refusal
-    ∷ example (rule 4 1 0 0) (refusal 6 292)
-    ∷ example (rule 4 0 1 0) (refusal 6 292)
-    ∷ example (rule 4 0 0 1) (refusal 6 292)
-    ∷ example (rule 5 0 0 0) (refusal 6 292)
+-- this kind with no other byte is good; with any other byte it is not, and neither are the next kind and 255
+unfoldable pub halting-rules : (kind : ℕ) → List Rule-example
+halting-rules k =
+    example (rule k 0 0 0) no-refusal
+    ∷ example (rule k 1 0 0) (refusal 6 292)
+    ∷ example (rule k 0 1 0) (refusal 6 292)
+    ∷ example (rule k 0 0 1) (refusal 6 292)
+    ∷ example (rule (suc k) 0 0 0) (refusal 6 292)
     ∷ example (rule 255 0 0 0) (refusal 6 292)
     ∷ []

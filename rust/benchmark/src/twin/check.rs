@@ -114,7 +114,7 @@ fn check_rules(rules: &[u8], counts: Counts) -> Result<(), Error> {
     Ok(())
 }
 
-/// Asked in the library's order. As a match on the kind it took a third longer.
+/// Asked in the library's order: a match on the kind was slower.
 fn is_bad([kind, state, symbol, direction]: [u8; 4], class: u32, counts: Counts) -> bool {
     if kind > 4 {
         return true;
