@@ -17,6 +17,7 @@ use Rattle.simulator.specs.declared.Judged.{Judged}
 use Rattle.simulator.specs.Calls.{judge-refusal}
 use Rattle.simulator.proofs.Answered.{judged-right}
 use Rattle.grammar.specs.Grammar.{grammar-refusal}
+use Rattle.builder.specs.declared.Matching.the-variants.{Whole}
 use Rattle.builder.specs.Image.{built}
 use Rattle.grammar_judge.specs.Calls.{Lent, lent-refusal, Same-room, Same-cells}
 use Rattle.grammar_judge.specs.TwoCalls.{Gets}
@@ -81,7 +82,7 @@ input-judged xs x y l h s =
 pub input-fine :
     (xs : List ℕ) (x : Lent) → answer-refusal xs x .number ≡ 0 →
     (grammar-refusal (input-grammar xs) .number ≡ 0)
-    × (judge-refusal (built (input-grammar xs)) (input-capture xs) (length (x .notes)) (length (x .work)) .number ≡ 0)
+    × (judge-refusal (built Whole (input-grammar xs)) (input-capture xs) (length (x .notes)) (length (x .work)) .number ≡ 0)
 unfolding answer-refusal
 input-fine xs x e =
     parts-fine (input-grammar xs) (input-capture xs) _ _ _ (neither (input-refusal xs) _ (record { none-such = e }) .1 .none-such)
@@ -91,7 +92,7 @@ capture-bytes : (xs : List ℕ) → ((i : ℕ) → byte xs i < 256) → (i : ℕ
 unfolding input-capture
 capture-bytes xs bytes i = rw (getD-drop (capture-offset xs) xs i 0) (bytes (capture-offset xs + i))
 
-judged-says : (j : Judged) {gs cs : List ℕ} (g : Gets gs cs j) → judged-line j ≡ answer-line (g .verdict) (g .readings) (g .end)
+judged-says : (j : Judged) {gs cs : List ℕ} (g : Gets Whole gs cs j) → judged-line j ≡ answer-line (g .verdict) (g .readings) (g .end)
 unfolding judged-line
 judged-says j g = rw (g .answers)
 
@@ -101,8 +102,8 @@ pub line-parsed :
 line-parsed xs x y l bytes no-refusal s =
     let j = input-judged xs x y l no-refusal s in
     let (good, judging) = input-fine xs x no-refusal in
-    let r = judged-right (built (input-grammar xs)) (input-capture xs) (j .judged) (x .notes) (y .notes) (x .work) (y .work) judging (j .judges) in
-    let g = gets (input-grammar xs) (input-capture xs) (x .notes) (y .notes) (x .work) (y .work) (j .judged) good (capture-bytes xs bytes) r in
+    let r = judged-right (built Whole (input-grammar xs)) (input-capture xs) (j .judged) (x .notes) (y .notes) (x .work) (y .work) judging (j .judges) in
+    let g = gets Whole (input-grammar xs) (input-capture xs) (x .notes) (y .notes) (x .work) (y .work) (j .judged) good (capture-bytes xs bytes) r in
     record {
       verdict = g .verdict;
       readings = g .readings;

@@ -9,6 +9,7 @@ use Rattle.refusal.proofs.Rows.{Some-row, exactly, Check, stops, goes-on, then-
 use Rattle.simulator.specs.Calls.{judge-refusal}
 use Rattle.simulator.specs.Conditions.{Judging-right, Judging-row}
 use Rattle.simulator.proofs.ConditionsMet.{judging-check}
+use Rattle.builder.specs.declared.Matching.the-variants.{Whole}
 use Rattle.builder.specs.Image.{built}
 use Rattle.builder.specs.Calls.{build-refusal}
 use Rattle.builder.specs.Conditions.{Building-right, Building-row}
@@ -27,14 +28,14 @@ module _ (xs : List ℕ) (x : Lent) where
   abbrev gs : List ℕ
   gs = input-grammar xs
 
-  building : Check (build-refusal gs (length (x .image))) (Building-right gs (length (x .image))) (Building-row gs (length (x .image)))
-  building = building-check gs (length (x .image))
+  building : Check (build-refusal gs (length (x .image))) (Building-right Whole gs (length (x .image))) (Building-row Whole gs (length (x .image)))
+  building = building-check Whole gs (length (x .image))
 
   judging :
-      Check (judge-refusal (built gs) (input-capture xs) (length (x .notes)) (length (x .work)))
-      (Judging-right (built gs) (input-capture xs) (length (x .notes)) (length (x .work)))
-      (Judging-row (built gs) (input-capture xs) (length (x .notes)) (length (x .work)))
-  judging = judging-check (built gs) (input-capture xs) (length (x .notes)) (length (x .work))
+      Check (judge-refusal (built Whole gs) (input-capture xs) (length (x .notes)) (length (x .work)))
+      (Judging-right (built Whole gs) (input-capture xs) (length (x .notes)) (length (x .work)))
+      (Judging-row (built Whole gs) (input-capture xs) (length (x .notes)) (length (x .work)))
+  judging = judging-check (built Whole gs) (input-capture xs) (length (x .notes)) (length (x .work))
 
   some-row : Some-row (Answering-row xs x)
   some-row =

@@ -8,6 +8,7 @@ use Rattle.simulator.specs.declared.Judged.{Judged}
 use Rattle.simulator.specs.declared.Judged.the-variants.{Refused, Answer}
 use Rattle.refusal.specs.First.{or-else}
 use Rattle.simulator.specs.Calls.{Judge-says}
+use Rattle.builder.specs.declared.Matching.the-variants.{Whole}
 use Rattle.builder.specs.Image.{built, built-length}
 use Rattle.grammar_judge.specs.Calls.{Lent, lent-refusal}
 use Rattle.text.specs.Line.{refusal-line, answer-line, Lined}
@@ -26,8 +27,8 @@ pub record Refuses (f : Refusal) (before after : Lent) (line : List ℕ) : Type 
 -- the image of the grammar is built, with later bytes as they were, and its judging is told
 pub record Built-and-judged (gs cs : List ℕ) (before after : Lent) (line : List ℕ) : Type 0 where
   pub judged : Judged
-  pub image-now : after .image ≡ built gs ++ drop (built-length gs) (before .image)
-  pub judges : Judge-says (built gs) cs judged (before .notes) (after .notes) (before .work) (after .work)
+  pub image-now : after .image ≡ built Whole gs ++ drop (built-length gs) (before .image)
+  pub judges : Judge-says (built Whole gs) cs judged (before .notes) (after .notes) (before .work) (after .work)
   pub says : line ≡ judged-line judged
 
 unfoldable pub Parts-as : (number : ℕ) → Refusal → (gs cs : List ℕ) → (before after : Lent) → (line : List ℕ) → Type 0

@@ -6,6 +6,7 @@ use lib.ListN.{length, take}
 use Rattle.codec.specs.Numbers.{pair-at}
 use Rattle.image.specs.Conditions.{Pair-right}
 use Rattle.simulator.specs.Conditions.{Judging-right, Judging-row}
+use Rattle.builder.specs.declared.Matching.the-variants.{Whole}
 use Rattle.builder.specs.Image.{built}
 use Rattle.builder.specs.Conditions.{Building-right, Building-row}
 use Rattle.answer.specs.Input.{pairs-length, grammar-pair, capture-pair, max-input, input-grammar, input-capture}
@@ -51,16 +52,16 @@ pub data Input-row (xs : List ℕ) : (number place : ℕ) → Type 0 where
 -- THE CALL, with lent buffers: 14 of its input, then 11 to 13 of its grammar, then 7 to 9 of its capture; the image is one that is built, and so is right
 pub record Answering-right (xs : List ℕ) (x : Lent) : Type 0 where
   pub input : Input-right xs
-  pub building : Building-right (input-grammar xs) (length (x .image))
-  pub judging : Judging-right (built (input-grammar xs)) (input-capture xs) (length (x .notes)) (length (x .work))
+  pub building : Building-right Whole (input-grammar xs) (length (x .image))
+  pub judging : Judging-right (built Whole (input-grammar xs)) (input-capture xs) (length (x .notes)) (length (x .work))
 
 pub data Answering-row (xs : List ℕ) (x : Lent) : (number place : ℕ) → Type 0 where
   unrefused-answering : Answering-right xs x → Answering-row xs x 0 0
   refused-input : {number place : ℕ} → Input-row xs number place → (number ≡ 0 → ⊥) → Answering-row xs x number place
   refused-building :
-      {number place : ℕ} → Input-right xs → Building-row (input-grammar xs) (length (x .image)) number place → (number ≡ 0 → ⊥) →
+      {number place : ℕ} → Input-right xs → Building-row Whole (input-grammar xs) (length (x .image)) number place → (number ≡ 0 → ⊥) →
       Answering-row xs x number place
   refused-judging :
-      {number place : ℕ} → Input-right xs → Building-right (input-grammar xs) (length (x .image)) →
-      Judging-row (built (input-grammar xs)) (input-capture xs) (length (x .notes)) (length (x .work)) number place → (number ≡ 0 → ⊥) →
+      {number place : ℕ} → Input-right xs → Building-right Whole (input-grammar xs) (length (x .image)) →
+      Judging-row (built Whole (input-grammar xs)) (input-capture xs) (length (x .notes)) (length (x .work)) number place → (number ≡ 0 → ⊥) →
       Answering-row xs x number place

@@ -18,6 +18,7 @@ use Rattle.image.proofs.RuleRight.{rule-test}
 use Rattle.image.proofs.ConditionsMet.{image-check}
 use Rattle.grammar.specs.declared.Expression.{Expression}
 use Rattle.grammar.specs.Grammar.{rules, expression, range-of, grammar-refusal}
+use Rattle.builder.specs.declared.Matching.{Matching}
 use Rattle.builder.specs.Classes.{class-count}
 use Rattle.builder.specs.Table.{state-count, class-inside, rows-at, made}
 use Rattle.builder.specs.Image.{symbols-of, built-rules, built, built-length}
@@ -27,7 +28,7 @@ use Rattle.builder.proofs.ClassesFew.{class-count-most}
 use Rattle.builder.proofs.BuiltImage.{built-length-is, built-states, built-classes, built-symbols, built-finals, built-map, built-reads, built-directory, built-rule-at}
 use Rattle.builder.proofs.BuiltRules.{Rule-passes, select-right, row-zero-right}
 
-module _ (gs : List ℕ) (good : Good-grammar gs) where
+module _ (how : Matching) (gs : List ℕ) (good : Good-grammar gs) where
   pub built-classes-most : class-count gs ≤ 63
   built-classes-most = class-count-most gs (good .rules-most)
 
@@ -51,29 +52,29 @@ module _ (gs : List ℕ) (good : Good-grammar gs) where
       omega arith
 
   -- THE COUNTS AND THE CLASS MAP
-  finals-below : ltb (u32-at (built gs) Format.finals-offset) (2 ^ states (built gs)) ≡ true
-  finals-below = rw (built-finals gs, built-states gs)
+  finals-below : ltb (u32-at (built how gs) Format.finals-offset) (2 ^ states (built how gs)) ≡ true
+  finals-below = rw (built-finals how gs, built-states how gs)
 
-  counts-right : Counts-right (built gs)
+  counts-right : Counts-right (built how gs)
   counts-right =
       record {
-        states-right = record { least = omega (arith, built-states gs); most = omega (arith, built-states gs) };
-        classes-right = record { least = omega (arith, built-classes gs, classes-least); most = omega (arith, built-classes gs, built-classes-most) };
-        symbols-right = record { least = omega (arith, built-symbols gs, symbols-least); most = omega (arith, built-symbols gs, built-symbols-most) };
-        zero-right = built-reads gs .zero-is;
+        states-right = record { least = omega (arith, built-states how gs); most = omega (arith, built-states how gs) };
+        classes-right = record { least = omega (arith, built-classes how gs, classes-least); most = omega (arith, built-classes how gs, built-classes-most) };
+        symbols-right = record { least = omega (arith, built-symbols how gs, symbols-least); most = omega (arith, built-symbols how gs, built-symbols-most) };
+        zero-right = built-reads how gs .zero-is;
         finals-right = by-test (bits-test _ _) finals-below;
       }
 
-  map-right : Map-right (built gs)
-  map-right v h = rw (built-map gs v h, built-classes gs) (byte-class-below gs v h)
+  map-right : Map-right (built how gs)
+  map-right v h = rw (built-map how gs v h, built-classes how gs) (byte-class-below gs v h)
 
   -- EVERY RULE
-  made-right : (p k a : ℕ) → a < symbols-of gs → Rule-passes (built gs) k (made gs p k a)
+  made-right : (p k a : ℕ) → a < symbols-of gs → Rule-passes (built how gs) k (made how gs p k a)
   unfolding made rows-at symbols-of
   made-right p k zero h =
-      row-zero-right (built gs) k (rules gs) (built-states gs) (built-symbols gs) (class-count gs) p (built-classes gs) (good .rules-least)
+      row-zero-right (built how gs) k (rules gs) (built-states how gs) (built-symbols how gs) how (class-count gs) p (built-classes how gs) (good .rules-least)
   made-right p k (suc a) h =
-      select-right (built gs) k (rules gs) (built-states gs) (built-symbols gs) x (eqb (a % 2) 1) p (a / 2) (class-inside gs (range-of x) k)
+      select-right (built how gs) k (rules gs) (built-states how gs) (built-symbols how gs) x (eqb (a % 2) 1) p (a / 2) (class-inside gs (range-of x) k)
       below
       (good .parts (a / 2) below)
       on-bytes
@@ -84,27 +85,27 @@ module _ (gs : List ℕ) (good : Good-grammar gs) where
       below : a / 2 < rules gs
       below = omega arith
 
-      on-bytes : class-inside gs (range-of x) k ≡ true → k ≡ classes (built gs) + 1 → ⊥
-      on-bytes t e = omega (arith, inside-below gs (range-of x) k t, built-classes gs)
+      on-bytes : class-inside gs (range-of x) k ≡ true → k ≡ classes (built how gs) + 1 → ⊥
+      on-bytes t e = omega (arith, inside-below gs (range-of x) k t, built-classes how gs)
 
-  rules-right : Rules-right (built gs)
+  rules-right : Rules-right (built how gs)
   rules-right p k a hp hk ha =
-      let state : p < 5 = omega (arith, built-states gs) in
-      let class : k < class-count gs + 2 = omega (arith, built-classes gs) in
-      let symbol : a < symbols-of gs = omega (arith, built-symbols gs) in
-      rw (built-rule-at gs state class symbol) (by-passing (rule-test (built gs) k (made gs p k a)) (made-right p k a symbol .not-bad))
+      let state : p < 5 = omega (arith, built-states how gs) in
+      let class : k < class-count gs + 2 = omega (arith, built-classes how gs) in
+      let symbol : a < symbols-of gs = omega (arith, built-symbols how gs) in
+      rw (built-rule-at how gs state class symbol) (by-passing (rule-test (built how gs) k (made how gs p k a)) (made-right p k a symbol .not-bad))
 
-  image-right : Image-right (built gs)
+  image-right : Image-right (built how gs)
   unfolding built-length
   image-right =
       record {
-        header = omega (arith, built-length-is gs);
-        directory = built-directory gs built-rules-fit;
+        header = omega (arith, built-length-is how gs);
+        directory = built-directory how gs built-rules-fit;
         counts = counts-right;
-        long = built-reads gs .length-right;
+        long = built-reads how gs .length-right;
         map = map-right;
         rules = rules-right;
       }
 
-pub built-good : (gs : List ℕ) → grammar-refusal gs .number ≡ 0 → image-refusal (built gs) .number ≡ 0
-built-good gs e = ap (λ (f : Refusal). f .number) (image-check (built gs) .accepted (image-right gs (good-grammar gs e)))
+pub built-good : (how : Matching) (gs : List ℕ) → grammar-refusal gs .number ≡ 0 → image-refusal (built how gs) .number ≡ 0
+built-good how gs e = ap (λ (f : Refusal). f .number) (image-check (built how gs) .accepted (image-right how gs (good-grammar gs e)))

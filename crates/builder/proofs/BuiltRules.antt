@@ -4,15 +4,17 @@ use mathlib.Core.Bool.{Bool, true, false, _&&_, cond, and-false}
 use mathlib.Core.List.{List}
 use Prim.Native.Nat.{ℕ, suc, _+_, _*_, _<_, _≤_}
 use native.Mathlib.Omega.{arith}
-use lib.Dec.{eqb}
-use borrow.Author.Tests.{eqb-true, lt-leb, le-ltb, ne-eqb}
+use lib.Dec.{ltb, eqb}
+use borrow.Author.Tests.{eqb-true, ltb-true, lt-leb, le-ltb, ne-eqb}
 use Rattle.image.specs.Format
 use Rattle.image.specs.Image.{states, classes, symbols, Rule}
 use Rattle.image.specs.Refusals.{move-off, rule-bad}
 use Rattle.grammar.specs.declared.Expression.{Expression}
 use Rattle.grammar.specs.declared.Expression.the-variants.{Sequence, Choice, Not, Empty, Range}
 use Rattle.grammar.specs.Grammar.{Parts-below}
-use Rattle.builder.specs.Table.{state-start, state-work, state-ok, state-fail, state-done, state-count, first, second, rule, no-rule, push-first, to-second, pass-byte, pop-ok, pop-fail, back-ok, back-fail, rows, select, row-zero}
+use Rattle.builder.specs.declared.Matching.{Matching}
+use Rattle.builder.specs.declared.Matching.the-variants.{Whole, Leading}
+use Rattle.builder.specs.Table.{state-start, state-work, state-ok, state-fail, state-done, state-count, first, second, rule, no-rule, push-first, to-second, pass-byte, pop-ok, pop-fail, back-ok, back-fail, rows, select, on-byte, row-zero}
 use Rattle.grammar.proofs.Bools.{both-true}
 use Rattle.builder.proofs.EachRow.{Each, each, each-select}
 
@@ -99,14 +101,21 @@ module _ (bs : List ℕ) (class : ℕ) where
         Rule-passes bs class (select (rows x k t) s p)
     select-right x s p k t h l o = each-select (Rule-passes bs class) none-right (rows x k t) (rows-right x k t h l o) s p
 
-    -- the rules of symbol 0: the push moves right, but only on the left marker
-    pub row-zero-right : (n p : ℕ) → classes bs ≡ n → 0 < m → Rule-passes bs class (row-zero n p class)
+    -- the rules of symbol 0: the push moves right, but only on the left marker; leading moves right on a byte
+    on-byte-right : (how : Matching) → (class ≡ classes bs + 1 → ⊥) → Rule-passes bs class (on-byte how)
+    unfolding on-byte
+    on-byte-right Whole o = none-right
+    on-byte-right Leading o = change-right state-ok 0 Format.direction-right (omega arith) (omega arith) (omega arith) (right-on o)
+
+    pub row-zero-right : (how : Matching) (n p : ℕ) → classes bs ≡ n → 0 < m → Rule-passes bs class (row-zero how n p class)
     unfolding row-zero
-    row-zero-right n p e h =
+    row-zero-right how n p e h =
         by-cond (Rule-passes bs class) (eqb p state-start && eqb class n) _ _
         (λ t.
         let q : class ≡ n = eqb-true _ _ (both-true (eqb p state-start) _ t .1) in
         push-right state-work (first 0) Format.direction-right (omega arith) (omega arith) (omega arith) (right-on (λ z. omega arith)))
         (by-cond (Rule-passes bs class) (eqb p state-ok && eqb class (n + 1)) _ _
         (λ t. pop state-done Format.pop-stay (omega arith) (omega arith))
-        none-right)
+        (by-cond (Rule-passes bs class) (eqb p state-ok && ltb class n) _ _
+        (λ t. on-byte-right how (λ z. omega (arith, ltb-true class n (both-true (eqb p state-ok) _ t .1))))
+        none-right))

@@ -11,6 +11,7 @@ use Rattle.refusal.specs.declared.Refusal.{Refusal}
 use Rattle.image.specs.Format
 use Rattle.refusal.specs.First.{refusal, no-refusal, or-else, refuse-if}
 use Rattle.refusal.proofs.Refused.{not-refused as room-there}
+use Rattle.builder.specs.declared.Matching.{Matching}
 use Rattle.builder.specs.declared.Built.{Built}
 use Rattle.builder.specs.declared.Built.the-variants.{Refused, Image}
 use Rattle.grammar.specs.Grammar.{grammar-refusal}
@@ -20,15 +21,15 @@ use Rattle.builder.specs.code.Building.{plan-of, Buffer-ready}
 use Rattle.builder.specs.Calls.{build-refusal, Build-as, Build-says}
 use Rattle.builder.specs.code.Writing.{Write-ready}
 
-refused-as : (gs a : List ℕ) (f : Refusal) (n : ℕ) → (n ≡ 0 → ⊥) → Build-as n f gs (Refused f) a a
+refused-as : (how : Matching) (gs a : List ℕ) (f : Refusal) (n : ℕ) → (n ≡ 0 → ⊥) → Build-as n f how gs (Refused f) a a
 unfolding Build-as
-refused-as gs a f zero h = absurd (h refl)
-refused-as gs a f (suc n) h = (refl, refl)
+refused-as how gs a f zero h = absurd (h refl)
+refused-as how gs a f (suc n) h = (refl, refl)
 
-says-refused : (gs a : List ℕ) (f : Refusal) → build-refusal gs (length a) ≡ f → (f .number ≡ 0 → ⊥) → Build-says gs (Refused f) a a
+says-refused : (how : Matching) (gs a : List ℕ) (f : Refusal) → build-refusal gs (length a) ≡ f → (f .number ≡ 0 → ⊥) → Build-says how gs (Refused f) a a
 unfolding Build-says
-says-refused gs a f e h =
-    subst (λ (g : Refusal). Build-as (g .number) g gs (Refused f) a a) (sym e) (refused-as gs a f (f .number) h)
+says-refused how gs a f e h =
+    subst (λ (g : Refusal). Build-as (g .number) g how gs (Refused f) a a) (sym e) (refused-as how gs a f (f .number) h)
 
 -- the refusal by its place in the order
 refusal-grammar : (gs : List ℕ) (f : Refusal) (n : ℕ) → f ≡ grammar-refusal gs → (f .number ≡ 0 → ⊥) → build-refusal gs n ≡ f
@@ -45,9 +46,9 @@ unfolding plan-of
 long-is gs p e = ap (λ (q : Plan). q .long) e
 
 built-as :
-    (gs a c : List ℕ) (r : Built) → r ≡ Image (built-length gs) → c ≡ built gs ++ drop (built-length gs) a → Build-as 0 no-refusal gs r a c
+    (how : Matching) (gs a c : List ℕ) (r : Built) → r ≡ Image (built-length gs) → c ≡ built how gs ++ drop (built-length gs) a → Build-as 0 no-refusal how gs r a c
 unfolding Build-as
-built-as gs a c r x y = (x, y)
+built-as how gs a c r x y = (x, y)
 
 -- WHAT THE CHECKS SAY
 module _ (gs : List ℕ) (f : Refusal) (e : f ≡ grammar-refusal gs) where
@@ -69,20 +70,20 @@ room-passed n long g e none =
 
 -- WHAT BUILDING ANSWERS
 pub building-refused :
-    (gs a : List ℕ) (f : Refusal) → f ≡ build-refusal gs (length a) → (f .number ≡ 0 → ⊥) → Build-says gs (Refused f) a a
-building-refused gs a f e h = says-refused gs a f (sym e) h
+    (how : Matching) (gs a : List ℕ) (f : Refusal) → f ≡ build-refusal gs (length a) → (f .number ≡ 0 → ⊥) → Build-says how gs (Refused f) a a
+building-refused how gs a f e h = says-refused how gs a f (sym e) h
 
 module _
     (gs a : List ℕ) (good : grammar-refusal gs .number ≡ 0) (long : ℕ) (l : long ≡ built-length gs) (fits : long ≤ length a)
   where
     -- the image, and the later bytes as they were
-    pub image-built : (b c : List ℕ) → b ≡ built gs → c ≡ b ++ drop long a → Build-says gs (Image long) a c
+    pub image-built : (how : Matching) (b c : List ℕ) → b ≡ built how gs → c ≡ b ++ drop long a → Build-says how gs (Image long) a c
     unfolding Build-says
-    image-built b c q k =
-        subst (λ (g : Refusal). Build-as (g .number) g gs (Image long) a c)
+    image-built how b c q k =
+        subst (λ (g : Refusal). Build-as (g .number) g how gs (Image long) a c)
         (sym (refusal-none gs (length a) good (omega arith)))
-        (built-as gs a c (Image long) (ap Image l)
-        (k ∙ ap (λ (x : List ℕ). x ++ drop long a) q ∙ ap (λ (n : ℕ). built gs ++ drop n a) l))
+        (built-as how gs a c (Image long) (ap Image l)
+        (k ∙ ap (λ (x : List ℕ). x ++ drop long a) q ∙ ap (λ (n : ℕ). built how gs ++ drop n a) l))
 
     -- what is lent for the image
     pub buffer-ready : (p : Plan) → p ≡ plan-of gs → Buffer-ready gs p (take long a)

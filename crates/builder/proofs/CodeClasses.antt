@@ -93,7 +93,7 @@ cells-fit gs n g w e = cells-most (n + 2) g (omega (arith, w .fits)) (omega (ari
 
 pub cells-told : (gs : List ℕ) (n g : ℕ) → g ≡ symbols-of gs → Cells-are gs n (state-count * (n + 2) * g)
 unfolding how-many machine
-cells-told gs n g e cs l = rw (built-states gs, built-symbols gs, e, l)
+cells-told gs n g e how cs l = rw (built-states how gs, built-symbols how gs, e, l)
 
 -- THE PLAN, from its parts
 pub planned :

@@ -29,11 +29,13 @@ pair-is gs s r odd w =
     let second-rest : (a + 1 - 1) % 2 ≡ 1 = omega arith in
     record {
       first =
-          symbol-is gs (s .state) (s .class) a _ (λ z. omega arith)
+          λ how.
+          symbol-is how gs (s .state) (s .class) a _ (λ z. omega arith)
           (w .first ∙ ap (λ (k : ℕ). select (rows-at gs k (s .class)) false (s .state)) first-half
           ∙ ap (λ (t : ℕ). select (rows-at gs ((a - 1) / 2) (s .class)) (eqb t 1) (s .state)) (sym first-rest));
       second =
-          symbol-is gs (s .state) (s .class) (a + 1) _ (λ z. omega arith)
+          λ how.
+          symbol-is how gs (s .state) (s .class) (a + 1) _ (λ z. omega arith)
           (w .second ∙ ap (λ (k : ℕ). select (rows-at gs k (s .class)) true (s .state)) second-half
           ∙ ap (λ (t : ℕ). select (rows-at gs ((a + 1 - 1) / 2) (s .class)) (eqb t 1) (s .state)) (sym second-rest));
     }
@@ -44,8 +46,8 @@ pub pair-none :
     rule-of (r .second) ≡ no-rule → Made-pair gs s r
 pair-none gs s r t odd is h p q =
     record {
-      first = unruled-is gs (s .state) (s .class) (s .symbol) _ t (λ z. omega arith) is h p;
-      second = unruled-is gs (s .state) (s .class) (s .symbol + 1) _ t (λ z. omega arith) is h q;
+      first = λ how. unruled-is how gs (s .state) (s .class) (s .symbol) _ t (λ z. omega arith) is h p;
+      second = λ how. unruled-is how gs (s .state) (s .class) (s .symbol + 1) _ t (λ z. omega arith) is h q;
     }
 
 pub half-there : (gs : List ℕ) (a : ℕ) → a % 2 ≡ 1 → a < symbols-of gs → a / 2 < rules gs

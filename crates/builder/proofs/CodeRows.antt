@@ -13,6 +13,7 @@ use Rattle.grammar.specs.declared.Expression.the-variants.{Sequence, Choice, No
 use Rattle.grammar.specs.declared.ByteRange.{ByteRange}
 use Rattle.grammar.specs.declared.ByteRange.the-variants.{Between, Nothing}
 use Rattle.grammar.specs.Grammar.{max-rules, kind-sequence, kind-choice, kind-not, kind-empty, rules, expression, expression-by, range-of, Parts-below, kind-of, b-of, c-of, grammar-refusal}
+use Rattle.builder.specs.declared.Matching.{Matching}
 use Rattle.builder.specs.Classes.{class-count, class-in}
 use Rattle.builder.specs.Table.{state-work, state-ok, state-fail, no-rule, class-inside, Row, row, rows, rows-at, unruled, by-state, select, row-zero, made}
 use Rattle.builder.specs.code.Writing.{Few, class-between, inside-by, Rows-ready}
@@ -86,13 +87,14 @@ rule-is gs bs n k x s p r e y inside w bytes is range tells picks =
     picks ∙ ap (λ (z : Expression). select (rows z k inside) s p) is ∙ ap (λ (t : Bool). select (rows (expression gs k) k t) s p) same
 
 -- THE RULE, by its symbol
-pub zero-is : (gs : List ℕ) (n p x a : ℕ) (r : Rule) → n ≡ class-count gs → a ≡ 0 → r ≡ row-zero n p x → r ≡ made gs p x a
+pub zero-is :
+    (how : Matching) (gs : List ℕ) (n p x a : ℕ) (r : Rule) → n ≡ class-count gs → a ≡ 0 → r ≡ row-zero how n p x → r ≡ made how gs p x a
 unfolding made
-zero-is gs n p x a r e z q = q ∙ ap (λ (m : ℕ). row-zero m p x) e ∙ ap (made gs p x) (sym z)
+zero-is how gs n p x a r e z q = q ∙ ap (λ (m : ℕ). row-zero how m p x) e ∙ ap (made how gs p x) (sym z)
 
-made-suc : (gs : List ℕ) (p x a : ℕ) → select (rows-at gs (a / 2) x) (eqb (a % 2) 1) p ≡ made gs p x (suc a)
+made-suc : (how : Matching) (gs : List ℕ) (p x a : ℕ) → select (rows-at gs (a / 2) x) (eqb (a % 2) 1) p ≡ made how gs p x (suc a)
 unfolding made
-made-suc gs p x a = refl
+made-suc how gs p x a = refl
 
 -- a state in which no rule stands
 none-there : (p : ℕ) (r : Row) → unruled p ≡ true → by-state p r ≡ no-rule
@@ -106,14 +108,14 @@ none-there (suc (suc (suc (suc p)))) r e =
     simp (ne-eqb n state-work (λ z. omega arith), ne-eqb n state-ok (λ z. omega arith), ne-eqb n state-fail (λ z. omega arith))
 
 pub unruled-is :
-    (gs : List ℕ) (p x a : ℕ) (r : Rule) (t : Bool) → (a ≡ 0 → ⊥) → t ≡ unruled p → t ≡ true → r ≡ no-rule → r ≡ made gs p x a
+    (how : Matching) (gs : List ℕ) (p x a : ℕ) (r : Rule) (t : Bool) → (a ≡ 0 → ⊥) → t ≡ unruled p → t ≡ true → r ≡ no-rule → r ≡ made how gs p x a
 unfolding made select
-unruled-is gs p x zero r t some is h q = absurd (some refl)
-unruled-is gs p x (suc a) r t some is h q = q ∙ sym (none-there p _ (sym is ∙ h))
+unruled-is how gs p x zero r t some is h q = absurd (some refl)
+unruled-is how gs p x (suc a) r t some is h q = q ∙ sym (none-there p _ (sym is ∙ h))
 
 pub symbol-is :
-    (gs : List ℕ) (p x a : ℕ) (r : Rule) → (a ≡ 0 → ⊥) → r ≡ select (rows-at gs ((a - 1) / 2) x) (eqb ((a - 1) % 2) 1) p → r ≡ made gs p x a
-symbol-is gs p x a r some q = q ∙ made-suc gs p x (a - 1) ∙ ap (made gs p x) (after a some)
+    (how : Matching) (gs : List ℕ) (p x a : ℕ) (r : Rule) → (a ≡ 0 → ⊥) → r ≡ select (rows-at gs ((a - 1) / 2) x) (eqb ((a - 1) % 2) 1) p → r ≡ made how gs p x a
+symbol-is how gs p x a r some q = q ∙ made-suc how gs p x (a - 1) ∙ ap (made how gs p x) (after a some)
   where
     after : (a : ℕ) → (a ≡ 0 → ⊥) → suc (a - 1) ≡ a
     after a h = omega arith

@@ -9,6 +9,7 @@ pub mod BuiltImage
 pub mod BuiltRules
 pub mod BuiltGood
 pub mod BuiltKinds
+pub mod Choice
 pub mod Answered
 pub mod BuildingMet
 pub mod CodeClasses

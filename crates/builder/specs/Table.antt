@@ -10,6 +10,8 @@ use Rattle.grammar.specs.declared.ByteRange.the-variants.{Between, Nothing}
 use Rattle.grammar.specs.declared.Expression.{Expression}
 use Rattle.grammar.specs.declared.Expression.the-variants.{Sequence, Choice, Not, Empty, Range}
 use Rattle.grammar.specs.Grammar.{expression, range-of}
+use Rattle.builder.specs.declared.Matching.{Matching}
+use Rattle.builder.specs.declared.Matching.the-variants.{Whole, Leading}
 use Rattle.builder.specs.Classes.{class-count, class-in}
 
 -- THE STATES
@@ -112,11 +114,17 @@ by-state p r = cond (eqb p state-work) (r .work) (cond (eqb p state-ok) (r .ok) 
 unfoldable pub select : Rows → (is-second : Bool) → (p : ℕ) → Rule
 select r s p = by-state p (cond s (r .second) (r .first))
 
--- THE TWO RULES OF SYMBOL 0: start on the left marker, ok on the right one
-unfoldable pub row-zero : (class-count p class : ℕ) → Rule
-row-zero n p k =
+-- THE CHOICE, ok on a byte with symbol 0, where rule 0 has succeeded before the capture's end: a whole match has no rule there; a leading one changes to itself and moves right
+unfoldable pub on-byte : Matching → Rule
+on-byte Whole = no-rule
+on-byte Leading = rule Format.kind-change state-ok 0 Format.direction-right
+
+-- THE RULES OF SYMBOL 0: start on the left marker, ok on the right one, ok on a byte
+unfoldable pub row-zero : Matching → (class-count p class : ℕ) → Rule
+row-zero how n p k =
     cond (eqb p state-start && eqb k n) (rule Format.kind-push state-work (first 0) Format.direction-right)
-    (cond (eqb p state-ok && eqb k (n + 1)) (rule Format.kind-pop state-done 0 Format.pop-stay) no-rule)
+    (cond (eqb p state-ok && eqb k (n + 1)) (rule Format.kind-pop state-done 0 Format.pop-stay)
+    (cond (eqb p state-ok && ltb k n) (on-byte how) no-rule))
 
 -- whether a byte class, and no marker, is in a range
 unfoldable pub class-inside : List ℕ → ByteRange → (class : ℕ) → Bool
@@ -128,6 +136,6 @@ unfoldable pub rows-at : List ℕ → (k class : ℕ) → Rows
 rows-at gs k x = rows (expression gs k) k (class-inside gs (range-of (expression gs k)) x)
 
 -- THE RULE for state p, class x and symbol a
-unfoldable pub made : List ℕ → (p class a : ℕ) → Rule
-made gs p x zero = row-zero (class-count gs) p x
-made gs p x (suc a) = select (rows-at gs (a / 2) x) (eqb (a % 2) 1) p
+unfoldable pub made : Matching → List ℕ → (p class a : ℕ) → Rule
+made how gs p x zero = row-zero how (class-count gs) p x
+made how gs p x (suc a) = select (rows-at gs (a / 2) x) (eqb (a % 2) 1) p

@@ -1,5 +1,6 @@
 // Building: the image of a grammar, written into a lent buffer from its first byte on.
 use crate::Built;
+use crate::Matching;
 use crate::Plan;
 use crate::RuleBytes;
 use crate::RulePair;
@@ -139,9 +140,9 @@ fn write_rule(image: &mut [u8], i: u32, r: RuleBytes)
 }
 
 // The rules, in the order of their indices, after the class map: symbol 0 by itself, then the two of a grammar rule at once, which is looked at once for them.
-fn write_rules(grammar: &[u8], image: &mut [u8], classes: u32, count: u32)
+fn write_rules(grammar: &[u8], image: &mut [u8], classes: u32, count: u32, matching: Matching)
     requires { ⌜ Rows-ready (now grammar) (now image) classes × Write-ready (now grammar) (now image) classes count ⌝ }
-    ensures { λ r. ⌜ now (image .exit) ≡ with-rules (now (grammar .entry)) (now (image .entry)) ⌝ }
+    ensures { λ r. ⌜ now (image .exit) ≡ with-rules matching (now (grammar .entry)) (now (image .entry)) ⌝ }
 {
     let symbols = symbol_count(grammar);
     let columns = classes + 2;
@@ -149,7 +150,7 @@ fn write_rules(grammar: &[u8], image: &mut [u8], classes: u32, count: u32)
     let mut i: u32 = 0;
     while i < count {
         if s.symbol == 0 {
-            let r = row_zero(classes, s.state, s.class);
+            let r = row_zero(classes, s.state, s.class, matching);
             write_rule(image, i, r);
             s = counting::next(s, columns, symbols);
             i += 1;
@@ -165,22 +166,22 @@ fn write_rules(grammar: &[u8], image: &mut [u8], classes: u32, count: u32)
 }
 
 // The whole image, in a buffer of its length.
-fn write_image(grammar: &[u8], image: &mut [u8], classes: u32, count: u32)
+fn write_image(grammar: &[u8], image: &mut [u8], classes: u32, count: u32, matching: Matching)
     requires { ⌜ Write-ready (now grammar) (now image) classes count ⌝ }
-    ensures { λ r. ⌜ now (image .exit) ≡ built (now (grammar .entry)) ⌝ }
+    ensures { λ r. ⌜ now (image .exit) ≡ built matching (now (grammar .entry)) ⌝ }
 {
     let symbols = symbol_count(grammar);
     write_header(image, classes as u8, symbols as u8, count);
     write_map(grammar, image);
-    write_rules(grammar, image, classes, count);
+    write_rules(grammar, image, classes, count, matching);
 }
 
 // The image of a grammar that is not refused, in a buffer of exactly its length.
-pub fn build_checked(grammar: &[u8], plan: Plan, image: &mut [u8])
+pub fn build_checked(grammar: &[u8], plan: Plan, image: &mut [u8], matching: Matching)
     requires { ⌜ Buffer-ready (now grammar) plan (now image) ⌝ }
-    ensures { λ r. ⌜ now (image .exit) ≡ built (now (grammar .entry)) ⌝ }
+    ensures { λ r. ⌜ now (image .exit) ≡ built matching (now (grammar .entry)) ⌝ }
 {
-    write_image(grammar, image, plan.classes, plan.count);
+    write_image(grammar, image, plan.classes, plan.count, matching);
 }
 
 // Refusal 13: a buffer of so many bytes, for an image that is so long.
@@ -212,26 +213,26 @@ pub fn build_refusal(grammar: &[u8], room: usize) -> Refusal
 }
 
 // Building of a planned image: its length, or refusal 13.
-pub fn build_planned(grammar: &[u8], plan: Plan, image: &mut [u8]) -> Built
+pub fn build_planned(grammar: &[u8], plan: Plan, image: &mut [u8], matching: Matching) -> Built
     requires { ⌜ Planned (now grammar) plan ⌝ }
-    ensures { λ r. ⌜ Build-says (now (grammar .entry)) r (now (image .entry)) (now (image .exit)) ⌝ }
+    ensures { λ r. ⌜ Build-says matching (now (grammar .entry)) r (now (image .entry)) (now (image .exit)) ⌝ }
 {
     let long = plan.long;
     let short = room_refusal(long, image.len());
     if short.number != 0 {
         return Built::Refused(short);
     }
-    build_checked(grammar, plan, &mut image[..long]);
+    build_checked(grammar, plan, &mut image[..long], matching);
     Built::Image(long)
 }
 
-// Building: the image's length, or the first refusal of 11 to 13. Later bytes stay, and a refusal changes none.
-pub fn build_image(grammar: &[u8], image: &mut [u8]) -> Built
-    ensures { λ r. ⌜ Build-says (now (grammar .entry)) r (now (image .entry)) (now (image .exit)) ⌝ }
+// Building, by a choice: the image's length, or the first refusal of 11 to 13. Later bytes stay, and a refusal changes none.
+pub fn build_image(grammar: &[u8], image: &mut [u8], matching: Matching) -> Built
+    ensures { λ r. ⌜ Build-says matching (now (grammar .entry)) r (now (image .entry)) (now (image .exit)) ⌝ }
 {
     let refusal = refusal_of(grammar);
     if refusal.number != 0 {
         return Built::Refused(refusal);
     }
-    build_planned(grammar, plan_of(grammar), image)
+    build_planned(grammar, plan_of(grammar), image, matching)
 }

@@ -5,6 +5,21 @@ pub mod planning;
 pub mod rows;
 
 use refusal::Refusal;
+ghost use mathlib.Core.Path.{_≡_};
+ghost use Rattle.builder.specs.Matching.{default-matching};
+
+// What of a capture a grammar must match for the built machine to accept: the whole of it, or a leading part (a prefix match).
+pub enum Matching {
+    Whole,
+    Leading,
+}
+
+// The choice where none is given.
+pub fn default_matching() -> Matching
+    ensures { λ r. ⌜ r ≡ default-matching ⌝ }
+{
+    Matching::Leading
+}
 
 // The answer of building: the image's length.
 pub enum Built {

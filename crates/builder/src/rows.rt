@@ -1,4 +1,5 @@
 // The table: the rule of a grammar rule's first or second symbol in a state, and the rules of symbol 0.
+use crate::Matching;
 use crate::RuleBytes;
 use crate::RulePair;
 use grammar::Expression;
@@ -15,7 +16,7 @@ ghost use mathlib.Core.Bool.{Bool, true, false, _&&_, cond};
 ghost use Prim.Native.Nat.{ℕ, _+_, _*_, _<_};
 ghost use lib.Dec.{eqb};
 ghost use Rattle.grammar.specs.Grammar.{max-rules, Parts-below};
-ghost use Rattle.builder.specs.Table.{push-first, to-second, pass-byte, pop-fail, row, rows, by-state, unruled as unruled-of, select as select-of, row-zero};
+ghost use Rattle.builder.specs.Table.{push-first, to-second, pass-byte, pop-fail, row, rows, by-state, unruled as unruled-of, select as select-of, on-byte as on-byte-of, row-zero};
 ghost use Rattle.builder.specs.code.Writing.{rule-of, Few, Picks};
 
 // The states.
@@ -188,10 +189,25 @@ fn stands(state: u32, class: u32, at: u32, on: u32) -> bool
     class == on
 }
 
-// The rows of symbol 0: start on the left marker, ok on the right one.
-pub fn row_zero(classes: u32, state: u32, class: u32) -> RuleBytes
+// Ok on a byte, with symbol 0: the one rule that the choice decides.
+fn on_byte(matching: Matching) -> RuleBytes
+    ensures { λ r. ⌜ rule-of r ≡ on-byte-of matching ⌝ }
+{
+    match matching {
+        Matching::Whole => NO_RULE,
+        Matching::Leading => RuleBytes {
+            kind: KIND_CHANGE,
+            state: OK,
+            symbol: 0,
+            direction: DIRECTION_RIGHT,
+        },
+    }
+}
+
+// The rows of symbol 0: start on the left marker, ok on the right one, and ok on a byte.
+pub fn row_zero(classes: u32, state: u32, class: u32, matching: Matching) -> RuleBytes
     requires { ⌜ classes < 256 ⌝ }
-    ensures { λ r. ⌜ rule-of r ≡ row-zero classes state class ⌝ }
+    ensures { λ r. ⌜ rule-of r ≡ row-zero matching classes state class ⌝ }
 {
     if stands(state, class, START as u32, classes) {
         return RuleBytes {
@@ -210,5 +226,11 @@ pub fn row_zero(classes: u32, state: u32, class: u32) -> RuleBytes
             direction: POP_STAY,
         };
     }
-    NO_RULE
+    if state != OK as u32 {
+        return NO_RULE;
+    }
+    if classes <= class {
+        return NO_RULE;
+    }
+    on_byte(matching)
 }

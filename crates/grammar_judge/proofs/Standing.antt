@@ -12,6 +12,7 @@ use Rattle.simulator.specs.declared.Judged.the-variants.{Answer}
 use Rattle.simulator.specs.Calls.{Judge-says}
 use Rattle.simulator.proofs.Needing.{cells-are}
 use Rattle.builder.specs.declared.Plan.{Plan}
+use Rattle.builder.specs.declared.Matching.the-variants.{Whole}
 use Rattle.builder.specs.Image.{built, built-length}
 use Rattle.builder.specs.code.Building.{Planned, Buffer-ready, Short, Cells-are}
 use Rattle.builder.proofs.BuiltImage.{built-length-is}
@@ -22,16 +23,16 @@ use Rattle.grammar_judge.proofs.Refusing.{Roomy, roomy}
 
 -- THE IMAGE STANDS at the start of the buffer, before the later bytes
 pub record Stands (gs m p : List ℕ) (long : ℕ) : Type 0 where
-  pub bytes : p ≡ built gs ++ drop (built-length gs) m
-  pub part : take long p ≡ built gs
+  pub bytes : p ≡ built Whole gs ++ drop (built-length gs) m
+  pub part : take long p ≡ built Whole gs
   pub fits : long ≤ length p
 
-pub stands : (gs m w : List ℕ) (p : Plan) → Planned gs p → w ≡ built gs → Stands gs m (w ++ drop (p .long) m) (p .long)
+pub stands : (gs m w : List ℕ) (p : Plan) → Planned gs p → w ≡ built Whole gs → Stands gs m (w ++ drop (p .long) m) (p .long)
 stands gs m w p planned e =
     let l : p .long ≡ built-length gs = long-is gs p (planned .is) in
-    let long : length w ≡ p .long = ap length e ∙ built-length-is gs ∙ sym l in
+    let long : length w ≡ p .long = ap length e ∙ built-length-is Whole gs ∙ sym l in
     record {
-      bytes = ap (λ (x : List ℕ). x ++ drop (p .long) m) e ∙ ap (λ (n : ℕ). built gs ++ drop n m) l;
+      bytes = ap (λ (x : List ℕ). x ++ drop (p .long) m) e ∙ ap (λ (n : ℕ). built Whole gs ++ drop n m) l;
       part = take-at w _ (p .long) long ∙ e;
       fits = omega (arith, length-append w (drop (p .long) m));
     }
@@ -52,12 +53,12 @@ module _ (gs cs : List ℕ) (p : Plan) (x : Lent) (ready : Answer-ready gs cs p 
   pub capture-short : Short gs (length cs)
   capture-short = record { good = ready .planned .good; fits = room .short }
 
-  pub judge-ready : (bs : List ℕ) (cells : ℕ) → bs ≡ built gs → Cells-are gs (length cs) cells → Judge-ready bs cs cells (x .notes) (x .work)
+  pub judge-ready : (bs : List ℕ) (cells : ℕ) → bs ≡ built Whole gs → Cells-are gs (length cs) cells → Judge-ready bs cs cells (x .notes) (x .work)
   judge-ready bs cells e count =
-      let k : cells ≡ how-many (machine (built gs) cs) = count cs refl in
+      let k : cells ≡ how-many (machine (built Whole gs) cs) = count Whole cs refl in
       subst (λ (y : List ℕ). Judge-ready y cs cells (x .notes) (x .work)) (sym e)
       (record {
-        sized = record { no-refusal = room .no-refusal; counted = k ∙ sym (cells-are (built gs) cs) };
+        sized = record { no-refusal = room .no-refusal; counted = k ∙ sym (cells-are (built Whole gs) cs) };
         notes-enough = omega (arith, room .notes-room);
         work-enough = omega (arith, room .work-room);
       })

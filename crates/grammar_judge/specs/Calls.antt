@@ -8,6 +8,7 @@ use Rattle.refusal.specs.First.{or-else}
 use Rattle.machine.specs.Run.{how-many}
 use Rattle.image.specs.Image.{machine}
 use Rattle.simulator.specs.Calls.{judge-refusal}
+use Rattle.builder.specs.declared.Matching.the-variants.{Whole}
 use Rattle.builder.specs.Image.{built, built-length}
 use Rattle.builder.specs.Calls.{build-refusal}
 
@@ -22,7 +23,7 @@ lent m a b = record { image = m; notes = a; work = b }
 
 -- a grammar and a capture are refused by 11 to 13, then by 7 to 9, before any cell is written
 unfoldable pub parts-refusal : (grammar capture : List ℕ) → (image notes work : ℕ) → Refusal
-parts-refusal gs cs m a b = or-else (build-refusal gs m) (judge-refusal (built gs) cs a b)
+parts-refusal gs cs m a b = or-else (build-refusal gs m) (judge-refusal (built Whole gs) cs a b)
 
 abbrev pub lent-refusal : (grammar capture : List ℕ) → Lent → Refusal
 lent-refusal gs cs x = parts-refusal gs cs (length (x .image)) (length (x .notes)) (length (x .work))
@@ -35,5 +36,5 @@ pub record Same-room (x z : Lent) : Type 0 where
 
 pub record Same-cells (gs cs : List ℕ) (y w : Lent) : Type 0 where
   pub image : take (built-length gs) (y .image) ≡ take (built-length gs) (w .image)
-  pub notes : take (how-many (machine (built gs) cs)) (y .notes) ≡ take (how-many (machine (built gs) cs)) (w .notes)
-  pub work : take (how-many (machine (built gs) cs)) (y .work) ≡ take (how-many (machine (built gs) cs)) (w .work)
+  pub notes : take (how-many (machine (built Whole gs) cs)) (y .notes) ≡ take (how-many (machine (built Whole gs) cs)) (w .notes)
+  pub work : take (how-many (machine (built Whole gs) cs)) (y .work) ≡ take (how-many (machine (built Whole gs) cs)) (w .work)

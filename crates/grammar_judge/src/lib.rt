@@ -1,4 +1,5 @@
-// Judging a capture by a grammar's bytes: all checks, then building and judging in lent buffers.
+// Judging a whole capture by a grammar's bytes: all checks, then building and judging in lent buffers.
+use builder::Matching;
 use builder::Plan;
 use builder::build::build_checked;
 use builder::build::room_refusal;
@@ -12,6 +13,7 @@ ghost use Rattle.refusal.specs.First.{refusal};
 ghost use Rattle.simulator.specs.declared.Judged.the-variants.{Answer};
 ghost use Rattle.simulator.specs.Calls.{judge-refusal, Judge-says};
 ghost use Rattle.grammar.specs.Grammar.{grammar-refusal};
+ghost use Rattle.builder.specs.declared.Matching.the-variants.{Whole};
 ghost use Rattle.builder.specs.Image.{built};
 ghost use Rattle.builder.specs.code.Building.{Planned};
 ghost use Rattle.grammar_judge.specs.Calls.{lent, parts-refusal};
@@ -26,7 +28,7 @@ fn refused(number: u32, place: usize) -> Refusal
 // Refusals 7 to 9, or number 0, for a grammar that is not refused: how many cells its machine needs follows from the grammar and the capture's length.
 fn cells_refusal(grammar: &[u8], capture: &[u8], notes: usize, work: usize) -> Refusal
     requires { ⌜ grammar-refusal (now grammar) .number ≡ 0 ⌝ }
-    ensures { λ r. ⌜ r ≡ judge-refusal (built (now (grammar .entry))) (now (capture .entry)) notes work ⌝ }
+    ensures { λ r. ⌜ r ≡ judge-refusal (built Whole (now (grammar .entry))) (now (capture .entry)) notes work ⌝ }
 {
     let n = capture.len();
     if MAX_CAPTURE < n {
@@ -90,7 +92,7 @@ pub fn build_and_judge(
         (lent (now (image .exit)) (now (notes .exit)) (now (work .exit))) r ⌝ }
 {
     let long = plan.long;
-    build_checked(grammar, plan, &mut image[..long]);
+    build_checked(grammar, plan, &mut image[..long], Matching::Whole);
     let cells = cells_of(grammar, capture.len());
     judge_lent(&image[..long], capture, cells, notes, work)
 }

@@ -1,4 +1,4 @@
--- Where the rules of a grammar's machine lead: from a rule's symbol in states work, ok and fail to such a configuration again, or to a pop; and where the bottom entry alone is left the run terminates. Assumes nothing.
+-- Where the rules of a grammar's machine lead: from a rule's symbol in states work, ok and fail to such a configuration again, or to a pop; and where the bottom entry alone is left the run terminates, or by a leading match passes a byte. Assumes nothing.
 use mathlib.Core.Path.{_≡_, refl}
 use mathlib.Core.Bool.{Bool, true, false, _&&_}
 use mathlib.Core.List.{List, []}
@@ -11,17 +11,19 @@ use borrow.Author.Tests.{ltb-true}
 use Rattle.machine.specs.declared.Config.{Config}
 use Rattle.machine.specs.declared.Action.{Action}
 use Rattle.machine.specs.declared.Action.the-variants.{Stop, Change, Push, Pop}
-use Rattle.machine.specs.Run.{Machine, config}
+use Rattle.machine.specs.Run.{Machine, next, step, config}
 use Rattle.codec.specs.Bytes.{byte}
 use Rattle.image.specs.Image.{action-by, moved, Rule}
 use Rattle.machine.specs.Verdicts.{over-base}
-use Rattle.machine.proofs.Runs.{step-stop, step-pop-last, Terminated, terminated-stopped, terminated-over}
+use Rattle.machine.proofs.Runs.{step-stop, step-change, step-pop-last, Terminated, terminated-stopped, terminated-over}
 use Rattle.grammar.specs.declared.Expression.{Expression}
 use Rattle.grammar.specs.declared.Expression.the-variants.{Sequence, Choice, Not, Empty, Range}
 use Rattle.grammar.specs.Grammar.{range-of, Parts-below}
 use Rattle.grammar.specs.Parsing.{Rules}
+use Rattle.builder.specs.declared.Matching.{Matching}
+use Rattle.builder.specs.declared.Matching.the-variants.{Whole, Leading}
 use Rattle.builder.specs.Table.{state-work, state-ok, state-fail, state-done, first, symbol, no-rule, rows}
-use Rattle.parsing_theory.proofs.Table.{Table}
+use Rattle.parsing_theory.proofs.Table.{Table, Choice-row}
 use Rattle.grammar.proofs.Matches.{matches, passes}
 use Rattle.builder.proofs.EachRow.{Each, each, each-select}
 
@@ -103,25 +105,36 @@ module _ {M : Machine} {E : Rules} {m : ℕ} {cs : List ℕ} (table : Table M E 
   pub box-leads : (c : Config) → In-box m (length cs) c → Leads m (length cs) (M .action c)
   box-leads c b = box-leads-by (c .state) (c .head) (c .symbol) b (rule-symbol m (c .symbol) (b .symbol-least) (b .symbol-most))
 
-  -- where the bottom entry alone is left the run terminates
-  bottom-terminates-by : (p i j : ℕ) → At-bottom (length cs) (config p i 0) → Terminated M (over-base (config p i 0) j [])
-  bottom-terminates-by p zero j b = absurd (omega (arith, b .head-least))
-  bottom-terminates-by zero (suc i) j b = absurd (omega (arith, b .state-least))
-  bottom-terminates-by (suc zero) (suc i) j b = absurd (omega (arith, b .state-least))
-  bottom-terminates-by (suc (suc zero)) (suc i) j b = go (ℕ-discrete i (length cs))
+-- WHERE THE BOTTOM ENTRY ALONE IS LEFT: the run terminates, or by a leading match passes a byte
+pub data At-last (how : Matching) (M : Machine) (n : ℕ) (c : Config) (j : ℕ) : Type 0 where
+  terminates : Terminated M (over-base c j []) → At-last how M n c j
+  passes-byte :
+      how ≡ Leading → c .state ≡ state-ok → c .head ≤ n →
+      step M (over-base c j []) ≡ next (over-base (config state-ok (suc (c .head)) 0) j []) → At-last how M n c j
+
+module _ {M : Machine} {E : Rules} {m : ℕ} {cs : List ℕ} (table : Table M E m cs) where
+  byte-goes : (how : Matching) → Choice-row how M cs → (i j : ℕ) → i < length cs → At-last how M (length cs) (config state-ok (suc i) 0) j
+  byte-goes Whole choice i j h = terminates (terminated-stopped M _ (step-stop M (config state-ok (suc i) 0) j [] (choice .on-bytes i h)))
+  byte-goes Leading choice i j h = passes-byte refl refl (omega arith) (step-change M (config state-ok (suc i) 0) j [] (choice .on-bytes i h))
+
+  bottom-goes-by : {how : Matching} → Choice-row how M cs → (p i j : ℕ) → At-bottom (length cs) (config p i 0) → At-last how M (length cs) (config p i 0) j
+  bottom-goes-by choice p zero j b = absurd (omega (arith, b .head-least))
+  bottom-goes-by choice zero (suc i) j b = absurd (omega (arith, b .state-least))
+  bottom-goes-by choice (suc zero) (suc i) j b = absurd (omega (arith, b .state-least))
+  bottom-goes-by {how} choice (suc (suc zero)) (suc i) j b = go (ℕ-discrete i (length cs))
     where
-      go : Dec (i ≡ length cs) → Terminated M (over-base (config state-ok (suc i) 0) j [])
+      go : Dec (i ≡ length cs) → At-last how M (length cs) (config state-ok (suc i) 0) j
       go (yes e) =
           let pops : M .action (config state-ok (suc i) 0) ≡ Pop state-done false = rw e (table .ends) in
-          terminated-over M _ (step-pop-last M (config state-ok (suc i) 0) j pops)
-      go (no f) = terminated-stopped M _ (step-stop M (config state-ok (suc i) 0) j [] (table .ok-stops i (omega (arith, b .head-most))))
-  bottom-terminates-by (suc (suc (suc zero))) (suc i) j b =
-      terminated-stopped M _ (step-stop M (config state-fail (suc i) 0) j [] (table .fail-stops i (omega (arith, b .head-most))))
-  bottom-terminates-by (suc (suc (suc (suc p)))) (suc i) j b = absurd (omega (arith, b .state-most))
+          terminates (terminated-over M _ (step-pop-last M (config state-ok (suc i) 0) j pops))
+      go (no f) = byte-goes how choice i j (omega (arith, b .head-most))
+  bottom-goes-by choice (suc (suc (suc zero))) (suc i) j b =
+      terminates (terminated-stopped M _ (step-stop M (config state-fail (suc i) 0) j [] (table .fail-stops i (omega (arith, b .head-most)))))
+  bottom-goes-by choice (suc (suc (suc (suc p)))) (suc i) j b = absurd (omega (arith, b .state-most))
 
-  pub bottom-terminates : (c : Config) → At-bottom (length cs) c → (j : ℕ) → Terminated M (over-base c j [])
-  bottom-terminates c b j = go (c .symbol) (b .symbol-is) b
+  pub bottom-goes : {how : Matching} → Choice-row how M cs → (c : Config) → At-bottom (length cs) c → (j : ℕ) → At-last how M (length cs) c j
+  bottom-goes {how} choice c b j = go (c .symbol) (b .symbol-is) b
     where
-      go : (a : ℕ) → a ≡ 0 → At-bottom (length cs) (config (c .state) (c .head) a) → Terminated M (over-base (config (c .state) (c .head) a) j [])
-      go zero e d = bottom-terminates-by (c .state) (c .head) j d
+      go : (a : ℕ) → a ≡ 0 → At-bottom (length cs) (config (c .state) (c .head) a) → At-last how M (length cs) (config (c .state) (c .head) a) j
+      go zero e d = bottom-goes-by choice (c .state) (c .head) j d
       go (suc a) e d = absurd (omega arith)

@@ -1,5 +1,6 @@
 -- The proofs of the promises: each cites the crate that proves it.
 pub mod Told
+pub mod MatchingTold
 pub mod NotLooping
 pub mod TextNotLooping
 pub mod Proved

@@ -27,6 +27,8 @@ use Rattle.grammar.specs.Grammar.{rules, expression}
 use Rattle.grammar.specs.Parsing.{Parses}
 use Rattle.grammar.proofs.GrammarGood.{good-grammar}
 use Rattle.grammar.proofs.ConditionsMet.{grammar-check}
+use Rattle.builder.specs.declared.Matching.{Matching}
+use Rattle.builder.specs.declared.Matching.the-variants.{Whole}
 use Rattle.builder.specs.Image.{built}
 use Rattle.recursion.specs.Computed.{leads-on, recursion-refusal}
 use Rattle.recursion.proofs.ClosureRight.{leads-on-exact}
@@ -61,10 +63,10 @@ first-rule : (gs : List ℕ) → recursion-refusal gs .number ≡ 0 → 0 < rule
 first-rule gs none = omega (arith, good-grammar gs (ap (λ f. f .number) (grammar-check gs .accepted (passes gs none .right))) .rules-least)
 
 pub judged-not-looping :
-    (gs cs a a-now b b-now : List ℕ) (v : Verdict) (n : ℕ) (d : Config) → recursion-refusal gs .number ≡ 0 → Bytes cs →
-    Judge-says (built gs) cs (Answer (judgement v n d)) a a-now b b-now → v ≡ Looping → ⊥
-judged-not-looping gs cs a a-now b b-now v n d none bytes says is =
-    never-looping gs cs none bytes .terminates (looping-exact (built gs) cs a a-now b b-now v n d bytes says .0 is)
+    (how : Matching) (gs cs a a-now b b-now : List ℕ) (v : Verdict) (n : ℕ) (d : Config) → recursion-refusal gs .number ≡ 0 → Bytes cs →
+    Judge-says (built how gs) cs (Answer (judgement v n d)) a a-now b b-now → v ≡ Looping → ⊥
+judged-not-looping how gs cs a a-now b b-now v n d none bytes says is =
+    never-looping gs cs none bytes .terminates how (looping-exact (built how gs) cs a a-now b b-now v n d bytes says .0 is)
 
 -- parts of bytes are bytes
 bytes-drop : (o : ℕ) (xs : List ℕ) → Bytes xs → Bytes (drop o xs)
@@ -87,14 +89,14 @@ pub line-not-looping :
 line-not-looping xs x y line none bytes unrefused says =
     let l = line-parsed xs x y line bytes unrefused says in
     let r = all-results (input-grammar xs) none (input-capture xs) 0 0 (first-rule (input-grammar xs) none) in
-    (l .verdict, l .readings, l .end, l .says, λ is. subst (As-parsed (input-grammar xs) (input-capture xs)) is (l .parsed) (r .0) (r .1))
+    (l .verdict, l .readings, l .end, l .says, λ is. subst (As-parsed Whole (input-grammar xs) (input-capture xs)) is (l .parsed) (r .0) (r .1))
 
 -- THE REPORT ON A BUNDLE
-module _ (gs xs : List ℕ) (none : recursion-refusal gs .number ≡ 0) (bytes : Bytes xs) where
-  gives-none : (cs a a-now b b-now : List ℕ) (r : Judged) → Bytes cs → Judge-says (built gs) cs r a a-now b b-now → gives Looping r ≡ 0
+module _ (how : Matching) (gs xs : List ℕ) (none : recursion-refusal gs .number ≡ 0) (bytes : Bytes xs) where
+  gives-none : (cs a a-now b b-now : List ℕ) (r : Judged) → Bytes cs → Judge-says (built how gs) cs r a a-now b b-now → gives Looping r ≡ 0
   unfolding gives verdict-number
   gives-none cs a a-now b b-now (Refused f) all says = refl
-  gives-none cs a a-now b b-now (Answer j) all says = other (j .verdict) (judged-not-looping gs cs a a-now b b-now (j .verdict) (j .readings) (j .end) none all says)
+  gives-none cs a a-now b b-now (Answer j) all says = other (j .verdict) (judged-not-looping how gs cs a a-now b b-now (j .verdict) (j .readings) (j .end) none all says)
     where
       other : (v : Verdict) → (v ≡ Looping → ⊥) → _≡_ {A = ℕ} (cond (eqb (verdict-number v) (verdict-number Looping)) 1 0) 0
       other Accepted h = refl
@@ -103,7 +105,7 @@ module _ (gs xs : List ℕ) (none : recursion-refusal gs .number ≡ 0) (bytes :
       other Looping h = absurd (h refl)
       other Halted h = refl
 
-  sum-none : (i : ℕ) (rs : List Judged) (a a-now b b-now : List ℕ) → In-order (built gs) xs i rs a a-now b b-now → sum (gives Looping) rs ≡ 0
+  sum-none : (i : ℕ) (rs : List Judged) (a a-now b b-now : List ℕ) → In-order (built how gs) xs i rs a a-now b b-now → sum (gives Looping) rs ≡ 0
   unfolding sum
   sum-none i [] a a-now b b-now done = refl
   sum-none i (r ∷ rs) a a-now b b-now (next {a-then = a-then} {b-then = b-then} below says rest) =
@@ -112,9 +114,9 @@ module _ (gs xs : List ℕ) (none : recursion-refusal gs .number ≡ 0) (bytes :
       omega arith
 
 pub bundle-not-looping :
-    (gs xs : List ℕ) (n : ℕ) (t : Totals) (l m a x b y : List ℕ) → recursion-refusal gs .number ≡ 0 → Bytes xs →
-    Bundle-says (built gs) xs (Lines n t) l m a x b y → t .looping ≡ 0
+    (how : Matching) (gs xs : List ℕ) (n : ℕ) (t : Totals) (l m a x b y : List ℕ) → recursion-refusal gs .number ≡ 0 → Bytes xs →
+    Bundle-says (built how gs) xs (Lines n t) l m a x b y → t .looping ≡ 0
 unfolding totals
-bundle-not-looping gs xs n t l m a x b y none bytes says =
-    let j = reported (built gs) xs n t l m a x b y says in
-    ap (λ (u : Totals). u .looping) (report-parts _ _ t _ (j .answers) .1) ∙ sum-none gs xs none bytes 0 (j .lines) a x b y (j .judged)
+bundle-not-looping how gs xs n t l m a x b y none bytes says =
+    let j = reported (built how gs) xs n t l m a x b y says in
+    ap (λ (u : Totals). u .looping) (report-parts _ _ t _ (j .answers) .1) ∙ sum-none how gs xs none bytes 0 (j .lines) a x b y (j .judged)

@@ -27,21 +27,23 @@ use Rattle.interpreter.proofs.RunStops.{run-stops}
 use Rattle.interpreter.proofs.Answered.{run-determined, run-independent}
 use Rattle.grammar.proofs.ConditionsMet.{grammar-answer}
 use Rattle.grammar.proofs.Inverted.{inverted-legal, inverted-fails, inverted-as-failure}
+use Rattle.builder.specs.declared.Matching.the-variants.{Whole, Leading}
 use Rattle.builder.proofs.BuildingMet.{building-answer}
 use Rattle.builder.proofs.BuiltGood.{built-good}
 use Rattle.builder.proofs.BuiltKinds.{built-without-halting}
 use Rattle.builder.proofs.BuiltImage.{built-length-is}
+use Rattle.builder.proofs.Choice.{whole-as-before, images-beside}
 use Rattle.builder.proofs.LongestImage.{longest-image, longest-there}
 use Rattle.builder.proofs.RangeClasses.{classes-count, range-classes}
 use Rattle.builder.proofs.InvertedRanges.{inverted-adds-none}
-use Rattle.parsing_theory.proofs.BuiltParses.{built-parses, few-readings, inverted-pops}
+use Rattle.parsing_theory.proofs.BuiltParses.{built-parses, few-readings, few-readings-leading, inverted-pops}
 use Rattle.builder.proofs.Answered.{build-determined, build-independent}
 use Rattle.answer.proofs.ConditionsMet.{input-answer, input-parts}
 use Rattle.answer.proofs.AnsweringMet.{answering-answer}
 use Rattle.answer.proofs.LineWhole.{line-whole, answer-determined, unread-refused}
 use Rattle.grammar_judge.proofs.Refusing.{refusals-left}
 use Rattle.answer.proofs.Answered.{line-parsed, answer-independent}
-use Rattle.grammar_judge.proofs.TwoCallsHold.{loops-exact, build-then-judge}
+use Rattle.grammar_judge.proofs.TwoCallsHold.{accepts-exact, stuck-exact as grammar-stuck, loops-exact, build-then-judge}
 use Rattle.syntax.proofs.FaultsRight.{faults-right}
 use Rattle.syntax.proofs.ReadingExact.{unambiguous, reading-exact}
 use Rattle.syntax_theory.proofs.TypedRight.{typed-right}
@@ -55,7 +57,7 @@ use Rattle.bundle.proofs.CellsIndependent.{bundle-cells-independent}
 use Rattle.bundle.proofs.LineAlone.{line-alone, bundle-later}
 use Rattle.bundle.proofs.Sums.{totals-sum, totals-whole}
 use Rattle.bundle.proofs.Reporting.{bundle-refuses, bundle-answers, bundle-determined, bundle-independent}
-use Rattle.worked_examples.proofs.ExamplesHold.{examples-hold, c1-image, c1-cells, c1-plain-runs, halting-rows, halting-runs, halting-images}
+use Rattle.worked_examples.proofs.ExamplesHold.{examples-hold, c1-image, c1-cells, c1-plain-runs, halting-rows, halting-runs, halting-images, leading-rows}
 use Rattle.worked_examples.proofs.ProgramPrints.{endless-printed}
 use Rattle.worked_examples.proofs.BundlesHold.{bundle-examples, capture-example, totals-example, cells-example}
 use Rattle.worked_examples.proofs.RecursionHolds.{recursion-examples}
@@ -68,6 +70,7 @@ use Rattle.recursion_theory.proofs.Consumed.{nothing-matched}
 use Rattle.recursion_theory.proofs.FirstParts.{no-result, met-loops}
 use Rattle.recursion_theory.proofs.Harmless.{fails-first-harmless, never-reached-harmless}
 use Rattle.promises.specs.Promises.{Promises}
+use Rattle.promises.proofs.MatchingTold.{default-leading, whole-then-leading, judged-whole-leading, built-accepted-told}
 use Rattle.promises.proofs.NotLooping.{never-looping, judged-not-looping, line-not-looping, bundle-not-looping}
 use Rattle.promises.proofs.TextNotLooping.{recursion-named, typed-results, text-not-looping}
 use Rattle.promises.proofs.Told.{judge-refuses, run-refuses, build-refuses, answer-refuses, build-text-refuses, judge-text-refuses, judge-answers, run-answers, accepted-told, line-accepted}
@@ -103,12 +106,12 @@ promises =
       judge-exact = verdict-exact;
       looping-endless = looping-exact;
       built-good = built-good;
-      built-accepts = λ gs cs good bytes. let b = built-parses gs cs good bytes in (λ (d, s). b .accepted-parses d s, b .parses-accepted);
+      built-accepts = accepts-exact Whole;
       built-loops = loops-exact;
-      built-goes-on = λ gs cs good bytes. let b = built-parses gs cs good bytes in (λ on o p. b .parses-terminates o p on, b .no-parse-goes-on);
-      built-stuck = λ gs cs good bytes. let b = built-parses gs cs good bytes in (λ (d, s). b .stuck-parses d s, λ (o, p, other). b .parses-stuck o p other);
-      built-not-ended = λ gs cs good bytes. built-parses gs cs good bytes .never-ended;
-      built-not-halted = λ gs cs good bytes. built-parses gs cs good bytes .never-halted;
+      built-goes-on = λ how gs cs good bytes. let b = built-parses how gs cs good bytes in (λ on o p. b .parses-terminates o p on, b .no-parse-goes-on);
+      built-stuck = grammar-stuck Whole;
+      built-not-ended = λ how gs cs good bytes. built-parses how gs cs good bytes .never-ended;
+      built-not-halted = λ how gs cs good bytes. built-parses how gs cs good bytes .never-halted;
       inverted-fails = inverted-fails;
       inverted-as-failure = inverted-as-failure;
       inverted-pops = inverted-pops;
@@ -216,4 +219,14 @@ promises =
       halting-rows = halting-rows;
       halting-runs = halting-runs;
       halting-images = halting-images;
+      default-leading = default-leading;
+      leading-accepts = accepts-exact Leading;
+      leading-stuck = grammar-stuck Leading;
+      whole-then-leading = whole-then-leading;
+      judged-whole-leading = judged-whole-leading;
+      whole-as-before = whole-as-before;
+      leading-one-row = images-beside;
+      few-readings-leading = few-readings-leading;
+      built-accepted-told = built-accepted-told;
+      leading-rows = leading-rows;
     }

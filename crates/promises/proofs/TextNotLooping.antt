@@ -14,6 +14,7 @@ use Rattle.simulator.specs.declared.Judged.{Judged}
 use Rattle.simulator.specs.declared.Judged.the-variants.{Answer}
 use Rattle.simulator.specs.Calls.{judgement, Judge-says}
 use Rattle.grammar.specs.Grammar.{rules}
+use Rattle.builder.specs.declared.Matching.the-variants.{Whole}
 use Rattle.builder.specs.Image.{built}
 use Rattle.recursion.specs.Computed.{recursion-refusal}
 use Rattle.syntax.specs.Trees.{Tree, Definition, Defines, Legal-text}
@@ -70,8 +71,8 @@ text-not-looping text cs x y v n d says bytes told is = go told refl
     go {r} {a} {b} (judged {gs = gs} s fine image judges) e =
         let p = passed says refl in
         let none : recursion-refusal gs .number ≡ 0 = rw (one-grammar text gs (p .grammar) s (p .read)) (p .none) in
-        judged-not-looping gs cs (a .notes) (b .notes) (a .work) (b .work) v n d none bytes
-        (subst (λ (q : Judged). Judge-says (built gs) cs q (a .notes) (b .notes) (a .work) (b .work)) e judges) is
+        judged-not-looping Whole gs cs (a .notes) (b .notes) (a .work) (b .work) v n d none bytes
+        (subst (λ (q : Judged). Judge-says (built Whole gs) cs q (a .notes) (b .notes) (a .work) (b .work)) e judges) is
 
 -- A RULE WITH A NAME: its line is its own
 own-line : {ds : List Definition} {k line : ℕ} → Line-of-rule ds k line → k < length ds → line ≡ k

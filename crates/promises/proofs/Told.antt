@@ -56,7 +56,7 @@ run-refuses bs cs n r a a-now says some = let (told, cells) = run-refused bs cs 
 
 pub build-refuses : Build-refuses
 unfolding of-built
-build-refuses gs r a a-now says some = let (told, bytes) = build-refused gs r a a-now some says in (ap of-built told, bytes)
+build-refuses how gs r a a-now says some = let (told, bytes) = build-refused how gs r a a-now some says in (ap of-built told, bytes)
 
 pub answer-refuses : Answer-refuses
 unfolding Answer-says

@@ -19,6 +19,7 @@ use Rattle.interpreter.specs.declared.Ran.{Ran}
 use Rattle.interpreter.specs.Calls.{run-refusal, Run-says}
 use Rattle.interpreter.specs.Conditions.{Running-row}
 use Rattle.interpreter.specs.Replies.{of-ran}
+use Rattle.builder.specs.declared.Matching.{Matching}
 use Rattle.builder.specs.declared.Built.{Built}
 use Rattle.grammar.specs.Grammar.{Inverted, grammar-refusal}
 use Rattle.grammar.specs.Conditions.{last-of, Grammar-rule-right, Grammar-row}
@@ -51,7 +52,8 @@ abbrev pub Running-refused : Type 0
 Running-refused = (bs cs : List ℕ) (cells n p : ℕ) → (run-refusal bs cs cells ≡ refusal n p) ↔ Running-row bs cs cells n p
 
 abbrev pub Building-refused : Type 0
-Building-refused = (gs : List ℕ) (room n p : ℕ) → (build-refusal gs room ≡ refusal n p) ↔ Building-row gs room n p
+Building-refused =
+    (how : Matching) (gs : List ℕ) (room n p : ℕ) → (build-refusal gs room ≡ refusal n p) ↔ Building-row how gs room n p
 
 abbrev pub Input-refused : Type 0
 Input-refused = (xs : List ℕ) (n p : ℕ) → (input-refusal xs ≡ refusal n p) ↔ Input-row xs n p
@@ -78,7 +80,7 @@ Run-refuses =
 
 abbrev pub Build-refuses : Type 0
 Build-refuses =
-    (gs : List ℕ) (r : Built) (a a-now : List ℕ) → Build-says gs r a a-now → (build-refusal gs (length a) .number ≡ 0 → ⊥) →
+    (how : Matching) (gs : List ℕ) (r : Built) (a a-now : List ℕ) → Build-says how gs r a a-now → (build-refusal gs (length a) .number ≡ 0 → ⊥) →
     (of-built r ≡ refusal-reply (build-refusal gs (length a))) × (a-now ≡ a)
 
 abbrev pub Answer-refuses : Type 0
@@ -97,7 +99,8 @@ Run-determined =
     (bs cs a : List ℕ) (n : ℕ) (r s : Ran) (x y : List ℕ) → Run-says bs cs n r a x → Run-says bs cs n s a y → (r ≡ s) × (x ≡ y)
 
 abbrev pub Build-determined : Type 0
-Build-determined = (gs a : List ℕ) (r s : Built) (x y : List ℕ) → Build-says gs r a x → Build-says gs s a y → (r ≡ s) × (x ≡ y)
+Build-determined =
+    (how : Matching) (gs a : List ℕ) (r s : Built) (x y : List ℕ) → Build-says how gs r a x → Build-says how gs s a y → (r ≡ s) × (x ≡ y)
 
 abbrev pub Answer-determined : Type 0
 Answer-determined =
@@ -121,7 +124,7 @@ Run-independent =
 
 abbrev pub Build-independent : Type 0
 Build-independent =
-    (gs : List ℕ) (r s : Built) (a a′ x y : List ℕ) → length a ≡ length a′ → Build-says gs r a x → Build-says gs s a′ y →
+    (how : Matching) (gs : List ℕ) (r s : Built) (a a′ x y : List ℕ) → length a ≡ length a′ → Build-says how gs r a x → Build-says how gs s a′ y →
     (r ≡ s) × (build-refusal gs (length a) .number ≡ 0 → take (built-length gs) x ≡ take (built-length gs) y)
 
 abbrev pub Answer-independent : Type 0

@@ -24,6 +24,7 @@ use Rattle.simulator.specs.Calls.{judgement, Judge-says}
 use Rattle.interpreter.specs.declared.Ran.{Ran}
 use Rattle.interpreter.specs.Calls.{run-refusal, Run-says}
 use Rattle.interpreter.specs.Replies.{of-ran}
+use Rattle.builder.specs.declared.Matching.{Matching}
 use Rattle.builder.specs.Image.{built}
 use Rattle.worked_examples.specs.Examples.{Each, Row-holds}
 use Rattle.worked_examples.specs.HaltingExamples.{halting-table, Halts-after, halting-budgets, Rule-refused-so, halting-rules}
@@ -84,9 +85,9 @@ Rule-as-before =
 abbrev pub Image-as-before : Type 0
 Image-as-before = (bs : List ℕ) → No-halting-rule bs → As-before bs
 
--- and a built image is one of these
+-- and an image that is built, by either choice of a match, is one of these
 abbrev pub Built-without-halting : Type 0
-Built-without-halting = (gs : List ℕ) → No-halting-rule (built gs)
+Built-without-halting = (how : Matching) (gs : List ℕ) → No-halting-rule (built how gs)
 
 -- WORKED EXAMPLES, computed: runs to a halting rule and to a missing one on the same path,
 abbrev pub Halting-rows : Type 0

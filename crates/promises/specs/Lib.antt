@@ -7,4 +7,5 @@ pub mod Typed
 pub mod Bundles
 pub mod Recursion
 pub mod Halting
+pub mod Matching
 pub mod Promises

@@ -7,6 +7,7 @@ use Rattle.promises.specs.Typed as Typed
 use Rattle.promises.specs.Bundles as Bundles
 use Rattle.promises.specs.Recursion as Recursion
 use Rattle.promises.specs.Halting as Halting
+use Rattle.promises.specs.Matching as Matching
 
 pub record Promises : Type 0 where
   -- the first demand: refusals, and what follows from the input alone
@@ -158,3 +159,14 @@ pub record Promises : Type 0 where
   pub halting-rows : Halting.Halting-rows
   pub halting-runs : Halting.Halting-runs
   pub halting-images : Halting.Halting-images
+  -- leading match by default
+  pub default-leading : Matching.Default-leading
+  pub leading-accepts : Matching.Leading-accepts
+  pub leading-stuck : Matching.Leading-stuck
+  pub whole-then-leading : Matching.Whole-then-leading
+  pub judged-whole-leading : Matching.Judged-whole-leading
+  pub whole-as-before : Matching.Whole-as-before
+  pub leading-one-row : Matching.Leading-one-row
+  pub few-readings-leading : Matching.Few-readings-leading
+  pub built-accepted-told : Matching.Built-accepted-told
+  pub leading-rows : Matching.Leading-rows

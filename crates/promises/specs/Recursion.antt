@@ -20,6 +20,7 @@ use Rattle.bundle.specs.declared.Report.the-variants.{Lines}
 use Rattle.bundle.specs.Calls.{Bundle-says}
 use Rattle.grammar.specs.Grammar.{rules, expression, grammar-refusal}
 use Rattle.grammar.specs.Parsing.{Rules, Parses}
+use Rattle.builder.specs.declared.Matching.{Matching}
 use Rattle.builder.specs.Image.{built}
 use Rattle.recursion.specs.LeftRecursion.{Such-set, May-match-nothing, Leads-on, Recursion-row}
 use Rattle.recursion.specs.Computed.{nothing-of, leads-on, recursion-refusal}
@@ -61,15 +62,15 @@ abbrev pub Leads-exact : Type 0
 Leads-exact =
     (gs : List ℕ) (k l : ℕ) → grammar-refusal gs .number ≡ 0 → k < rules gs → (leads-on gs k l ≡ true) ↔ Leads-on (expression gs) k l
 
--- A GRAMMAR THAT PASSES: on every capture parsing has a result from every rule at every place, and its machine's run comes to an end and is not looping
+-- A GRAMMAR THAT PASSES: on every capture parsing has a result from every rule at every place, and its machine's run, by either choice of a match, comes to an end and is not looping
 abbrev pub Never-looping : Type 0
 Never-looping = (gs cs : List ℕ) → recursion-refusal gs .number ≡ 0 → Bytes cs → Never-loops gs cs
 
 -- judging by it never says looping,
 abbrev pub Judged-not-looping : Type 0
 Judged-not-looping =
-    (gs cs a a-now b b-now : List ℕ) (v : Verdict) (n : ℕ) (d : Config) → recursion-refusal gs .number ≡ 0 → Bytes cs →
-    Judge-says (built gs) cs (Answer (judgement v n d)) a a-now b b-now → v ≡ Looping → ⊥
+    (how : Matching) (gs cs a a-now b b-now : List ℕ) (v : Verdict) (n : ℕ) (d : Config) → recursion-refusal gs .number ≡ 0 → Bytes cs →
+    Judge-says (built how gs) cs (Answer (judgement v n d)) a a-now b b-now → v ≡ Looping → ⊥
 
 -- nor does the program: its line is one of the other verdicts,
 abbrev pub Line-not-looping : Type 0
@@ -80,8 +81,8 @@ Line-not-looping =
 -- nor does the report on a bundle: it counts no line that is looping
 abbrev pub Bundle-not-looping : Type 0
 Bundle-not-looping =
-    (gs xs : List ℕ) (n : ℕ) (t : Totals) (l m a x b y : List ℕ) → recursion-refusal gs .number ≡ 0 → Bytes xs →
-    Bundle-says (built gs) xs (Lines n t) l m a x b y → t .looping ≡ 0
+    (how : Matching) (gs xs : List ℕ) (n : ℕ) (t : Totals) (l m a x b y : List ℕ) → recursion-refusal gs .number ≡ 0 → Bytes xs →
+    Bundle-says (built how gs) xs (Lines n t) l m a x b y → t .looping ≡ 0
 
 -- THE CHECK OF A TYPED GRAMMAR: what it answers follows from the text,
 abbrev pub Text-recursion-determined : Type 0
@@ -113,8 +114,8 @@ Tried-first-fails = (E : Rules) (k : ℕ) → Tries-on E k k → (cs : List ℕ)
 -- and where it is what rule 0 tries first, the machine goes on for ever on every capture
 abbrev pub Tried-first-endless : Type 0
 Tried-first-endless =
-    (gs cs : List ℕ) (k : ℕ) → grammar-refusal gs .number ≡ 0 → Bytes cs → Tries-on (expression gs) 0 k → Tries-on (expression gs) k k →
-    Goes-on (machine (built gs) cs)
+    (how : Matching) (gs cs : List ℕ) (k : ℕ) → grammar-refusal gs .number ≡ 0 → Bytes cs → Tries-on (expression gs) 0 k → Tries-on (expression gs) k k →
+    Goes-on (machine (built how gs) cs)
 
 -- but a grammar that is refused by 19 may judge every capture: the rule may fail before it comes back to itself, or never be met
 abbrev pub Recursion-harmless : Type 0

@@ -1,4 +1,4 @@
--- THE SECOND DEMAND: accepted, ended, stuck, halted exactly where the step-by-step run, unbounded in time and stack, ends so; looping only where it has no end. A machine built from a grammar accepts where parsing from the start rule consumes all, loops where parsing has no result, and is stuck in all other cases. Assumes nothing: each claim is a type, and proofs/ has its proof.
+-- THE SECOND DEMAND: accepted, ended, stuck, halted exactly where the step-by-step run, unbounded in time and stack, ends so; looping only where it has no end. A machine built from a grammar accepts where parsing from the start rule consumes all, loops where parsing has no result, and is stuck in all other cases; one that was built to match a leading part accepts where parsing succeeds at all (Matching.antt). Assumes nothing: each claim is a type, and proofs/ has its proof.
 use mathlib.Core.Path.{_≡_}
 use mathlib.Core.Bool.{true, false}
 use mathlib.Core.List.{List, _++_}
@@ -25,6 +25,8 @@ use Rattle.interpreter.specs.declared.Ran.{Ran}
 use Rattle.interpreter.specs.PlainRun.{Run-end, run-on, True-end}
 use Rattle.interpreter.specs.Calls.{run-refusal, Run-says}
 use Rattle.interpreter.specs.Replies.{exit-number, of-ran}
+use Rattle.builder.specs.declared.Matching.{Matching}
+use Rattle.builder.specs.declared.Matching.the-variants.{Whole}
 use Rattle.builder.specs.declared.Built.{Built}
 use Rattle.builder.specs.declared.Built.the-variants.{Image}
 use Rattle.grammar.specs.declared.Expression.the-variants.{Not, Empty}
@@ -63,44 +65,44 @@ Looping-endless =
     (bs cs a a-now b b-now : List ℕ) (v : Verdict) (n : ℕ) (d : Config) → Bytes cs → Judge-says bs cs (Answer (judgement v n d)) a a-now b b-now →
     (v ≡ Looping) ↔ Goes-on (machine bs cs)
 
--- A MACHINE BUILT FROM A GRAMMAR is never refused,
+-- A MACHINE BUILT FROM A GRAMMAR, by either choice of a match, is never refused,
 abbrev pub Built-good : Type 0
-Built-good = (gs : List ℕ) → grammar-refusal gs .number ≡ 0 → image-refusal (built gs) .number ≡ 0
+Built-good = (how : Matching) (gs : List ℕ) → grammar-refusal gs .number ≡ 0 → image-refusal (built how gs) .number ≡ 0
 
--- accepts where parsing from the start rule consumes all,
+-- built to match the whole capture, accepts where parsing from the start rule consumes all,
 abbrev pub Built-accepts : Type 0
 Built-accepts =
     (gs cs : List ℕ) → grammar-refusal gs .number ≡ 0 → Bytes cs →
-    ((d : Config) × Says (machine (built gs) cs) Accepted d) ↔ Parses (expression gs) cs 0 0 (some (length cs))
+    ((d : Config) × Says (machine (built Whole gs) cs) Accepted d) ↔ Parses (expression gs) cs 0 0 (some (length cs))
 
--- loops where parsing has no result,
+-- by either choice loops where parsing has no result,
 abbrev pub Built-loops : Type 0
 Built-loops =
-    (gs cs : List ℕ) → grammar-refusal gs .number ≡ 0 → Bytes cs → length cs ≤ max-capture →
-    ((d : Config) × Says (machine (built gs) cs) Looping d) ↔ ((o : Option ℕ) → Parses (expression gs) cs 0 0 o → ⊥)
+    (how : Matching) (gs cs : List ℕ) → grammar-refusal gs .number ≡ 0 → Bytes cs → length cs ≤ max-capture →
+    ((d : Config) × Says (machine (built how gs) cs) Looping d) ↔ ((o : Option ℕ) → Parses (expression gs) cs 0 0 o → ⊥)
 
 -- goes on for ever there, however long the capture,
 abbrev pub Built-goes-on : Type 0
 Built-goes-on =
-    (gs cs : List ℕ) → grammar-refusal gs .number ≡ 0 → Bytes cs →
-    Goes-on (machine (built gs) cs) ↔ ((o : Option ℕ) → Parses (expression gs) cs 0 0 o → ⊥)
+    (how : Matching) (gs cs : List ℕ) → grammar-refusal gs .number ≡ 0 → Bytes cs →
+    Goes-on (machine (built how gs) cs) ↔ ((o : Option ℕ) → Parses (expression gs) cs 0 0 o → ⊥)
 
--- is stuck in all other cases,
+-- built to match the whole capture, is stuck in all other cases,
 abbrev pub Built-stuck : Type 0
 Built-stuck =
     (gs cs : List ℕ) → grammar-refusal gs .number ≡ 0 → Bytes cs →
-    ((d : Config) × Says (machine (built gs) cs) Stuck d)
+    ((d : Config) × Says (machine (built Whole gs) cs) Stuck d)
     ↔ ((o : Option ℕ) × Parses (expression gs) cs 0 0 o × (o ≡ some (length cs) → ⊥))
 
--- never ends otherwise
+-- by either choice never ends otherwise
 abbrev pub Built-not-ended : Type 0
 Built-not-ended =
-    (gs cs : List ℕ) → grammar-refusal gs .number ≡ 0 → Bytes cs → (d : Config) → Says (machine (built gs) cs) Ended d → ⊥
+    (how : Matching) (gs cs : List ℕ) → grammar-refusal gs .number ≡ 0 → Bytes cs → (d : Config) → Says (machine (built how gs) cs) Ended d → ⊥
 
 -- and is never halted
 abbrev pub Built-not-halted : Type 0
 Built-not-halted =
-    (gs cs : List ℕ) → grammar-refusal gs .number ≡ 0 → Bytes cs → (d : Config) → Says (machine (built gs) cs) Halted d → ⊥
+    (how : Matching) (gs cs : List ℕ) → grammar-refusal gs .number ≡ 0 → Bytes cs → (d : Config) → Says (machine (built how gs) cs) Halted d → ⊥
 
 -- A RANGE WITH ITS LOW BYTE ABOVE ITS HIGH BYTE ALWAYS FAILS: at every place of every capture it has one result, failure,
 abbrev pub Inverted-fails : Type 0
@@ -115,8 +117,8 @@ Inverted-as-failure =
 -- it consumes nothing: the machine, with the rule's symbol on top at any place, pops it in one step, fails, and the head stays,
 abbrev pub Inverted-pops : Type 0
 Inverted-pops =
-    (gs cs : List ℕ) (k i : ℕ) → grammar-refusal gs .number ≡ 0 → Bytes cs → k < rules gs → Inverted gs k → i ≤ length cs →
-    machine (built gs) cs .action (config state-work (suc i) (first k)) ≡ Pop state-fail false
+    (how : Matching) (gs cs : List ℕ) (k i : ℕ) → grammar-refusal gs .number ≡ 0 → Bytes cs → k < rules gs → Inverted gs k → i ≤ length cs →
+    machine (built how gs) cs .action (config state-work (suc i) (first k)) ≡ Pop state-fail false
 
 -- and it adds no value to the class count, nor to a byte's class: without its four bytes the grammar has the same
 abbrev pub Inverted-adds-none : Type 0
@@ -125,12 +127,12 @@ Inverted-adds-none =
     (class-count (before ++ range-bytes b c ++ after) ≡ class-count (before ++ after))
     × ((v : ℕ) → class-of (before ++ range-bytes b c ++ after) v ≡ class-of (before ++ after) v)
 
--- THE TWO CALLS: building, then judging by the image that was built, gives what parsing says, and few readings
+-- THE TWO CALLS: building, by either choice of a match, then judging by the image that was built, gives what parsing says, and few readings
 abbrev pub Build-then-judge : Type 0
 Build-then-judge =
-    (gs cs image image-now notes notes-now work work-now : List ℕ) (b : Built) (r : Judged) → Enough gs cs image notes work →
-    Build-says gs b image image-now → Judge-says (take (built-length gs) image-now) cs r notes notes-now work work-now →
-    (b ≡ Image (built-length gs)) × Gets gs cs r
+    (how : Matching) (gs cs image image-now notes notes-now work work-now : List ℕ) (b : Built) (r : Judged) → Enough how gs cs image notes work →
+    Build-says how gs b image image-now → Judge-says (take (built-length gs) image-now) cs r notes notes-now work work-now →
+    (b ≡ Image (built-length gs)) × Gets how gs cs r
 
 -- THE PLAIN RUN'S answer is true of the run: within its budget, by the run's own steps, at the configuration reached; and all lent cells are 0
 abbrev pub Plain-run-true : Type 0
@@ -145,17 +147,17 @@ Run-answers =
 
 -- ONE MEANING FOR TWO FORMULAS: an image's length and N, by the numbers that a call works with
 abbrev pub Image-length : Type 0
-Image-length = (gs : List ℕ) → length (built gs) ≡ built-length gs
+Image-length = (how : Matching) (gs : List ℕ) → length (built how gs) ≡ built-length gs
 
 abbrev pub Cells-counted : Type 0
 Cells-counted = (bs cs : List ℕ) → cells-needed bs (length cs) ≡ how-many (machine bs cs)
 
 -- no built image is longer than 82,188 bytes, and some grammar's is as long
 abbrev pub Longest-image : Type 0
-Longest-image = (gs : List ℕ) → grammar-refusal gs .number ≡ 0 → length (built gs) ≤ 82188
+Longest-image = (how : Matching) (gs : List ℕ) → grammar-refusal gs .number ≡ 0 → length (built how gs) ≤ 82188
 
 abbrev pub Longest-there : Type 0
-Longest-there = (gs : List ℕ) × (grammar-refusal gs .number ≡ 0) × (length (built gs) ≡ 82188)
+Longest-there = (gs : List ℕ) × (grammar-refusal gs .number ≡ 0) × ((how : Matching) → length (built how gs) ≡ 82188)
 
 -- A BYTE'S CLASS is the number of different cuts not above it, and a class is in a range exactly if some byte of the range has it
 abbrev pub Classes-count : Type 0

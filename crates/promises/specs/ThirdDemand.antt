@@ -21,6 +21,7 @@ use Rattle.chain.specs.NumberKept.{Number-kept}
 use Rattle.simulator.specs.declared.Judged.the-variants.{Answer}
 use Rattle.simulator.specs.Calls.{judgement, Chain-ends, Judge-says}
 use Rattle.grammar.specs.Grammar.{rules, grammar-refusal}
+use Rattle.builder.specs.declared.Matching.the-variants.{Whole}
 use Rattle.builder.specs.Image.{built}
 
 -- READINGS ARE EXACTLY THE NUMBER OF DIFFERENT CONFIGURATIONS THAT THE RUN ENTERS, endless runs included: the length of a list without repeats of exactly those; every such list is as long; and as many notes are not 0
@@ -38,11 +39,11 @@ Readings-noted =
     (bs cs a a-now b b-now : List ℕ) (v : Verdict) (n : ℕ) (d : Config) → Bytes cs → Judge-says bs cs (Answer (judgement v n d)) a a-now b b-now →
     n ≡ nonzero (how-many (machine bs cs)) a-now
 
--- FOR A GRAMMAR of m rules and n bytes at most 6 m (n + 1) + 2
+-- FOR A GRAMMAR of m rules and n bytes, built to match the whole capture, at most 6 m (n + 1) + 2; for one built to match a leading part Matching.antt has the number
 abbrev pub Few-readings : Type 0
 Few-readings =
-    (gs cs notes : List ℕ) → grammar-refusal gs .number ≡ 0 → Bytes cs → Noted (machine (built gs) cs) notes →
-    nonzero (how-many (machine (built gs) cs)) notes ≤ 6 * rules gs * (length cs + 1) + 2
+    (gs cs notes : List ℕ) → grammar-refusal gs .number ≡ 0 → Bytes cs → Noted (machine (built Whole gs) cs) notes →
+    nonzero (how-many (machine (built Whole gs) cs)) notes ≤ 6 * rules gs * (length cs + 1) + 2
 
 -- THE NOTES: whatever the run enters is one of the N configurations,
 abbrev pub Entered-numbered : Type 0

@@ -16,6 +16,7 @@ use Rattle.image.specs.Image.{machine}
 use Rattle.simulator.specs.declared.Judged.{Judged}
 use Rattle.simulator.specs.Replies.{of-judged}
 use Rattle.grammar.specs.Grammar.{max-rules}
+use Rattle.builder.specs.declared.Matching.the-variants.{Whole}
 use Rattle.builder.specs.declared.Built.{Built}
 use Rattle.builder.specs.Image.{built, built-length}
 use Rattle.builder.specs.Calls.{build-refusal}
@@ -102,13 +103,13 @@ Judge-text-independent =
 abbrev pub Typed-accepts : Type 0
 Typed-accepts =
     (text cs : List ℕ) (d : Definition) (ds : List Definition) → Bytes cs → Legal-text text (d ∷ ds) → later-refusal text (d ∷ ds) .number ≡ 0 →
-    ((c : Config) × Says (machine (built (grammar-of (d ∷ ds))) cs) Accepted c) ↔ Means (d ∷ ds) cs (d .body) 0 (some (length cs))
+    ((c : Config) × Says (machine (built Whole (grammar-of (d ∷ ds))) cs) Accepted c) ↔ Means (d ∷ ds) cs (d .body) 0 (some (length cs))
 
 -- is stuck where it has another result,
 abbrev pub Typed-stuck : Type 0
 Typed-stuck =
     (text cs : List ℕ) (d : Definition) (ds : List Definition) → Bytes cs → Legal-text text (d ∷ ds) → later-refusal text (d ∷ ds) .number ≡ 0 →
-    ((c : Config) × Says (machine (built (grammar-of (d ∷ ds))) cs) Stuck c)
+    ((c : Config) × Says (machine (built Whole (grammar-of (d ∷ ds))) cs) Stuck c)
     ↔ ((o : Option ℕ) × Means (d ∷ ds) cs (d .body) 0 o × (o ≡ some (length cs) → ⊥))
 
 -- and loops where it has none
@@ -116,7 +117,7 @@ abbrev pub Typed-loops : Type 0
 Typed-loops =
     (text cs : List ℕ) (d : Definition) (ds : List Definition) → Bytes cs → Legal-text text (d ∷ ds) → later-refusal text (d ∷ ds) .number ≡ 0 →
     length cs ≤ max-capture →
-    ((c : Config) × Says (machine (built (grammar-of (d ∷ ds))) cs) Looping c) ↔ ((o : Option ℕ) → Means (d ∷ ds) cs (d .body) 0 o → ⊥)
+    ((c : Config) × Says (machine (built Whole (grammar-of (d ∷ ds))) cs) Looping c) ↔ ((o : Option ℕ) → Means (d ∷ ds) cs (d .body) 0 o → ⊥)
 
 -- THE CALL `judge_text`, with a text that is read, a capture of bytes that is not too long, and enough room: the answer is what the typed grammar says, with few readings
 abbrev pub Typed-judged : Type 0

@@ -13,6 +13,8 @@ use Rattle.machine.specs.Verdicts.{Says}
 use Rattle.refusal.specs.First.{refusal, or-else, refuse-if}
 use Rattle.simulator.specs.Calls.{judge-refusal}
 use Rattle.grammar.specs.Grammar.{grammar-refusal}
+use Rattle.builder.specs.declared.Matching.{Matching}
+use Rattle.builder.specs.declared.Matching.the-variants.{Whole}
 use Rattle.builder.specs.Image.{built}
 use Rattle.text.specs.Line.{line-feed, field, refused-word, max-line, Lined}
 use Rattle.answer.specs.Input.{input-grammar, input-capture}
@@ -51,24 +53,24 @@ abbrev pub Unread-refused : Type 0
 Unread-refused =
     (x y : Lent) (line : List ℕ) → Input-says [] x y line → line ≡ refused-word ++ field 14 ++ field 0 ++ (line-feed ∷ [])
 
--- of judging's refusals the program can meet 7, 8 and 9 alone: the image of a grammar that is not refused is good
+-- of judging's refusals the program can meet 7, 8 and 9 alone: by either choice of a match the image of a grammar that is not refused is good
 abbrev pub Refusals-left : Type 0
 Refusals-left =
-    (gs cs : List ℕ) (notes work : ℕ) → grammar-refusal gs .number ≡ 0 →
-    judge-refusal (built gs) cs notes work
+    (how : Matching) (gs cs : List ℕ) (notes work : ℕ) → grammar-refusal gs .number ≡ 0 →
+    judge-refusal (built how gs) cs notes work
     ≡ or-else (refuse-if (ltb max-capture (length cs)) (refusal 7 (length cs)))
-    (or-else (refuse-if (ltb notes (how-many (machine (built gs) cs))) (refusal 8 (how-many (machine (built gs) cs))))
-    (refuse-if (ltb work (how-many (machine (built gs) cs))) (refusal 9 (how-many (machine (built gs) cs)))))
+    (or-else (refuse-if (ltb notes (how-many (machine (built how gs) cs))) (refusal 8 (how-many (machine (built how gs) cs))))
+    (refuse-if (ltb work (how-many (machine (built how gs) cs))) (refusal 9 (how-many (machine (built how gs) cs)))))
 
 -- C1 TO C10, and C1's image, N and plain runs
 abbrev pub Examples-hold : Type 0
 Examples-hold = Each Row-holds table
 
 abbrev pub C1-image : Type 0
-C1-image = length (built empty-grammar) ≡ 468
+C1-image = length (built Whole empty-grammar) ≡ 468
 
 abbrev pub C1-cells : Type 0
-C1-cells = how-many (machine (built empty-grammar) []) ≡ 30
+C1-cells = how-many (machine (built Whole empty-grammar) []) ≡ 30
 
 abbrev pub C1-plain-runs : Type 0
 C1-plain-runs = Each Plain-holds plain-table

@@ -10,6 +10,7 @@ use Rattle.grammar.specs.declared.Expression.{Expression}
 use Rattle.grammar.specs.declared.Expression.the-variants.{Sequence, Choice, Not, Empty, Range}
 use Rattle.grammar.specs.Grammar.{expression, grammar-refusal}
 use Rattle.grammar.specs.Parsing.{Rules, Parses, sequence, sequence-fails, choice, choice-other, not-there, not-fails, empty, range, range-fails}
+use Rattle.builder.specs.declared.Matching.{Matching}
 use Rattle.builder.specs.Image.{built}
 use Rattle.parsing_theory.proofs.BuiltParses.{built-parses}
 use Rattle.recursion.specs.LeftRecursion.{Leads, Leads-on}
@@ -64,6 +65,6 @@ no-result back = no-result-into back back
 
 -- THE MACHINE loops on every capture if rule 0 tries first, in one step or more, a rule that comes back to itself; rule 0 may be that rule
 pub met-loops :
-    (gs cs : List ℕ) (k : ℕ) → grammar-refusal gs .number ≡ 0 → Bytes cs →
-    Tries-on (expression gs) 0 k → Tries-on (expression gs) k k → Goes-on (machine (built gs) cs)
-met-loops gs cs k good bytes met back = built-parses gs cs good bytes .no-parse-goes-on (no-result-into back met cs 0)
+    (how : Matching) (gs cs : List ℕ) (k : ℕ) → grammar-refusal gs .number ≡ 0 → Bytes cs →
+    Tries-on (expression gs) 0 k → Tries-on (expression gs) k k → Goes-on (machine (built how gs) cs)
+met-loops how gs cs k good bytes met back = built-parses how gs cs good bytes .no-parse-goes-on (no-result-into back met cs 0)

@@ -11,6 +11,7 @@ use Rattle.grammar.specs.declared.Expression.the-variants.{Sequence, Not, Empty
 use Rattle.grammar.specs.Grammar.{rules, kind-of, b-of, c-of, expression-by, expression, rule-right, grammar-rules-from, grammar-refusal}
 use Rattle.grammar.specs.Parsing.{Rules, Parses, sequence-fails, not-fails, empty}
 use Rattle.grammar.proofs.ConditionsMet.{grammar-right}
+use Rattle.builder.specs.declared.Matching.{Matching}
 use Rattle.builder.specs.Image.{built}
 use Rattle.parsing_theory.proofs.BuiltParses.{built-parses}
 use Rattle.recursion.specs.LeftRecursion.{a-not, Leads, first-part, second-part, one, other, its-own, Leads-on, last, more, Left-recursive, recursive}
@@ -31,8 +32,8 @@ fails-first-recursive = last (second-part (first-rules .2) (a-not (first-rules .
 pub fails-first-fails : (cs : List ℕ) (i : ℕ) → Parses (expression fails-first) cs 0 i none
 fails-first-fails cs i = sequence-fails (first-rules .2) (not-fails (first-rules .3) (empty (first-rules .4)))
 
-pub fails-first-terminates : (cs : List ℕ) → Bytes cs → Goes-on (machine (built fails-first) cs) → ⊥
-fails-first-terminates cs bytes = built-parses fails-first cs (first-rules .0) bytes .parses-terminates none (fails-first-fails cs 0)
+pub fails-first-terminates : (how : Matching) (cs : List ℕ) → Bytes cs → Goes-on (machine (built how fails-first) cs) → ⊥
+fails-first-terminates how cs bytes = built-parses how fails-first cs (first-rules .0) bytes .parses-terminates none (fails-first-fails cs 0)
 
 -- THE SECOND
 second-rules :
@@ -48,8 +49,8 @@ never-reached-recursive = last (first-part (second-rules .3))
 pub never-reached-matches : (cs : List ℕ) (i : ℕ) → Parses (expression never-reached) cs 0 i (some i)
 never-reached-matches cs i = empty (second-rules .2)
 
-pub never-reached-terminates : (cs : List ℕ) → Bytes cs → Goes-on (machine (built never-reached) cs) → ⊥
-never-reached-terminates cs bytes = built-parses never-reached cs (second-rules .0) bytes .parses-terminates (some 0) (never-reached-matches cs 0)
+pub never-reached-terminates : (how : Matching) (cs : List ℕ) → Bytes cs → Goes-on (machine (built how never-reached) cs) → ⊥
+never-reached-terminates how cs bytes = built-parses how never-reached cs (second-rules .0) bytes .parses-terminates (some 0) (never-reached-matches cs 0)
 
 -- BOTH are refused. An empty rule leads nowhere, so rule 1 of the second is the lowest that leads back to itself
 clash : _≡_ {A = ℕ} 0 1 → ⊥

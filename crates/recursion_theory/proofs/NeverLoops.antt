@@ -12,6 +12,7 @@ use Rattle.image.specs.Image.{machine}
 use Rattle.grammar.specs.Grammar.{rules, expression, grammar-refusal}
 use Rattle.grammar.specs.Parsing.{Parses}
 use Rattle.grammar.proofs.GrammarGood.{good-grammar}
+use Rattle.builder.specs.declared.Matching.{Matching}
 use Rattle.builder.specs.Image.{built}
 use Rattle.parsing_theory.proofs.BuiltParses.{built-parses}
 use Rattle.recursion.specs.LeftRecursion.{Leads-on, Left-recursive}
@@ -23,10 +24,10 @@ pub never-loops :
     (gs cs : List ℕ) → grammar-refusal gs .number ≡ 0 → Bytes cs →
     (R : ℕ → ℕ → Bool) → ((k l : ℕ) → k < rules gs → l < rules gs → (R k l ≡ true) ↔ Leads-on (expression gs) k l) →
     ((k : ℕ) → k < rules gs → Left-recursive gs k → ⊥) → Never-loops gs cs
-never-loops gs cs good bytes R exact none-back = record { results = all; terminates = terminates; not-looping = λ d s. terminates (says-looping s .0) }
+never-loops gs cs good bytes R exact none-back = record { results = all; terminates = terminates; not-looping = λ how d s. terminates how (says-looping s .0) }
   where
     all : (k i : ℕ) → k < rules gs → (o : Option ℕ) × Parses (expression gs) cs k i o
     all = results (expression gs) (rules gs) (good-grammar gs good .parts) R exact none-back cs
 
-    terminates : Goes-on (machine (built gs) cs) → ⊥
-    terminates = let (o, p) = all 0 0 (good-grammar gs good .rules-least) in built-parses gs cs good bytes .parses-terminates o p
+    terminates : (how : Matching) → Goes-on (machine (built how gs) cs) → ⊥
+    terminates how = let (o, p) = all 0 0 (good-grammar gs good .rules-least) in built-parses how gs cs good bytes .parses-terminates o p

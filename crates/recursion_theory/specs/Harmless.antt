@@ -4,6 +4,7 @@ use Prim.Native.Nat.{ℕ}
 use Rattle.codec.specs.Bytes.{Bytes}
 use Rattle.machine.specs.Verdicts.{Goes-on}
 use Rattle.image.specs.Image.{machine}
+use Rattle.builder.specs.declared.Matching.{Matching}
 use Rattle.builder.specs.Image.{built}
 use Rattle.recursion.specs.LeftRecursion.{Recursion-row}
 
@@ -15,7 +16,7 @@ fails-first = 1 ∷ 1 ∷ 0 ∷ 0 ∷ 3 ∷ 2 ∷ 0 ∷ 0 ∷ 4 ∷ 0 ∷ 0 ∷ 
 unfoldable pub never-reached : List ℕ
 never-reached = 4 ∷ 0 ∷ 0 ∷ 0 ∷ 1 ∷ 1 ∷ 1 ∷ 0 ∷ []
 
--- REFUSED, AND YET the machine terminates on every capture
+-- REFUSED, AND YET the machine terminates on every capture, by either choice of a match
 pub record Harmless (gs : List ℕ) (k : ℕ) : Type 0 where
   pub refused : Recursion-row gs 19 k
-  pub terminates : (cs : List ℕ) → Bytes cs → Goes-on (machine (built gs) cs) → ⊥
+  pub terminates : (how : Matching) (cs : List ℕ) → Bytes cs → Goes-on (machine (built how gs) cs) → ⊥

@@ -8,10 +8,11 @@ use Rattle.machine.specs.Verdicts.{Says, Goes-on}
 use Rattle.image.specs.Image.{machine}
 use Rattle.grammar.specs.Grammar.{rules, expression}
 use Rattle.grammar.specs.Parsing.{Parses}
+use Rattle.builder.specs.declared.Matching.{Matching}
 use Rattle.builder.specs.Image.{built}
 
--- A GRAMMAR THAT PASSES: every rule has a result at every place, the run of its machine terminates, and no verdict on it is looping
+-- A GRAMMAR THAT PASSES: every rule has a result at every place; by either choice of a match the run of its machine terminates, and no verdict on it is looping
 pub record Never-loops (gs cs : List ℕ) : Type 0 where
   pub results : (k i : ℕ) → k < rules gs → (o : Option ℕ) × Parses (expression gs) cs k i o
-  pub terminates : Goes-on (machine (built gs) cs) → ⊥
-  pub not-looping : (d : Config) → Says (machine (built gs) cs) Looping d → ⊥
+  pub terminates : (how : Matching) → Goes-on (machine (built how gs) cs) → ⊥
+  pub not-looping : (how : Matching) (d : Config) → Says (machine (built how gs) cs) Looping d → ⊥

@@ -4,6 +4,7 @@ use mathlib.Core.List.{List}
 use Prim.Native.Nat.{ℕ}
 use Rattle.simulator.specs.declared.Judged.{Judged}
 use Rattle.interpreter.specs.declared.Ran.{Ran}
+use Rattle.builder.specs.declared.Matching.{Matching}
 use Rattle.builder.specs.declared.Built.{Built}
 use Rattle.image.specs.Refusals.{image-refusal, capture-refusal}
 use Rattle.refusal.specs.Checking.{checked}
@@ -47,10 +48,10 @@ pub record Run-tells (image capture : List ℕ) (budget : ℕ) (stack stack-now 
   pub says : Run-says image capture budget ran stack stack-now
   pub tells : Reply-written (of-ran ran) returned answer
 
--- building
-pub record Build-tells (grammar image image-now : List ℕ) (returned : ℕ) (answer : List ℕ) : Type 0 where
+-- building, by a choice of a match
+pub record Build-tells (how : Matching) (grammar image image-now : List ℕ) (returned : ℕ) (answer : List ℕ) : Type 0 where
   pub built : Built
-  pub says : Build-says grammar built image image-now
+  pub says : Build-says how grammar built image image-now
   pub tells : Reply-written (of-built built) returned answer
 
 -- the check of a grammar for left recursion

@@ -2,7 +2,9 @@
 // A slice is never null, not even an empty one: hence the names. The header's inline functions let C pass null with length 0.
 pub mod reply;
 
+use builder::Matching;
 use builder::build::build_image;
+use builder::default_matching;
 use bundle::judging::judge_bundle;
 use interpreter::plain_run;
 use reader::reading::read;
@@ -27,6 +29,8 @@ ghost use mathlib.Core.List.{_++_};
 ghost use mathlib.Core.Path.{_≡_};
 ghost use Prim.Native.Nat.{_≤_};
 ghost use lib.ListN.{length, drop};
+ghost use Rattle.builder.specs.declared.Matching.the-variants.{Whole};
+ghost use Rattle.builder.specs.Matching.{default-matching};
 ghost use Rattle.grammar_judge.specs.Calls.{lent};
 ghost use Rattle.sejimakpu.specs.Calls.{Check-tells, Cells-tells, Judge-tells, Run-tells, Build-tells, Check-recursion-tells, Read-grammar-tells, Build-text-tells, Judge-text-tells, Check-text-recursion-tells, Judge-bundle-tells};
 
@@ -79,16 +83,29 @@ pub extern "C" fn sejimakpu_plain_run_nonnull(
     write_reply(answer, run_reply(ran))
 }
 
-// Building.
+// Building, with no choice given.
 #[no_mangle]
 pub extern "C" fn sejimakpu_build_nonnull(
     grammar: &[u8],
     image: &mut [u8],
     answer: &mut [u64; 6],
 ) -> u32
-    ensures { λ r. ⌜ Build-tells (now (grammar .entry)) (now (image .entry)) (now (image .exit)) r (now (answer .exit)) ⌝ }
+    ensures { λ r. ⌜ Build-tells default-matching (now (grammar .entry)) (now (image .entry)) (now (image .exit)) r (now (answer .exit)) ⌝ }
 {
-    let built = build_image(grammar, image);
+    let built = build_image(grammar, image, default_matching());
+    write_reply(answer, build_reply(built))
+}
+
+// Building of an image that matches whole captures.
+#[no_mangle]
+pub extern "C" fn sejimakpu_build_whole_nonnull(
+    grammar: &[u8],
+    image: &mut [u8],
+    answer: &mut [u64; 6],
+) -> u32
+    ensures { λ r. ⌜ Build-tells Whole (now (grammar .entry)) (now (image .entry)) (now (image .exit)) r (now (answer .exit)) ⌝ }
+{
+    let built = build_image(grammar, image, Matching::Whole);
     write_reply(answer, build_reply(built))
 }
 

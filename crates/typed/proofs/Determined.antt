@@ -9,6 +9,7 @@ use Rattle.simulator.specs.declared.Judged.the-variants.{Refused as Unjudged}
 use Rattle.simulator.specs.Calls.{Judge-says}
 use Rattle.builder.specs.declared.Built.{Built}
 use Rattle.builder.specs.declared.Built.the-variants.{Refused as Unbuilt}
+use Rattle.builder.specs.declared.Matching.the-variants.{Whole}
 use Rattle.builder.specs.Image.{built, built-length}
 use Rattle.builder.specs.Calls.{build-refusal, Build-says}
 use Rattle.builder.proofs.Answered.{build-determined, build-independent, build-refused}
@@ -26,34 +27,34 @@ module _ {text : List ℕ} where
   build-unread f s (unread t) = (ap Unbuilt (one-refusal text _ f t s), refl)
   build-unread f s (read t b) = absurd (not-both text _ f s t)
 
-  build-read : {r : Built} {a x : List ℕ} (gs : List ℕ) → Read-says text (Grammar gs) → Build-text-says text r a x → Build-says gs r a x
+  build-read : {r : Built} {a x : List ℕ} (gs : List ℕ) → Read-says text (Grammar gs) → Build-text-says text r a x → Build-says Whole gs r a x
   build-read gs s (unread t) = absurd (not-both text gs _ t s)
-  build-read {r} {a} {x} gs s (read t b) = subst (λ (hs : List ℕ). Build-says hs r a x) (one-grammar text _ gs t s) b
+  build-read {r} {a} {x} gs s (read t b) = subst (λ (hs : List ℕ). Build-says Whole hs r a x) (one-grammar text _ gs t s) b
 
 pub build-text-determined :
     (text a : List ℕ) (r s : Built) (x y : List ℕ) → Build-text-says text r a x → Build-text-says text s a y → (r ≡ s) × (x ≡ y)
 build-text-determined text a r s x y p (unread {f = f} t) = build-unread f t p
-build-text-determined text a r s x y p (read {gs = gs} t b) = build-determined gs a r s x y (build-read gs t p) b
+build-text-determined text a r s x y p (read {gs = gs} t b) = build-determined Whole gs a r s x y (build-read gs t p) b
 
 pub build-text-refused :
     (text : List ℕ) (r : Built) (a x : List ℕ) (f : Refusal) → Build-text-says text r a x → Build-text-refused text (length a) f →
     (r ≡ Unbuilt f) × (x ≡ a)
 build-text-refused text r a x f p (text-refused t) = build-unread f t p
-build-text-refused text r a x f p (room-refused {gs = gs} t h) = build-refused gs r a x h (build-read gs t p)
+build-text-refused text r a x f p (room-refused {gs = gs} t h) = build-refused Whole gs r a x h (build-read gs t p)
 
 -- the same answer and image, whatever stood in the buffer
 build-answer :
     {text : List ℕ} {r s : Built} {a b x y : List ℕ} → length a ≡ length b → Build-text-says text r a x → Build-text-says text s b y → r ≡ s
 build-answer l p (unread {f = f} t) = build-unread f t p .0
 build-answer {r = r} {s = s} {a = a} {b = b} {x = x} {y = y} l p (read {gs = gs} t q) =
-    build-independent gs r s a b x y l (build-read gs t p) q .0
+    build-independent Whole gs r s a b x y l (build-read gs t p) q .0
 
 pub build-text-independent :
     (text : List ℕ) (r s : Built) (a b x y : List ℕ) → length a ≡ length b → Build-text-says text r a x → Build-text-says text s b y →
     (r ≡ s)
     × ((gs : List ℕ) → Read-says text (Grammar gs) → build-refusal gs (length a) .number ≡ 0 → take (built-length gs) x ≡ take (built-length gs) y)
 build-text-independent text r s a b x y l p q =
-    (build-answer l p q, λ gs t. build-independent gs r s a b x y l (build-read gs t p) (build-read gs t q) .1)
+    (build-answer l p q, λ gs t. build-independent Whole gs r s a b x y l (build-read gs t p) (build-read gs t q) .1)
 
 -- JUDGING
 judge-unread :
@@ -66,8 +67,8 @@ judge-unread {text} f s (judged t z m j) = absurd (not-both text _ f s t)
 -- by the grammar that was read: nothing refused, or something
 pub record Grammar-judged (gs cs : List ℕ) (r : Judged) (x y : Lent) : Type 0 where
   pub unrefused : lent-refusal gs cs x .number ≡ 0
-  pub image-now : y .image ≡ built gs ++ drop (built-length gs) (x .image)
-  pub judges : Judge-says (built gs) cs r (x .notes) (y .notes) (x .work) (y .work)
+  pub image-now : y .image ≡ built Whole gs ++ drop (built-length gs) (x .image)
+  pub judges : Judge-says (built Whole gs) cs r (x .notes) (y .notes) (x .work) (y .work)
 
 data Judging (gs cs : List ℕ) (r : Judged) (x y : Lent) : Type 0 where
   stopped : (lent-refusal gs cs x .number ≡ 0 → ⊥) → r ≡ Unjudged (lent-refusal gs cs x) → y ≡ x → Judging gs cs r x y

@@ -17,9 +17,8 @@ use Rattle.simulator.specs.Calls.{Judged-right}
 use Rattle.simulator.proofs.Answered.{judged-right}
 use Rattle.grammar.specs.Grammar.{expression}
 use Rattle.grammar.specs.Parsing.{Parses}
+use Rattle.builder.specs.declared.Matching.the-variants.{Whole}
 use Rattle.builder.specs.Image.{built}
-use Rattle.parsing_theory.proofs.Parsed.{Parses-right}
-use Rattle.parsing_theory.proofs.BuiltParses.{built-parses}
 use Rattle.syntax.specs.Trees.{Definition, here, Legal-text}
 use Rattle.syntax.specs.Meaning.{Means}
 use Rattle.syntax.specs.Needs.{later-refusal}
@@ -29,7 +28,7 @@ use Rattle.syntax_theory.proofs.TypedRight.{typed-right}
 use Rattle.grammar_judge.specs.Calls.{Lent, lent-refusal}
 use Rattle.grammar_judge.specs.TwoCalls.{As-parsed, Gets}
 use Rattle.grammar_judge.proofs.Refusing.{parts-fine}
-use Rattle.grammar_judge.proofs.TwoCallsHold.{loops-exact, gets, enough-unrefused}
+use Rattle.grammar_judge.proofs.TwoCallsHold.{accepts-exact, stuck-exact, loops-exact, gets, enough-unrefused}
 use Rattle.typed.specs.Calls.{Judge-text-says}
 use Rattle.typed.specs.TypedCalls.{As-typed, Typed-gets, Enough-lent}
 use Rattle.typed.proofs.ReadRight.{Lines-read, lines-read, lines-right, rules-needed}
@@ -43,14 +42,14 @@ module _ {d : Definition} {ds : List Definition} {gs : List ℕ} (t : Typed-righ
   parses : {o : Option ℕ} → Means (d ∷ ds) cs (d .body) 0 o → Parses (expression gs) cs 0 0 o
   parses {o} m = t .parses 0 (d .letters) (d .body) here cs 0 o .1 m
 
-  typed-as : (v : Verdict) → As-parsed gs cs v → As-typed d ds cs v
+  typed-as : (v : Verdict) → As-parsed Whole gs cs v → As-typed d ds cs v
   typed-as Accepted p = means p
   typed-as Ended p = p
   typed-as Stuck (o, p, other) = (o, means p, other)
   typed-as Looping p = λ o m. p o (parses m)
   typed-as Halted p = p
 
-  parsed-as : (v : Verdict) → As-typed d ds cs v → As-parsed gs cs v
+  parsed-as : (v : Verdict) → As-typed d ds cs v → As-parsed Whole gs cs v
   parsed-as Accepted m = parses m
   parsed-as Ended m = m
   parsed-as Stuck (o, m, other) = (o, parses m, other)
@@ -65,31 +64,28 @@ module _
     right : Typed-right (d ∷ ds) (grammar-of (d ∷ ds))
     right = typed-right text (d ∷ ds) legal unrefused
 
-    built-right : Parses-right (machine (built (grammar-of (d ∷ ds))) cs) (expression (grammar-of (d ∷ ds))) cs
-    built-right = built-parses (grammar-of (d ∷ ds)) cs (right .good) bytes
-
     pub typed-accepts :
-        ((c : Config) × Says (machine (built (grammar-of (d ∷ ds))) cs) Accepted c) ↔ Means (d ∷ ds) cs (d .body) 0 (some (length cs))
+        ((c : Config) × Says (machine (built Whole (grammar-of (d ∷ ds))) cs) Accepted c) ↔ Means (d ∷ ds) cs (d .body) 0 (some (length cs))
     typed-accepts =
-        (λ (c, s). typed-as right cs Accepted (built-right .accepted-parses c s), λ m. built-right .parses-accepted (parsed-as right cs Accepted m))
+        let exact = accepts-exact Whole (grammar-of (d ∷ ds)) cs (right .good) bytes in
+        (λ s. typed-as right cs Accepted (exact .0 s), λ m. exact .1 (parsed-as right cs Accepted m))
 
     pub typed-stuck :
-        ((c : Config) × Says (machine (built (grammar-of (d ∷ ds))) cs) Stuck c)
+        ((c : Config) × Says (machine (built Whole (grammar-of (d ∷ ds))) cs) Stuck c)
         ↔ ((o : Option ℕ) × Means (d ∷ ds) cs (d .body) 0 o × (o ≡ some (length cs) → ⊥))
-    typed-stuck = (
-      λ (c, s). typed-as right cs Stuck (built-right .stuck-parses c s),
-      λ (o, m, other). built-right .parses-stuck o (parses right cs m) other,
-    )
+    typed-stuck =
+        let exact = stuck-exact Whole (grammar-of (d ∷ ds)) cs (right .good) bytes in
+        (λ s. typed-as right cs Stuck (exact .0 s), λ m. exact .1 (parsed-as right cs Stuck m))
 
     pub typed-loops :
         length cs ≤ Format.max-capture →
-        ((c : Config) × Says (machine (built (grammar-of (d ∷ ds))) cs) Looping c) ↔ ((o : Option ℕ) → Means (d ∷ ds) cs (d .body) 0 o → ⊥)
+        ((c : Config) × Says (machine (built Whole (grammar-of (d ∷ ds))) cs) Looping c) ↔ ((o : Option ℕ) → Means (d ∷ ds) cs (d .body) 0 o → ⊥)
     typed-loops short =
-        let exact = loops-exact (grammar-of (d ∷ ds)) cs (right .good) bytes short in
+        let exact = loops-exact Whole (grammar-of (d ∷ ds)) cs (right .good) bytes short in
         (λ s. typed-as right cs Looping (exact .0 s), λ none-meant. exact .1 (parsed-as right cs Looping none-meant))
 
 -- THE CALL
-typed-gets : {text gs cs : List ℕ} {r : Judged} → Lines-read text gs → Gets gs cs r → Typed-gets text cs r
+typed-gets : {text gs cs : List ℕ} {r : Judged} → Lines-read text gs → Gets Whole gs cs r → Typed-gets text cs r
 typed-gets {cs = cs} l g =
     let t = lines-right l in
     record {
@@ -106,7 +102,7 @@ typed-gets {cs = cs} l g =
     }
 
 pub typed-judged : (text cs : List ℕ) (r : Judged) (x y : Lent) → Enough-lent text cs x → Judge-text-says text cs r x y → Typed-gets text cs r
-typed-judged text cs r x y e s = typed-gets l (gets gs cs (x .notes) (y .notes) (x .work) (y .work) r (right .good) (e .bytes) answer)
+typed-judged text cs r x y e s = typed-gets l (gets Whole gs cs (x .notes) (y .notes) (x .work) (y .work) r (right .good) (e .bytes) answer)
   where
     gs : List ℕ
     gs = e .grammar
@@ -132,5 +128,5 @@ typed-judged text cs r x y e s = typed-gets l (gets gs cs (x .notes) (y .notes) 
     g : Grammar-judged gs cs r x y
     g = judge-read gs (e .read) unrefused s
 
-    answer : Judged-right (built gs) cs r (x .notes) (y .notes) (x .work) (y .work)
-    answer = judged-right (built gs) cs r (x .notes) (y .notes) (x .work) (y .work) (parts-fine gs cs _ _ _ unrefused .1) (g .judges)
+    answer : Judged-right (built Whole gs) cs r (x .notes) (y .notes) (x .work) (y .work)
+    answer = judged-right (built Whole gs) cs r (x .notes) (y .notes) (x .work) (y .work) (parts-fine gs cs _ _ _ unrefused .1) (g .judges)

@@ -9,6 +9,7 @@ use Rattle.simulator.specs.declared.Judged.the-variants.{Refused as Unjudged}
 use Rattle.simulator.specs.Calls.{Judge-says}
 use Rattle.builder.specs.declared.Built.{Built}
 use Rattle.builder.specs.declared.Built.the-variants.{Refused as Unbuilt}
+use Rattle.builder.specs.declared.Matching.the-variants.{Whole}
 use Rattle.builder.specs.Image.{built, built-length}
 use Rattle.builder.specs.Calls.{build-refusal, Build-says}
 use Rattle.syntax.specs.Reading.{Refused, Grammar, Read-says}
@@ -18,7 +19,7 @@ use Rattle.grammar_judge.specs.Calls.{Lent, lent-refusal}
 pub data Build-text-says (text : List ℕ) : Built → (image image-now : List ℕ) → Type 0 where
   unread : {f : Refusal} {image : List ℕ} → Read-says text (Refused f) → Build-text-says text (Unbuilt f) image image
   read :
-      {gs : List ℕ} {r : Built} {image image-now : List ℕ} → Read-says text (Grammar gs) → Build-says gs r image image-now →
+      {gs : List ℕ} {r : Built} {image image-now : List ℕ} → Read-says text (Grammar gs) → Build-says Whole gs r image image-now →
       Build-text-says text r image image-now
 
 -- JUDGING a capture, by a text; the grammar's image stands in the lent buffer afterwards, with later bytes as they were
@@ -29,8 +30,8 @@ pub data Judge-text-says (text capture : List ℕ) : Judged → (before after : 
       Judge-text-says text capture (Unjudged (lent-refusal gs capture x)) x x
   judged :
       {gs : List ℕ} {r : Judged} {x y : Lent} → Read-says text (Grammar gs) → lent-refusal gs capture x .number ≡ 0 →
-      y .image ≡ built gs ++ drop (built-length gs) (x .image) →
-      Judge-says (built gs) capture r (x .notes) (y .notes) (x .work) (y .work) → Judge-text-says text capture r x y
+      y .image ≡ built Whole gs ++ drop (built-length gs) (x .image) →
+      Judge-says (built Whole gs) capture r (x .notes) (y .notes) (x .work) (y .work) → Judge-text-says text capture r x y
 
 -- WHAT THE CALLS REFUSE: the text, then what is lent, by the grammar that was read
 pub data Build-text-refused (text : List ℕ) (room : ℕ) : Refusal → Type 0 where

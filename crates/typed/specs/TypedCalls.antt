@@ -15,6 +15,7 @@ use Rattle.simulator.specs.declared.Judged.{Judged}
 use Rattle.simulator.specs.declared.Judged.the-variants.{Answer}
 use Rattle.simulator.specs.Calls.{judgement}
 use Rattle.grammar.specs.Grammar.{rules, grammar-refusal}
+use Rattle.builder.specs.declared.Matching.the-variants.{Whole}
 use Rattle.builder.specs.Image.{built, built-length}
 use Rattle.syntax.specs.Trees.{Definition, Legal-text}
 use Rattle.syntax.specs.Meaning.{Means}
@@ -57,5 +58,5 @@ pub record Enough-lent (text cs : List ℕ) (x : Lent) : Type 0 where
   pub bytes : Bytes cs
   pub short : length cs ≤ Format.max-capture
   pub image-room : built-length grammar ≤ length (x .image)
-  pub notes-room : how-many (machine (built grammar) cs) ≤ length (x .notes)
-  pub work-room : how-many (machine (built grammar) cs) ≤ length (x .work)
+  pub notes-room : how-many (machine (built Whole grammar) cs) ≤ length (x .notes)
+  pub work-room : how-many (machine (built Whole grammar) cs) ≤ length (x .work)

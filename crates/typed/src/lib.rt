@@ -1,7 +1,8 @@
-// Calls on grammars as text: a text is read, and the image of its grammar built, or a capture judged by it.
+// Calls on grammars as text: a text is read, and the image of its grammar built, or a capture judged by it. The match is whole.
 pub mod left_recursion;
 
 use builder::Built;
+use builder::Matching;
 use builder::build::build_planned;
 use builder::planning::plan_of;
 use grammar_judge::build_and_judge;
@@ -10,6 +11,7 @@ use reader::reading::read;
 use simulator::Judged;
 ghost use mathlib.Core.Path.{_≡_};
 ghost use Rattle.grammar.specs.Grammar.{grammar-refusal};
+ghost use Rattle.builder.specs.declared.Matching.the-variants.{Whole};
 ghost use Rattle.builder.specs.Calls.{Build-says};
 ghost use Rattle.grammar_judge.specs.Calls.{lent};
 ghost use Rattle.typed.specs.Calls.{Build-text-says, Judge-text-says};
@@ -18,9 +20,9 @@ ghost use Rattle.typed.specs.code.Steps.{Judges-read};
 // Building of a grammar that is not refused.
 fn build_read(grammar: &[u8], image: &mut [u8]) -> Built
     requires { ⌜ grammar-refusal (now grammar) .number ≡ 0 ⌝ }
-    ensures { λ r. ⌜ Build-says (now (grammar .entry)) r (now (image .entry)) (now (image .exit)) ⌝ }
+    ensures { λ r. ⌜ Build-says Whole (now (grammar .entry)) r (now (image .entry)) (now (image .exit)) ⌝ }
 {
-    build_planned(grammar, plan_of(grammar), image)
+    build_planned(grammar, plan_of(grammar), image, Matching::Whole)
 }
 
 // Building, from a text: the image's length, or the first refusal. Later bytes stay, and a refusal changes none.

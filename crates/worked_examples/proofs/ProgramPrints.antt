@@ -18,8 +18,9 @@ use Rattle.simulator.specs.Calls.{judge-refusal, judgement, Judged-right}
 use Rattle.simulator.proofs.Answered.{judged-right}
 use Rattle.simulator.proofs.JudgingRight.{answer-known}
 use Rattle.grammar.specs.Grammar as Grammar
+use Rattle.builder.specs.declared.Matching.the-variants.{Whole}
 use Rattle.builder.specs.Classes.{cuts-at, cut-from, cut, class-of, class-count, class-in}
-use Rattle.builder.specs.Table.{rows, by-state, select, row-zero, class-inside, rows-at, made}
+use Rattle.builder.specs.Table.{rows, by-state, select, on-byte, row-zero, class-inside, rows-at, made}
 use Rattle.builder.specs.Image.{symbols-of, built-rules, rules-made, map-made, built, built-length, parts as parts-of}
 use Rattle.builder.specs.Calls.{build-refusal}
 use Rattle.text.specs.Line.{digits, decimal, field, verdict-word, answer-line}
@@ -44,7 +45,7 @@ unfolding endless-input input-refusal first-pair-right second-pair-right input-g
     or-else refuse-if pair-is directory counts count-wrong map-from move-off rule-bad index-class rules-refusal-from rule-count image-refusal
     Grammar.rules Grammar.kind-of Grammar.b-of Grammar.c-of Grammar.expression-by Grammar.expression Grammar.range-of Grammar.rule-right Grammar.grammar-rules-from Grammar.grammar-refusal
     cuts-at cut-from cut class-of class-count class-in
-    rows by-state select row-zero class-inside rows-at made
+    rows by-state select on-byte row-zero class-inside rows-at made
     symbols-of built-rules rules-made map-made parts-of built built-length
 fine-by-lengths = refl
 
@@ -60,15 +61,15 @@ line-is = refl
 fifth : {P : Row → Type 0} {a b c d e : Row} {rest : List Row} → Each P (a ∷ b ∷ c ∷ d ∷ e ∷ rest) → P e
 fifth (cons p (cons q (cons r (cons s (cons found later))))) = found
 
-endless-row : Row-holds (row (from-grammar endless-grammar) [] Looping 2 (config 1 1 1) none)
+endless-row : Row-holds (row (from-grammar Whole endless-grammar) [] Looping 2 (config 1 1 1) none)
 unfolding table
 endless-row = fifth examples-hold
 
 answer-is :
-    (r : Judged) (a a-now b b-now : List ℕ) → Judged-right (built endless-grammar) [] r a a-now b b-now → r ≡ Answer (judgement Looping 2 (config 1 1 1))
+    (r : Judged) (a a-now b b-now : List ℕ) → Judged-right (built Whole endless-grammar) [] r a a-now b b-now → r ≡ Answer (judgement Looping 2 (config 1 1 1))
 unfolding row-machine image-of
 answer-is r a a-now b b-now right =
-    answer-known (built endless-grammar) [] (endless-row .unrefused) Looping 2 (config 1 1 1) (endless-row .says) (endless-row .entered)
+    answer-known (built Whole endless-grammar) [] (endless-row .unrefused) Looping 2 (config 1 1 1) (endless-row .says) (endless-row .entered)
     r a a-now b b-now right
 
 line-of : (x y : Lent) (out line : List ℕ) → Program-room x out → Input-says endless-input x y line → line ≡ endless-line
@@ -77,7 +78,7 @@ line-of x y out line room s =
     let none-refused = no-refusal x out room in
     let j = input-judged endless-input x y line none-refused s in
     let right =
-    judged-right (built (input-grammar endless-input)) (input-capture endless-input) (j .judged) (x .notes) (y .notes) (x .work) (y .work)
+    judged-right (built Whole (input-grammar endless-input)) (input-capture endless-input) (j .judged) (x .notes) (y .notes) (x .work) (y .work)
     (input-fine endless-input x none-refused .1) (j .judges)
     in
     let known : j .judged ≡ Answer (judgement Looping 2 (config 1 1 1)) =

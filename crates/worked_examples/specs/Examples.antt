@@ -20,21 +20,23 @@ use Rattle.machine.specs.Verdicts.{Says, Goes-on, All-entered}
 use Rattle.interpreter.specs.declared.Exit.the-variants.{Terminated, Spent, Deep}
 use Rattle.interpreter.specs.PlainRun.{Run-end, run-end, run-on, True-end}
 use Rattle.grammar.specs.Grammar.{grammar-refusal}
+use Rattle.builder.specs.declared.Matching.{Matching}
+use Rattle.builder.specs.declared.Matching.the-variants.{Whole}
 use Rattle.builder.specs.Table.{rule, no-rule}
 use Rattle.builder.specs.Image.{built}
 
--- where a row's image is from: built of a grammar, or given
+-- where a row's image is from: built of a grammar, by a choice of a match, or given
 pub data Source : Type 0 where
-  from-grammar : (grammar : List ℕ) → Source
+  from-grammar : Matching → (grammar : List ℕ) → Source
   from-image : (image : List ℕ) → Source
 
 unfoldable pub image-of : Source → List ℕ
-image-of (from-grammar gs) = built gs
+image-of (from-grammar how gs) = built how gs
 image-of (from-image bs) = bs
 
 -- the number of a grammar's refusal; a given image has none here, Unrefused speaks of it
 unfoldable pub source-refusal : Source → ℕ
-source-refusal (from-grammar gs) = grammar-refusal gs .number
+source-refusal (from-grammar how gs) = grammar-refusal gs .number
 source-refusal (from-image bs) = 0
 
 -- A ROW: the steps are none if the run has no end
@@ -96,18 +98,18 @@ not-grammar = 3 ∷ 1 ∷ 0 ∷ 0 ∷ 5 ∷ 97 ∷ 97 ∷ 0 ∷ []
 abbrev pub choice-grammar : List ℕ
 choice-grammar = 2 ∷ 1 ∷ 2 ∷ 0 ∷ 5 ∷ 97 ∷ 97 ∷ 0 ∷ 4 ∷ 0 ∷ 0 ∷ 0 ∷ []
 
--- THE TABLE, C1 to C10 in their order
+-- THE TABLE, C1 to C10 in their order; C1 to C9 match whole
 unfoldable pub table : List Row
 table =
-    row (from-grammar empty-grammar) [] Accepted 3 (config 2 1 0) (some 3)
-    ∷ row (from-grammar empty-grammar) (97 ∷ []) Stuck 3 (config 2 1 0) (some 2)
-    ∷ row (from-grammar byte-grammar) (97 ∷ []) Accepted 4 (config 2 2 0) (some 4)
-    ∷ row (from-grammar byte-grammar) (98 ∷ []) Stuck 3 (config 3 1 0) (some 2)
-    ∷ row (from-grammar endless-grammar) [] Looping 2 (config 1 1 1) none
-    ∷ row (from-grammar sequence-grammar) [] Accepted 11 (config 2 1 0) (some 18)
-    ∷ row (from-grammar not-grammar) [] Accepted 5 (config 2 1 0) (some 5)
-    ∷ row (from-grammar not-grammar) (97 ∷ []) Stuck 6 (config 3 1 0) (some 5)
-    ∷ row (from-grammar choice-grammar) [] Accepted 8 (config 2 1 0) (some 8)
+    row (from-grammar Whole empty-grammar) [] Accepted 3 (config 2 1 0) (some 3)
+    ∷ row (from-grammar Whole empty-grammar) (97 ∷ []) Stuck 3 (config 2 1 0) (some 2)
+    ∷ row (from-grammar Whole byte-grammar) (97 ∷ []) Accepted 4 (config 2 2 0) (some 4)
+    ∷ row (from-grammar Whole byte-grammar) (98 ∷ []) Stuck 3 (config 3 1 0) (some 2)
+    ∷ row (from-grammar Whole endless-grammar) [] Looping 2 (config 1 1 1) none
+    ∷ row (from-grammar Whole sequence-grammar) [] Accepted 11 (config 2 1 0) (some 18)
+    ∷ row (from-grammar Whole not-grammar) [] Accepted 5 (config 2 1 0) (some 5)
+    ∷ row (from-grammar Whole not-grammar) (97 ∷ []) Stuck 6 (config 3 1 0) (some 5)
+    ∷ row (from-grammar Whole choice-grammar) [] Accepted 8 (config 2 1 0) (some 8)
     ∷ row (from-image popping-image) [] Ended 1 (config 0 0 0) (some 1)
     ∷ []
 
@@ -155,4 +157,4 @@ plain-table =
     ∷ []
 
 abbrev pub Plain-holds : Plain-row → Type 0
-Plain-holds r = run-on (r .budget) (machine (built empty-grammar) []) 0 (r .cells) start ≡ r .answers
+Plain-holds r = run-on (r .budget) (machine (built Whole empty-grammar) []) 0 (r .cells) start ≡ r .answers

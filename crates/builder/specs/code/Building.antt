@@ -6,6 +6,7 @@ use lib.ListN.{length}
 use Rattle.image.specs.Format
 use Rattle.machine.specs.Run.{how-many}
 use Rattle.image.specs.Image.{machine}
+use Rattle.builder.specs.declared.Matching.{Matching}
 use Rattle.builder.specs.declared.Plan.{Plan}
 use Rattle.grammar.specs.Grammar.{grammar-refusal}
 use Rattle.builder.specs.Classes.{class-count}
@@ -33,6 +34,6 @@ pub record Buffer-ready (gs : List ℕ) (p : Plan) (image : List ℕ) : Type 0 w
   pub planned : Planned gs p
   pub long : length image ≡ built-length gs
 
--- N of the built image's machine, with any capture of n bytes
+-- N of the built image's machine, by either choice, with any capture of n bytes
 abbrev pub Cells-are : List ℕ → (n cells : ℕ) → Type 0
-Cells-are gs n k = (cs : List ℕ) → length cs ≡ n → k ≡ how-many (machine (built gs) cs)
+Cells-are gs n k = (how : Matching) (cs : List ℕ) → length cs ≡ n → k ≡ how-many (machine (built how gs) cs)

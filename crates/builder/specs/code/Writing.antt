@@ -13,6 +13,7 @@ use Rattle.grammar.specs.declared.Expression.{Expression}
 use Rattle.grammar.specs.declared.ByteRange.{ByteRange}
 use Rattle.grammar.specs.declared.ByteRange.the-variants.{Between, Nothing}
 use Rattle.image.specs.declared.Selector.{Selector}
+use Rattle.builder.specs.declared.Matching.{Matching}
 use Rattle.builder.specs.declared.RuleBytes.{RuleBytes}
 use Rattle.builder.specs.declared.RulePair.{RulePair}
 use Rattle.grammar.specs.Grammar.{max-rules, rules, Parts-below, grammar-refusal}
@@ -54,14 +55,14 @@ pub record Pair-ready (gs image : List ℕ) (classes symbol : ℕ) : Type 0 wher
   pub symbol-odd : symbol % 2 ≡ 1
   pub symbol-there : symbol < symbols-of gs
 
--- THE RULES OF TWO SYMBOLS: those that a state picks of a rule's six; the table's, for what selects the first
+-- THE RULES OF TWO SYMBOLS: those that a state picks of a rule's six; the table's, for what selects the first, by either choice
 pub record Picks (six : Rows) (p : ℕ) (r : RulePair) : Type 0 where
   pub first : rule-of (r .first) ≡ select six false p
   pub second : rule-of (r .second) ≡ select six true p
 
 pub record Made-pair (gs : List ℕ) (s : Selector) (r : RulePair) : Type 0 where
-  pub first : rule-of (r .first) ≡ made gs (s .state) (s .class) (s .symbol)
-  pub second : rule-of (r .second) ≡ made gs (s .state) (s .class) (s .symbol + 1)
+  pub first : (how : Matching) → rule-of (r .first) ≡ made how gs (s .state) (s .class) (s .symbol)
+  pub second : (how : Matching) → rule-of (r .second) ≡ made how gs (s .state) (s .class) (s .symbol + 1)
 
 -- a buffer of the image's length, for a grammar that is not refused
 pub record Write-ready (gs image : List ℕ) (classes count : ℕ) : Type 0 where
@@ -75,5 +76,5 @@ abbrev pub with-rule : (image : List ℕ) → (i : ℕ) → RuleBytes → List �
 with-rule image i r = written image (Format.rules-offset + Format.rule-length * i) (r .kind ∷ r .state ∷ r .symbol ∷ r .direction ∷ [])
 
 -- the image with its rules, after what stands before them
-abbrev pub with-rules : (gs image : List ℕ) → List ℕ
-with-rules gs image = take Format.rules-offset image ++ rules-bytes (rules-made (built-rules gs) 0 gs)
+abbrev pub with-rules : Matching → (gs image : List ℕ) → List ℕ
+with-rules how gs image = take Format.rules-offset image ++ rules-bytes (rules-made (made how gs) (built-rules gs) 0 gs)

@@ -1,6 +1,7 @@
 -- `grammar_judge::cells_refusal` meets its contract: the cells that the machine needs are those that the grammar gives. Assumes nothing.
 use mathlib.Core.Path.{refl, _∙_}
 use Rattle.grammar_judge.proofs.Refusing.{refused-long, refused-notes, refused-work, refused-none}
+use Rattle.builder.specs.declared.Matching.the-variants.{Whole}
 use borrow.Author.Needs.{needs}
 use Rattle.grammar_judge.proofs.cells_refusal.Statement.{statement}
 use Rattle.grammar_judge.proofs.cells_refusal.Tie as tie
@@ -24,7 +25,7 @@ returns-2 c =
     let cells = c .before .before in
     let start = cells .before .before .before .before in
     c .refused2 .ensures ∙ refused-notes _ _ (start .pre) _ _ (cells .before .if1 .left) _
-    (cells .cells-of .ensures (start .args .capture .now) refl) (c .before .if2 .taken)
+    (cells .cells-of .ensures Whole (start .args .capture .now) refl) (c .before .if2 .taken)
 
 refused-requires-3 : tie.Need-refused-requires-3
 refused-requires-3 c κs = search needs
@@ -34,7 +35,7 @@ returns-3 c =
     let cells = c .before .before .before in
     let start = cells .before .before .before .before in
     c .refused3 .ensures ∙ refused-work _ _ (start .pre) _ _ (cells .before .if1 .left) _
-    (cells .cells-of .ensures (start .args .capture .now) refl) (c .before .before .if2 .left) (c .before .if3 .taken)
+    (cells .cells-of .ensures Whole (start .args .capture .now) refl) (c .before .before .if2 .left) (c .before .if3 .taken)
 
 refused-requires-4 : tie.Need-refused-requires-4
 refused-requires-4 c κs = search needs
@@ -44,7 +45,7 @@ returns-4 c =
     let cells = c .before .before .before in
     let start = cells .before .before .before .before in
     c .refused4 .ensures ∙ refused-none _ _ (start .pre) _ _ (cells .before .if1 .left) _
-    (cells .cells-of .ensures (start .args .capture .now) refl) (c .before .before .if2 .left) (c .before .if3 .left)
+    (cells .cells-of .ensures Whole (start .args .capture .now) refl) (c .before .before .if2 .left) (c .before .if3 .left)
 
 pub cells-refusal-spec : {M : Type 1} → statement M
 cells-refusal-spec =

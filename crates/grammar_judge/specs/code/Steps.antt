@@ -8,6 +8,7 @@ use Rattle.simulator.specs.declared.Judged.the-variants.{Answer}
 use Rattle.simulator.specs.Calls.{Judge-says}
 use Rattle.simulator.specs.code.Checked.{Sized}
 use Rattle.builder.specs.declared.Plan.{Plan}
+use Rattle.builder.specs.declared.Matching.the-variants.{Whole}
 use Rattle.builder.specs.Image.{built, built-length}
 use Rattle.builder.specs.code.Building.{Planned}
 use Rattle.grammar_judge.specs.Calls.{Lent, lent-refusal}
@@ -25,5 +26,5 @@ pub record Judge-ready (bs cs : List ℕ) (cells : ℕ) (notes work : List ℕ) 
 
 -- the image of the grammar is built, with later bytes as they were, and the judgement is the call's answer
 pub record Builds (gs cs : List ℕ) (before after : Lent) (j : Judgement) : Type 0 where
-  pub image-now : after .image ≡ built gs ++ drop (built-length gs) (before .image)
-  pub judges : Judge-says (built gs) cs (Answer j) (before .notes) (after .notes) (before .work) (after .work)
+  pub image-now : after .image ≡ built Whole gs ++ drop (built-length gs) (before .image)
+  pub judges : Judge-says (built Whole gs) cs (Answer j) (before .notes) (after .notes) (before .work) (after .work)

@@ -1,8 +1,11 @@
--- `sejimakpu::sejimakpu_build_nonnull` meets its contract. Assumes nothing.
+-- `sejimakpu::sejimakpu_build_nonnull` meets its contract: with no choice given the default is taken. Assumes nothing.
 use Rattle.sejimakpu.proofs.Told.{told-as}
 use borrow.Author.Needs.{needs}
 use Rattle.sejimakpu.proofs.sejimakpu_build_nonnull.Statement.{statement}
 use Rattle.sejimakpu.proofs.sejimakpu_build_nonnull.Tie as tie
+
+default-matching-requires : tie.Need-default-matching-requires
+default-matching-requires c κs = search needs
 
 build-image-requires : tie.Need-build-image-requires
 build-image-requires c κs = search needs
@@ -21,12 +24,12 @@ returns c =
     let after-call = c .before .before .before .before in
     let at-call = after-call .before in
     record {
-      built = _;
-      says = at-call .build-image .ensures;
+      built = at-call .build-image .result;
+      says = rw (← at-call .before .default-matching .ensures) (at-call .build-image .ensures);
       tells = told-as (c .before .build-reply .ensures) (c .write-reply .ensures);
     }
 
 pub sejimakpu-build-nonnull-spec : {M : Type 1} → statement M
 sejimakpu-build-nonnull-spec =
     tie.close
-    (tie.spec build-image-requires build-reply-requires write-reply-requires same-length returns)
+    (tie.spec default-matching-requires build-image-requires build-reply-requires write-reply-requires same-length returns)

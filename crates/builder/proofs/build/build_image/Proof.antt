@@ -10,7 +10,7 @@ refusal-of-requires c κs = search needs
 returns : tie.Need-returns
 returns c =
     let asked = c .before .before in
-    building-refused _ (asked .before .before .before .args .image .now) _ (grammar-refused _ _ (asked .refusal-of .ensures) _ (c .if1 .taken)) (c .if1 .taken)
+    building-refused _ _ (asked .before .before .before .args .image .now) _ (grammar-refused _ _ (asked .refusal-of .ensures) _ (c .if1 .taken)) (c .if1 .taken)
 
 plan-of-requires : tie.Need-plan-of-requires
 plan-of-requires c κs = not-refused _ _ (c .before .before .refusal-of .ensures) (c .if1 .left)

@@ -13,7 +13,7 @@ returns : tie.Need-returns
 returns c =
     let earlier = c .before .before .before .before in
     let start = earlier .before in
-    building-refused _ (start .args .image .now) _
+    building-refused _ _ (start .args .image .now) _
     (room-told _ _ refl (start .pre .good) _ (long-is _ _ (start .pre .is)) (c .before .before .room-refusal .ensures)) (c .if1 .taken)
 
 slice-relend-prefix-build-checked : tie.Need-slice-relend-prefix-build-checked
@@ -39,7 +39,7 @@ returns-2 c =
     let room = earlier .before .before in
     let start = room .before .before .before in
     image-built _ (start .args .image .now) (start .pre .good) _ (long-is _ _ (start .pre .is))
-    (room-passed _ _ _ (room .room-refusal .ensures) (c .before .before .before .before .if1 .left))
+    (room-passed _ _ _ (room .room-refusal .ensures) (c .before .before .before .before .if1 .left)) _
     (c .before .before .build-checked .last .1 .1 .0) _ (c .before .before .build-checked .ensures) refl
 
 pub build-planned-spec : {M : Type 1} → statement M

@@ -77,7 +77,7 @@ returns c =
     let map = after-map .write-map in
     let room : Format.rules-offset ≤ length (header .last .0) = omega (arith, header .kept .0, start .pre .long, length-is gs) in
     let before : Format.map-offset ≤ length (start .args .image .now) = omega (arith, start .pre .long, length-is gs) in
-    image-whole gs (start .args .image .now) (header .last .0) (map .last .1 .0) (after-rules .write-rules .last .1 .0)
+    image-whole _ gs (start .args .image .now) (header .last .0) (map .last .1 .0) (after-rules .write-rules .last .1 .0)
     _ _ _ (start .pre .count-is) (start .pre .classes-are) (counted .symbol-count .ensures) before (header .ensures)
     (map-front gs (header .last .0) (map .last .1 .0) room (map .ensures)) (after-rules .write-rules .ensures)
 

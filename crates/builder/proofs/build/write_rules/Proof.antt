@@ -17,10 +17,10 @@ use Rattle.builder.proofs.build.write_rules.Statement.{statement}
 use Rattle.builder.proofs.build.write_rules.Tie as tie
 
 abbrev Inv-loop : tie.InvT-loop
-Inv-loop grammar image₀ classes count symbols columns s₀ i₀ image s i = Rules-written grammar image₀ image i × Selects s columns symbols i × Begins s
+Inv-loop grammar image₀ classes count matching symbols columns s₀ i₀ image s i = Rules-written matching grammar image₀ image i × Selects s columns symbols i × Begins s
 
 abbrev μ-loop : tie.MeasureT-loop
-μ-loop grammar image₀ classes count symbols columns s₀ i₀ image s i = count - i
+μ-loop grammar image₀ classes count matching symbols columns s₀ i₀ image s i = count - i
 
 symbol-count-requires : tie.Need-symbol-count-requires Inv-loop μ-loop
 symbol-count-requires c κs = grammar-short _ (c .before .before .pre .0 .good)
@@ -38,7 +38,7 @@ loop-holds c =
     let start = c .before .before .before .before in
     let gs = start .args .grammar .now in
     let symbols : 0 < symbols-of gs = symbols-some gs in (
-      rules-start gs (start .args .image .now) (start .pre .1 .long),
+      rules-start _ gs (start .args .image .now) (start .pre .1 .long),
       selects-as (c .first .ensures) (selects-first _ _ (omega arith) (omega (arith, c .before .symbol-count .ensures))),
       λ some. absurd (some (ap (λ (s : Selector). s .symbol) (c .first .ensures))),
     )
@@ -80,9 +80,9 @@ loop-again c =
     let gs = start .args .grammar .now in
     let more : turn .loop .i < built-rules gs = omega (arith, c .before .before .before .before .before .before .before .before .loop-test .taken, start .pre .1 .count-is) in
     let even : turn .loop .s .symbol % 2 ≡ 0 = ap (λ (n : ℕ). n % 2) (zero .before .if1 .taken) in (
-      rules-next gs (start .args .image .now) (turn .loop .image) (put .write-rule .last .0) (turn .loop .i) _ _ (zero .row-zero .result) (turn .loop .inv .0)
+      rules-next _ gs (start .args .image .now) (turn .loop .image) (put .write-rule .last .0) (turn .loop .i) _ _ (zero .row-zero .result) (turn .loop .inv .0)
           more (start .pre .0 .classes-are) (counted .symbol-count .ensures) (put .write-rule .kept .0) (put .write-rule .ensures)
-          (selected _ _ _ _ _ _ (turn .loop .inv .1) (zero-is _ _ _ _ _ _ (start .pre .0 .classes-are) (zero .before .if1 .taken) (zero .row-zero .ensures))),
+          (selected _ _ _ _ _ _ _ (turn .loop .inv .1) (zero-is _ _ _ _ _ _ _ (start .pre .0 .classes-are) (zero .before .if1 .taken) (zero .row-zero .ensures))),
       selects-as (c .next .ensures) (selects-next _ _ _ _ (turn .loop .inv .1)),
       begins-next _ _ _ _ (c .next .ensures) even,
     )
@@ -93,7 +93,7 @@ made-pair-requires c κs =
     let counted = turn .before .before in
     let start = counted .before .before .before in
     record {
-      rows = ready-kept (start .args .grammar .now) (start .args .image .now) (turn .loop .image) _ (turn .loop .i) (start .pre .0) (turn .loop .inv .0);
+      rows = ready-kept _ (start .args .grammar .now) (start .args .image .now) (turn .loop .image) _ (turn .loop .i) (start .pre .0) (turn .loop .inv .0);
       symbol-odd = turn .loop .inv .2 (c .before .if1 .left);
       symbol-there = omega (arith, turn .loop .inv .1 .symbol-below, counted .symbol-count .ensures);
     }
@@ -168,17 +168,17 @@ loop-again-2 c =
     let next = c .before .next2 .ensures ∙ next-symbol (turn .loop .s) _ _ two in
     let there = selects-as (c .before .next2 .ensures) (selects-next _ _ _ _ here) in
     let one =
-    rules-next gs (start .args .image .now) (turn .loop .image) (first .write-rule2 .last .0) (turn .loop .i) _ _ (pair .made-pair .result .first) (turn .loop .inv .0)
+    rules-next _ gs (start .args .image .now) (turn .loop .image) (first .write-rule2 .last .0) (turn .loop .i) _ _ (pair .made-pair .result .first) (turn .loop .inv .0)
     more (start .pre .0 .classes-are) (counted .symbol-count .ensures) (first .write-rule2 .kept .0) (first .write-rule2 .ensures)
-    (selected _ _ _ _ _ _ here (pair .made-pair .ensures .first))
+    (selected _ _ _ _ _ _ _ here (pair .made-pair .ensures .first _))
     in
-    let placed : rule-of (pair .made-pair .result .second) ≡ made gs (c .before .next2 .result .state) (c .before .next2 .result .class) (c .before .next2 .result .symbol) =
-    pair .made-pair .ensures .second ∙ ap (λ (s : Selector). made gs (s .state) (s .class) (s .symbol)) (sym next)
+    let placed : rule-of (pair .made-pair .result .second) ≡ made (start .args .matching) gs (c .before .next2 .result .state) (c .before .next2 .result .class) (c .before .next2 .result .symbol) =
+    pair .made-pair .ensures .second (start .args .matching) ∙ ap (λ (s : Selector). made (start .args .matching) gs (s .state) (s .class) (s .symbol)) (sym next)
     in
     let both =
-    rules-next gs (start .args .image .now) (first .write-rule2 .last .0) (second .write-rule3 .last .0) (turn .loop .i + 1) _ _ (pair .made-pair .result .second) one
+    rules-next _ gs (start .args .image .now) (first .write-rule2 .last .0) (second .write-rule3 .last .0) (turn .loop .i + 1) _ _ (pair .made-pair .result .second) one
     later (start .pre .0 .classes-are) (counted .symbol-count .ensures) (second .write-rule3 .kept .0) (second .write-rule3 .ensures)
-    (selected _ _ _ _ _ _ there placed)
+    (selected _ _ _ _ _ _ _ there placed)
     in
     let sum : turn .loop .i + 1 + 1 ≡ turn .loop .i + 2 = omega arith in
     let even : c .before .next2 .result .symbol % 2 ≡ 0 = omega (arith, odd, ap (λ (s : Selector). s .symbol) next) in (
@@ -199,7 +199,7 @@ returns c =
     let turn = c .before in
     let counted = turn .before .before in
     let start = counted .before .before .before in
-    rules-end (start .args .grammar .now) (start .args .image .now) (turn .loop .image) (turn .loop .i) (turn .loop .inv .0)
+    rules-end _ (start .args .grammar .now) (start .args .image .now) (turn .loop .image) (turn .loop .i) (turn .loop .inv .0)
     (omega (arith, c .loop-test .left, start .pre .1 .count-is))
 
 pub write-rules-spec : {M : Type 1} → statement M

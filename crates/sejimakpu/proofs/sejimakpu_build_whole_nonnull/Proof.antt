@@ -1,0 +1,32 @@
+-- `sejimakpu::sejimakpu_build_whole_nonnull` meets its contract. Assumes nothing.
+use Rattle.sejimakpu.proofs.Told.{told-as}
+use borrow.Author.Needs.{needs}
+use Rattle.sejimakpu.proofs.sejimakpu_build_whole_nonnull.Statement.{statement}
+use Rattle.sejimakpu.proofs.sejimakpu_build_whole_nonnull.Tie as tie
+
+build-image-requires : tie.Need-build-image-requires
+build-image-requires c κs = search needs
+
+build-reply-requires : tie.Need-build-reply-requires
+build-reply-requires c κs = search needs
+
+write-reply-requires : tie.Need-write-reply-requires
+write-reply-requires c κs = search needs
+
+same-length : tie.Need-same-length
+same-length c = search needs
+
+returns : tie.Need-returns
+returns c =
+    let after-call = c .before .before .before .before in
+    let at-call = after-call .before in
+    record {
+      built = _;
+      says = at-call .build-image .ensures;
+      tells = told-as (c .before .build-reply .ensures) (c .write-reply .ensures);
+    }
+
+pub sejimakpu-build-whole-nonnull-spec : {M : Type 1} → statement M
+sejimakpu-build-whole-nonnull-spec =
+    tie.close
+    (tie.spec build-image-requires build-reply-requires write-reply-requires same-length returns)
