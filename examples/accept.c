@@ -1,10 +1,11 @@
 /*
  * Judges a capture by a grammar, as a bench program would:
  *
- *     accept GRAMMAR-FILE CAPTURE-FILE
+ *     accept [--leading] GRAMMAR-FILE CAPTURE-FILE
  *
  * prints the answer's line, and leaves with status 0 if the capture is accepted, 1 if it is not, 2 if a call was refused
  * or a file could not be read. A grammar file whose name ends in .peg is a typed grammar; any other is a grammar's bytes.
+ * The grammar must match the whole capture; with --leading it must match at the start, and anything may follow.
  * Compile it with -I include, and link libsejimakpu.a.
  */
 #include "sejimakpu.h"
@@ -54,8 +55,8 @@ static int is_typed(const char *name)
     return length >= 4 && strcmp(name + length - 4, ".peg") == 0;
 }
 
-/* Builds the image of the grammar in a file, and answers its length. */
-static size_t image_of(const char *name, uint8_t *image, size_t room)
+/* Builds the image of the grammar in a file, for leading or for whole matching, and answers its length. */
+static size_t image_of(const char *name, int leading, uint8_t *image, size_t room)
 {
     static uint8_t text[MAX_TEXT + 1];
     static uint8_t grammar[SEJIMAKPU_MAX_GRAMMAR + 1];
@@ -66,10 +67,18 @@ static size_t image_of(const char *name, uint8_t *image, size_t room)
             fprintf(stderr, "accept: %s is longer than %d bytes\n", name, MAX_TEXT);
             exit(NOT_JUDGED);
         }
-        or_stop(sejimakpu_build_text(text, length, image, room, &answer), &answer);
+        if (leading) { /* build_text is whole, so the text is read first */
+            or_stop(sejimakpu_read_grammar(text, length, grammar, &answer), &answer);
+            or_stop(sejimakpu_build(grammar, answer.count, image, room, &answer), &answer);
+        } else {
+            or_stop(sejimakpu_build_text(text, length, image, room, &answer), &answer);
+        }
     } else {
         size_t length = bytes_of(name, grammar, SEJIMAKPU_MAX_GRAMMAR);
-        or_stop(sejimakpu_build(grammar, length, image, room, &answer), &answer);
+        if (leading)
+            or_stop(sejimakpu_build(grammar, length, image, room, &answer), &answer);
+        else
+            or_stop(sejimakpu_build_whole(grammar, length, image, room, &answer), &answer);
     }
     return answer.count;
 }
@@ -90,12 +99,14 @@ int main(int count, char **words)
     static uint8_t image[SEJIMAKPU_MAX_BUILT_IMAGE];
     sejimakpu_answer answer;
 
-    if (count != 3) {
-        fprintf(stderr, "usage: accept GRAMMAR-FILE CAPTURE-FILE\n");
+    int leading = count > 1 && strcmp(words[1], "--leading") == 0;
+    if (count != 3 + leading) {
+        fprintf(stderr, "usage: accept [--leading] GRAMMAR-FILE CAPTURE-FILE\n");
         return NOT_JUDGED;
     }
-    size_t capture_length = bytes_of(words[2], capture, SEJIMAKPU_MAX_CAPTURE);
-    size_t image_length = image_of(words[1], image, sizeof image);
+    char **files = words + 1 + leading;
+    size_t capture_length = bytes_of(files[1], capture, SEJIMAKPU_MAX_CAPTURE);
+    size_t image_length = image_of(files[0], leading, image, sizeof image);
 
     or_stop(sejimakpu_cells(image, image_length, capture_length, &answer), &answer);
     size_t cells = answer.count;

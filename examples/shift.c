@@ -1,12 +1,13 @@
 /*
  * Judges a shift's captures by one grammar, in one call:
  *
- *     shift GRAMMAR-FILE CAPTURE-FILE..
+ *     shift [--leading] GRAMMAR-FILE CAPTURE-FILE..
  *
  * takes 1 to 64 captures, prints a line for each with the file's name, then the totals, and leaves with status 0 if all
  * are accepted, 1 if one is not, 2 if one or the call was refused, a file could not be read or the lines not be written. A
  * grammar file whose name ends in .peg is a typed grammar; any other is a grammar's bytes. A grammar by which some capture
- * may be looping has a warning first. Compile it with -I include, and link libsejimakpu.a.
+ * may be looping has a warning first. The grammar must match a whole capture; with --leading it must match at the start, and
+ * anything may follow. Compile it with -I include, and link libsejimakpu.a.
  */
 #include "sejimakpu.h"
 
@@ -76,8 +77,8 @@ static void warn_text(const uint8_t *text, size_t length)
     }
 }
 
-/* Builds the image of the grammar in a file, and answers its length. */
-static size_t image_of(const char *name, uint8_t *image, size_t room)
+/* Builds the image of the grammar in a file, for leading or for whole matching, and answers its length. */
+static size_t image_of(const char *name, int leading, uint8_t *image, size_t room)
 {
     static uint8_t text[MAX_TEXT + 1];
     static uint8_t grammar[SEJIMAKPU_MAX_GRAMMAR + 1];
@@ -89,11 +90,19 @@ static size_t image_of(const char *name, uint8_t *image, size_t room)
             exit(NOT_JUDGED);
         }
         warn_text(text, length);
-        or_stop(sejimakpu_build_text(text, length, image, room, &answer), &answer);
+        if (leading) { /* build_text is whole, so the text is read first */
+            or_stop(sejimakpu_read_grammar(text, length, grammar, &answer), &answer);
+            or_stop(sejimakpu_build(grammar, answer.count, image, room, &answer), &answer);
+        } else {
+            or_stop(sejimakpu_build_text(text, length, image, room, &answer), &answer);
+        }
     } else {
         size_t length = bytes_of(name, grammar, SEJIMAKPU_MAX_GRAMMAR);
         warn_grammar(grammar, length);
-        or_stop(sejimakpu_build(grammar, length, image, room, &answer), &answer);
+        if (leading)
+            or_stop(sejimakpu_build(grammar, length, image, room, &answer), &answer);
+        else
+            or_stop(sejimakpu_build_whole(grammar, length, image, room, &answer), &answer);
     }
     return answer.count;
 }
@@ -160,17 +169,20 @@ int main(int words_count, char **words)
     sejimakpu_totals totals;
     sejimakpu_answer answer;
 
-    if (words_count < 3 || words_count > 2 + SEJIMAKPU_MAX_CAPTURES) {
-        fprintf(stderr, "usage: shift GRAMMAR-FILE CAPTURE-FILE.., up to %d captures\n", SEJIMAKPU_MAX_CAPTURES);
+    int leading = words_count > 1 && strcmp(words[1], "--leading") == 0;
+    int files_count = words_count - 1 - leading;
+    if (files_count < 2 || files_count > 1 + SEJIMAKPU_MAX_CAPTURES) {
+        fprintf(stderr, "usage: shift [--leading] GRAMMAR-FILE CAPTURE-FILE.., up to %d captures\n", SEJIMAKPU_MAX_CAPTURES);
         return NOT_JUDGED;
     }
-    size_t count = (size_t)words_count - 2;
-    char **names = words + 2;
+    size_t count = (size_t)files_count - 1;
+    const char *grammar = words[1 + leading];
+    char **names = words + 2 + leading;
     for (size_t i = 0; i < count; i++) {
         captures[i] = files[i];
         lengths[i] = bytes_of(names[i], files[i], SEJIMAKPU_MAX_CAPTURE);
     }
-    size_t image_length = image_of(words[1], image, sizeof image);
+    size_t image_length = image_of(grammar, leading, image, sizeof image);
 
     size_t bundle_length = sejimakpu_pack_bundle(captures, lengths, count, NULL, 0);
     uint8_t *bundle = memory_of(bundle_length, 1);

@@ -1,14 +1,15 @@
 /*
  * Sejimakpu: judges console captures by two-way pointer pushdown machines. For C99 and C++11.
  *
- * Link libsejimakpu.a (made by `rt staticlib sejimakpu`). Its eleven functions are proved against their contracts in
+ * Link libsejimakpu.a (made by `rt staticlib sejimakpu`). Its twelve functions are proved against their contracts in
  * crates/sejimakpu: each returns on every input, and what it answers is what the definitions in crates/NAME/specs say.
  * Call them by the inline functions below, which only replace null pointers.
  *
  * What C must keep to, because no function can test it:
  *   - a pointer with a length above 0 points to that many elements, aligned as its type asks;
- *   - memory that a call may write (grammar of read_grammar, image of build, build_text and judge_text, notes, work, stack,
- *     lines and totals of judge_bundle, bundle of pack_bundle, answer) overlaps nothing else that the call is given;
+ *   - memory that a call may write (grammar of read_grammar, image of build, build_whole, build_text and judge_text, notes,
+ *     work, stack, lines and totals of judge_bundle, bundle of pack_bundle, answer) overlaps nothing else that the call is
+ *     given;
  *   - the grammar that read_grammar writes has room for SEJIMAKPU_MAX_GRAMMAR bytes, and the lines that judge_bundle
  *     writes are an array of SEJIMAKPU_MAX_CAPTURES.
  * A pointer with length 0 is not used, and may be null. So may the answer, the lines and the totals, where they are not
@@ -129,6 +130,9 @@ uint32_t sejimakpu_plain_run_nonnull(const uint8_t *image, size_t image_length,
 uint32_t sejimakpu_build_nonnull(const uint8_t *grammar, size_t grammar_length,
                                  uint8_t *image, size_t image_length,
                                  sejimakpu_answer *answer);
+uint32_t sejimakpu_build_whole_nonnull(const uint8_t *grammar, size_t grammar_length,
+                                       uint8_t *image, size_t image_length,
+                                       sejimakpu_answer *answer);
 uint32_t sejimakpu_read_grammar_nonnull(const uint8_t *text, size_t text_length, uint8_t *grammar,
                                         sejimakpu_answer *answer);
 uint32_t sejimakpu_build_text_nonnull(const uint8_t *text, size_t text_length,
@@ -243,8 +247,23 @@ static inline uint32_t sejimakpu_plain_run(const uint8_t *image, size_t image_le
 }
 
 /*
- * Builds the image of a grammar at the start of a buffer: answer->count is its length, and later bytes stay. Refusals 11
- * to 13; a refused call changes no byte.
+ * Builds the image of a grammar at the start of a buffer, for leading matching: answer->count is its length, and later bytes
+ * stay. Refusals 11 to 13; a refused call changes no byte.
+ *
+ * THIS FUNCTION HAS CHANGED: IT BUILT FOR WHOLE MATCHING, AND NOW IT BUILDS FOR LEADING MATCHING. A CALLER OF BEFORE WHO
+ * WANTS THE VERDICTS OF BEFORE MUST CALL sejimakpu_build_whole. BY AN IMAGE OF sejimakpu_build A CAPTURE IS NOW ACCEPTED
+ * WHERE SOMETHING FOLLOWS THE MATCH; IT WAS STUCK BEFORE. NOTHING REFUSES OR WARNS: ARGUMENTS, LENGTHS AND REFUSALS ARE THE
+ * SAME, AND COMPILER AND LINKER ARE SILENT. THE SAME HOLDS OF sejimakpu_build_nonnull.
+ *
+ * Leading: a capture is accepted exactly if rule 0 succeeds at its start, whatever follows; stuck exactly if it fails;
+ * looping where parsing has no result. Whole: accepted exactly if rule 0 succeeds and consumes the whole capture; stuck
+ * where parsing has another result; looping as with leading. What is accepted with whole is accepted with leading.
+ *
+ * Use whole where nothing may follow, or where the grammar describes all that follows. Use leading where the grammar does
+ * not describe what follows, such as a banner after a dump; and then let the grammar end with what must stand after the
+ * dump. Without that a dump that is broken in the middle is accepted if the grammar succeeds on the part before.
+ *
+ * Readings of n bytes and m rules: at most 6 * m * (n + 1) + 2 with whole, 6 * m * (n + 1) + n + 2 with leading.
  *
  * A rule of kind 5 matches one byte from b to c. With b above c it always fails: it is legal, matches no byte anywhere,
  * consumes nothing, and adds no class to the image.
@@ -260,9 +279,25 @@ static inline uint32_t sejimakpu_build(const uint8_t *grammar, size_t grammar_le
 }
 
 /*
+ * Builds the image of a grammar at the start of a buffer, for whole matching, as sejimakpu_build did before: the comment
+ * there says what whole and leading are, and when to use which. Length and refusals are the same; so is the image, but for
+ * the rules on a byte after rule 0 has succeeded.
+ */
+static inline uint32_t sejimakpu_build_whole(const uint8_t *grammar, size_t grammar_length,
+                                             uint8_t *image, size_t image_length,
+                                             sejimakpu_answer *answer)
+{
+    sejimakpu_answer unread;
+    return sejimakpu_build_whole_nonnull(sejimakpu_input_bytes(grammar, grammar_length), grammar_length,
+                                         sejimakpu_lent_bytes(image, image_length), image_length,
+                                         answer ? answer : &unread);
+}
+
+/*
  * Reads a typed grammar: answer->count is the length of its bytes, which are put at the start of the SEJIMAKPU_MAX_GRAMMAR
- * bytes lent; later ones stay. They are as sejimakpu_build takes them. A text may have any length. Refusals 15 and 17,
- * whichever comes first in the text, then 16; a refused call changes no byte.
+ * bytes lent; later ones stay. They are as sejimakpu_build and sejimakpu_build_whole take them: to judge by a text with
+ * leading, read it and give these bytes to sejimakpu_build. A text may have any length. Refusals 15 and 17, whichever comes
+ * first in the text, then 16; a refused call changes no byte.
  *
  * A text is lines: a name, =, an expression and ; each, and the first line is where parsing starts. A name is the longest
  * run of letters a to z; spaces and line feeds around tokens are skipped. An expression has names, . for any byte, ranges
@@ -278,9 +313,9 @@ static inline uint32_t sejimakpu_read_grammar(const uint8_t *text, size_t text_l
 }
 
 /*
- * Builds the image of a typed grammar at the start of a buffer, as sejimakpu_build does of the bytes that
- * sejimakpu_read_grammar gives: answer->count is its length, and later bytes stay. Refusals 15 to 17 as there, then 13; a
- * refused call changes no byte.
+ * Builds the image of a typed grammar at the start of a buffer, for whole matching, as sejimakpu_build_whole does of the
+ * bytes that sejimakpu_read_grammar gives: answer->count is its length, and later bytes stay. Refusals 15 to 17 as there,
+ * then 13; a refused call changes no byte. For leading matching: sejimakpu_read_grammar, then sejimakpu_build.
  */
 static inline uint32_t sejimakpu_build_text(const uint8_t *text, size_t text_length,
                                             uint8_t *image, size_t image_length,
@@ -293,10 +328,11 @@ static inline uint32_t sejimakpu_build_text(const uint8_t *text, size_t text_len
 }
 
 /*
- * Judges a capture by a typed grammar: builds its image at the start of a buffer, and judges by that as sejimakpu_judge
- * does, with the same answer, notes and work cells; the verdict is never halted. The image stays in the buffer, and later
- * bytes are as they were. Refusals 15 to 17 as of sejimakpu_read_grammar, then 13, then 7 to 9; a refused call changes no
- * byte and no cell.
+ * Judges a capture by a typed grammar: builds its image for whole matching at the start of a buffer, as
+ * sejimakpu_build_text does, and judges by that as sejimakpu_judge does, with the same answer, notes and work cells; the
+ * verdict is never halted. The image stays in the buffer, and later bytes are as they were. For leading matching:
+ * sejimakpu_read_grammar, then sejimakpu_build and sejimakpu_judge. Refusals 15 to 17 as of sejimakpu_read_grammar, then
+ * 13, then 7 to 9; a refused call changes no byte and no cell.
  *
  * Of n bytes and m rules, N = 5 * (n + 2) * (2 * m + 1) notes and as many work cells are needed.
  */

@@ -1,8 +1,8 @@
 /*
- * Tests of the header's inline functions, as C and as C++, but for bundles, which header_bundle.c and header_packing.c test,
- * and left recursion, which header_recursion.c tests; and of rules that halt, by hand-made machines. Linked with --wrap for
- * each of the archive's functions, so that every pointer that reaches the archive is seen here. Prints what does not hold,
- * and leaves with status 1 if anything does.
+ * Tests of the header's inline functions, as C and as C++, but for building, which header_build.c tests, bundles, which
+ * header_bundle.c and header_packing.c test, and left recursion, which header_recursion.c tests; and of rules that halt, by
+ * hand-made machines. Linked with --wrap for each of the archive's functions, so that every pointer that reaches the archive
+ * is seen here. Prints what does not hold, and leaves with status 1 if anything does.
  */
 #include "sejimakpu.h"
 
@@ -40,7 +40,6 @@ uint32_t __real_sejimakpu_judge_nonnull(const uint8_t *, size_t, const uint8_t *
                                         uint32_t *, size_t, sejimakpu_answer *);
 uint32_t __real_sejimakpu_plain_run_nonnull(const uint8_t *, size_t, const uint8_t *, size_t, uint32_t,
                                             uint32_t *, size_t, sejimakpu_answer *);
-uint32_t __real_sejimakpu_build_nonnull(const uint8_t *, size_t, uint8_t *, size_t, sejimakpu_answer *);
 uint32_t __real_sejimakpu_read_grammar_nonnull(const uint8_t *, size_t, uint8_t *, sejimakpu_answer *);
 uint32_t __real_sejimakpu_build_text_nonnull(const uint8_t *, size_t, uint8_t *, size_t, sejimakpu_answer *);
 uint32_t __real_sejimakpu_judge_text_nonnull(const uint8_t *, size_t, const uint8_t *, size_t, uint8_t *, size_t,
@@ -96,16 +95,6 @@ uint32_t __wrap_sejimakpu_plain_run_nonnull(const uint8_t *image, size_t image_l
     arrives(answer, sizeof answer->place, "answer of plain_run");
     return __real_sejimakpu_plain_run_nonnull(image, image_length, capture, capture_length, budget, stack,
                                               stack_length, answer);
-}
-
-uint32_t __wrap_sejimakpu_build_nonnull(const uint8_t *bytes, size_t length, uint8_t *image, size_t image_length,
-                                        sejimakpu_answer *answer)
-{
-    calls++;
-    arrives(bytes, 1, "grammar of build");
-    arrives(image, 1, "image of build");
-    arrives(answer, sizeof answer->place, "answer of build");
-    return __real_sejimakpu_build_nonnull(bytes, length, image, image_length, answer);
 }
 
 uint32_t __wrap_sejimakpu_read_grammar_nonnull(const uint8_t *bytes, size_t length, uint8_t *lent, sejimakpu_answer *answer)
@@ -228,20 +217,6 @@ static void plain_run(const char *name, uint32_t expected, const uint8_t *image,
     expect(memcmp(lent, archive_lent, sizeof lent) == 0, name, "other stack cells");
     expect(sejimakpu_plain_run(image, image_length, capture, n, budget, a, stack, NULL) == expected, name,
            "another number without an answer");
-}
-
-static void build(const char *name, uint32_t expected, const uint8_t *bytes, size_t length, size_t room)
-{
-    result got = unwritten(), archive = unwritten();
-    uint8_t lent[IMAGE], archive_lent[IMAGE];
-    memset(lent, OLD, sizeof lent);
-    memset(archive_lent, OLD, sizeof archive_lent);
-    uint8_t *a = room == 0 ? NULL : lent;
-    got.number = sejimakpu_build(bytes, length, a, room, &got.answer);
-    archive.number = __real_sejimakpu_build_nonnull(or_empty(bytes), length, archive_lent, room, &archive.answer);
-    same(name, expected, &got, &archive);
-    expect(memcmp(lent, archive_lent, sizeof lent) == 0, name, "another image");
-    expect(sejimakpu_build(bytes, length, a, room, NULL) == expected, name, "another number without an answer");
 }
 
 static void read_grammar(const char *name, uint32_t expected, const uint8_t *bytes, size_t length)
@@ -436,8 +411,7 @@ static void halting(void)
 int main(void)
 {
     static uint8_t image[IMAGE];
-    sejimakpu_answer answer;
-    expect(sejimakpu_build(grammar, sizeof grammar, image, IMAGE, &answer) == 0, "the image", "is refused");
+    expect(sejimakpu_build_whole(grammar, sizeof grammar, image, IMAGE, NULL) == 0, "the image", "is refused");
 
     check("check", SEJIMAKPU_ANSWERED, image, IMAGE);
     check("check, no image", SEJIMAKPU_IMAGE_SHORT, NULL, 0);
@@ -456,10 +430,6 @@ int main(void)
     plain_run("plain run, no capture", SEJIMAKPU_ANSWERED, image, IMAGE, NULL, 0, 3, 2);
     plain_run("plain run, no stack", SEJIMAKPU_STACK_EMPTY, image, IMAGE, NULL, 0, 3, 0);
     plain_run("plain run, nothing", SEJIMAKPU_IMAGE_SHORT, NULL, 0, NULL, 0, 3, 0);
-    build("build", SEJIMAKPU_ANSWERED, grammar, sizeof grammar, IMAGE);
-    build("build, no grammar", SEJIMAKPU_GRAMMAR_LENGTH, NULL, 0, IMAGE);
-    build("build, no image", SEJIMAKPU_IMAGE_BUFFER_SHORT, grammar, sizeof grammar, 0);
-    build("build, nothing", SEJIMAKPU_GRAMMAR_LENGTH, NULL, 0, 0);
     read_grammar("read grammar", SEJIMAKPU_ANSWERED, text, sizeof text);
     read_grammar("read grammar, a name that is not defined", SEJIMAKPU_TEXT_SYNTAX, undefined, sizeof undefined);
     read_grammar("read grammar, no text", SEJIMAKPU_TEXT_SYNTAX, NULL, 0);
@@ -476,7 +446,7 @@ int main(void)
     judge_text("judge text, no notes", SEJIMAKPU_NOTES_SHORT, text, sizeof text, grammar, 1, IMAGE, 0, CELLS);
     judge_text("judge text, no work cells", SEJIMAKPU_WORK_SHORT, text, sizeof text, grammar, 1, IMAGE, CELLS, 0);
     judge_text("judge text, nothing", SEJIMAKPU_TEXT_SYNTAX, NULL, 0, NULL, 0, 0, 0, 0);
-    expect(calls == 1 + 2 * 37, "the linker", "did not lead every call through this file");
+    expect(calls == 2 * 33, "the linker", "did not lead every call through this file");
     words();
     halting();
     return faults == 0 ? 0 : 1;

@@ -234,7 +234,7 @@ static void texts(void)
     bytes_of_text("a line far before it", back, 1, 70000, far_off, sizeof far_off);
 }
 
-/* A typed grammar's verdicts, on no byte and on one. */
+/* A typed grammar's verdicts, on no byte and on one, with whole matching: judge_text has no other. */
 static void judged(const char *letters, uint64_t on_none, uint64_t on_one)
 {
     static uint8_t image[SEJIMAKPU_MAX_BUILT_IMAGE];
