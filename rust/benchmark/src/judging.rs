@@ -2,7 +2,7 @@
 use crate::measure::{alternate, Times};
 use crate::table::{grouped, Table};
 use crate::twin;
-use crate::workloads::{self, Workload, SIZES};
+use crate::workloads::{self, banner, Workload, SIZES};
 use sejimakpu::{Error, Judged};
 use std::{hint::black_box, time::Duration};
 
@@ -17,6 +17,9 @@ const LONG_IN_A_LAYOUT: Duration = Duration::from_millis(120);
 pub const BESIDE_TWIN: &str = "judging beside twin";
 pub const BESIDE_TUNED: &str = "judging beside tuned";
 pub const BESIDE_FASTEST: &str = "judging beside fastest";
+
+/// What the rows begin with that are for a leading match. They are beside the twin, and have no target.
+const LEADING: &str = "judging leading";
 
 /// What an earlier call might have left: every cell has to be cleared.
 const OLD: u32 = 0xA5A5_A5A5;
@@ -155,6 +158,19 @@ pub fn in_a_layout() {
     beside_twin.print();
     beside_tuned.print();
     beside_fastest.print();
+}
+
+/// Measures the judging of a capture with a banner, for a short while, and prints a table: the judge beside the twin.
+pub fn leading_in_a_layout() {
+    let workload = banner::workload();
+    let mut cells = Cells::for_all(std::slice::from_ref(&workload));
+    let mut table = Table::new(&["judging", "n", "judge ns/r", "twin ns/r", "ratio"]);
+    for n in SIZES {
+        let mut line = Line::new(&workload, n, &mut cells);
+        line.measure_calls(LONG_IN_A_LAYOUT, &mut cells);
+        table.row(line.row(LEADING, &line.twin));
+    }
+    table.print();
 }
 
 /// A call of each on an image and a capture.

@@ -18,7 +18,8 @@ judge clears, twin clears: the time of a call with the same image and length on 
   at once (checks, clearing, under 100 readings), over the time of the call. fill(0): both slices cleared by fill(0) and
   nothing else, over the time of the twin's call.
 Checking, building, the calls on a text, the checks for left recursion, judging a bundle, and judging once more are measured
-  in several layouts (below).
+  in several layouts (below). Images are for the whole capture, but where a row says leading. Judging leading: a capture whose
+  first half is lines and whose second half is a banner, which a leading match passes.
   A bundle: 64 captures of lines, all lengths between two, in one call that checks the image once. Reading: blanks
   is the ring's text and then spaces, which is read; operators is one line of every operator, with no name but its own, which needs too many
   rules; names is texts of one length with more and more lines, each with a use of another. Left recursion: lines and
@@ -46,6 +47,7 @@ fn short_calls() {
     recursion::texts();
     bundles::bundles();
     judging::in_a_layout();
+    judging::leading_in_a_layout();
 }
 
 fn long_calls() {

@@ -3,7 +3,7 @@ use crate::measure::{alternate, Times};
 use crate::table::{grouped, Table};
 use crate::twin;
 use crate::workloads::{building, Workload, SIZES};
-use sejimakpu::{Error, Ran, MAX_BUILT_IMAGE};
+use sejimakpu::{Error, Matching, Ran, MAX_BUILT_IMAGE};
 use std::{hint::black_box, time::Duration};
 
 const LONG: Duration = Duration::from_millis(400);
@@ -13,7 +13,7 @@ const SPARE_CELLS: usize = 64;
 
 type PlainRun = fn(&[u8], &[u8], u32, &mut [u32]) -> Result<Ran, Error>;
 type Check = fn(&[u8]) -> Result<(), Error>;
-type Build = fn(&[u8], &mut [u8]) -> Result<usize, Error>;
+type Build = fn(&[u8], Matching, &mut [u8]) -> Result<usize, Error>;
 
 /// Measures the plain run of some workloads and prints a table.
 pub fn plain_runs(workloads: &[&Workload]) {
@@ -55,37 +55,53 @@ fn plain_run(workload: &Workload, n: usize) -> (Ran, [Times; 2]) {
     (ran, times)
 }
 
-/// Measures building and checking of two images and prints a table.
+/// Measures building and checking of two images for the whole capture, and building the same for a leading match, and
+/// prints a table.
 pub fn images() {
     let mut table = Table::new(&["image", "rules", "classes", "bytes", "judge us", "twin us", "ratio"]);
-    for (name, grammar) in [("few rules", building::few()), ("most rules", building::widest())] {
-        let mut image = vec![0; MAX_BUILT_IMAGE];
-        let length = sejimakpu::build(&grammar, &mut image).expect("the grammar is right");
-        let mut other = vec![0; MAX_BUILT_IMAGE];
-        assert_eq!(twin::build(&grammar, &mut other), Ok(length), "both build the same length");
-        assert!(image == other, "both build the same image");
-        let mut line = |what: &str, [judge, twin]: [Times; 2]| {
-            table.row(vec![
-                format!("{what}, {name}"),
-                (grammar.len() / 4).to_string(),
-                other[25].to_string(),
-                grouped(length),
-                format!("{:.2}", judge.least() / 1e3),
-                format!("{:.2}", twin.least() / 1e3),
-                format!("{:.2}", judge.least() / twin.least()),
-            ]);
-        };
-        line("building", time_build(&grammar, &mut image));
-        line("checking", time_check(&image[..length]));
+    let grammars = [("few rules", building::few()), ("most rules", building::widest())];
+    for (name, grammar) in &grammars {
+        let image = built(grammar, Matching::Whole);
+        let built = time_build(grammar, Matching::Whole);
+        table.row(row(format!("building, {name}"), grammar, &image, built));
+        table.row(row(format!("checking, {name}"), grammar, &image, time_check(&image)));
+    }
+    for (name, grammar) in &grammars {
+        let image = built(grammar, Matching::Leading);
+        let built = time_build(grammar, Matching::Leading);
+        table.row(row(format!("building leading, {name}"), grammar, &image, built));
     }
     table.print();
 }
 
-fn time_build(grammar: &[u8], image: &mut Vec<u8>) -> [Times; 2] {
+/// The image of a grammar, after comparing that of the library with that of the twin.
+fn built(grammar: &[u8], matching: Matching) -> Vec<u8> {
+    let (mut image, mut other) = (vec![0; MAX_BUILT_IMAGE], vec![0; MAX_BUILT_IMAGE]);
+    let length = sejimakpu::build(grammar, matching, &mut image).expect("the grammar is right");
+    assert_eq!(twin::build(grammar, matching, &mut other), Ok(length), "both build the same length");
+    assert!(image == other, "both build the same image");
+    image.truncate(length);
+    image
+}
+
+fn row(name: String, grammar: &[u8], image: &[u8], [judge, twin]: [Times; 2]) -> Vec<String> {
+    vec![
+        name,
+        (grammar.len() / 4).to_string(),
+        image[25].to_string(),
+        grouped(image.len()),
+        format!("{:.2}", judge.least() / 1e3),
+        format!("{:.2}", twin.least() / 1e3),
+        format!("{:.2}", judge.least() / twin.least()),
+    ]
+}
+
+fn time_build(grammar: &[u8], matching: Matching) -> [Times; 2] {
     let call = |build: Build, image: &mut Vec<u8>| {
-        let _ = black_box(build(black_box(grammar), image));
+        let _ = black_box(build(black_box(grammar), black_box(matching), image));
     };
-    alternate(LONG, image, [&|image| call(sejimakpu::build, image), &|image| call(twin::build, image)])
+    let mut image = vec![0; MAX_BUILT_IMAGE];
+    alternate(LONG, &mut image, [&|image| call(sejimakpu::build, image), &|image| call(twin::build, image)])
 }
 
 fn time_check(mut image: &[u8]) -> [Times; 2] {

@@ -1,146 +1,10 @@
 //! The twin, and its tuned forms, give the library's answers, notes and cells, on small cases drawn from a fixed sequence of numbers.
+mod numbers;
+
 use benchmark::bundles::report_the_same;
 use benchmark::twin;
-use sejimakpu::{Error, Judged, Verdict, MAX_BUILT_IMAGE, MAX_GRAMMAR};
-
-/// The names of a text's lines: one begins as another does, and one as a reserved word.
-const NAMES: [&[u8]; 3] = [b"a", b"ab", b"emptyx"];
-
-/// The ends of ranges: letters of captures, and bytes that are signs elsewhere.
-const ENDS: [u8; 8] = *b"aabbc;'-";
-
-/// A sequence of numbers, the same in every run.
-struct Numbers(u64);
-
-impl Numbers {
-    fn below(&mut self, limit: usize) -> usize {
-        // xorshift, by Marsaglia
-        self.0 ^= self.0 << 13;
-        self.0 ^= self.0 >> 7;
-        self.0 ^= self.0 << 17;
-        (self.0 >> 11) as usize % limit
-    }
-
-    fn byte(&mut self, limit: usize) -> u8 {
-        self.below(limit) as u8
-    }
-
-    fn capture(&mut self) -> Vec<u8> {
-        (0..self.below(9)).map(|_| b'a' + self.byte(3)).collect()
-    }
-
-    fn grammar(&mut self) -> Vec<u8> {
-        let m = 1 + self.below(6);
-        (0..m).flat_map(|_| self.grammar_rule(m)).collect()
-    }
-
-    fn grammar_rule(&mut self, m: usize) -> [u8; 4] {
-        match self.below(6) {
-            0 | 1 => [1, self.byte(m), self.byte(m), 0],
-            2 => [2, self.byte(m), self.byte(m), 0],
-            3 => [3, self.byte(m), 0, 0],
-            4 => [4, 0, 0, 0],
-            _ => [5, b'a' + self.byte(3), b'a' + self.byte(3), 0],
-        }
-    }
-
-    /// Of up to 31 rules, of which most name none, so that many lead nowhere back.
-    fn sparse_grammar(&mut self) -> Vec<u8> {
-        let (m, leaf) = (1 + self.below(31), [5, b'a', b'b', 0]);
-        (0..m).flat_map(|_| if self.below(5) == 0 { self.grammar_rule(m) } else { leaf }).collect()
-    }
-
-    /// A good image, most of whose rules lead somewhere.
-    fn image(&mut self) -> Vec<u8> {
-        let (q, k, g) = (1 + self.below(4), 1 + self.below(3), 1 + self.below(3));
-        let size = 4 * q * (k + 2) * g;
-        let counts = u32::from_le_bytes([q as u8, k as u8, g as u8, 0]);
-        let header = [24, 8, 32, 256, 288, size as u32, counts, self.below(1 << q) as u32];
-        let mut image: Vec<u8> = header.into_iter().flat_map(u32::to_le_bytes).collect();
-        image.extend((0..256).map(|_| self.byte(k)));
-        for rule in 0..size / 4 {
-            let class = rule / g % (k + 2);
-            image.extend(self.rule(q, g, class == k, class == k + 1));
-        }
-        image
-    }
-
-    fn rule(&mut self, q: usize, g: usize, is_left: bool, is_right: bool) -> [u8; 4] {
-        match self.below(8) {
-            0 => [[0, 4][self.below(2)], 0, 0, 0],
-            1..=2 => [3, self.byte(q), 0, self.byte(2)],
-            kind => {
-                let moves: &[u8] = if is_left {
-                    &[0, 1]
-                } else if is_right {
-                    &[0, 2]
-                } else {
-                    &[0, 1, 1, 2]
-                };
-                [1 + (kind % 2) as u8, self.byte(q), self.byte(g), moves[self.below(moves.len())]]
-            }
-        }
-    }
-
-    /// A rule that stops the run, or one that is nearly such.
-    fn stop(&mut self) -> [u8; 4] {
-        let mut rule = [[0, 4, 4, 4, 5][self.below(5)], 0, 0, 0];
-        if self.below(3) == 0 {
-            rule[1 + self.below(3)] = [1, 255][self.below(2)];
-        }
-        rule
-    }
-
-    /// A text that is right, but for the rules that it may need.
-    fn text(&mut self) -> Vec<u8> {
-        let lines = 1 + self.below(3);
-        let mut text = Vec::new();
-        for name in &NAMES[..lines] {
-            text.extend([name, &b"="[..]].concat());
-            self.expression(lines, 3, &mut text);
-            text.extend([b";", &b";\n"[..]][self.below(2)]);
-        }
-        text
-    }
-
-    fn expression(&mut self, lines: usize, depth: usize, text: &mut Vec<u8>) {
-        for part in 0..1 + self.below(3) {
-            if part > 0 {
-                text.push([b' ', b'/'][self.below(2)]);
-            }
-            text.extend([&b""[..], b"", b"!", b"&"][self.below(4)]);
-            match self.below(7) {
-                0 => text.push(b'.'),
-                1 => text.extend(b"empty"),
-                2 => text.extend(b"fail"),
-                3..=4 => text.extend(NAMES[self.below(lines)]),
-                5 if depth > 0 => {
-                    text.push(b'(');
-                    self.expression(lines, depth - 1, text);
-                    text.push(b')');
-                }
-                _ => text.extend([b'\'', ENDS[self.below(8)], b'-', ENDS[self.below(8)], b'\'']),
-            }
-            text.extend([&b""[..], b"", b"", b"*", b"+", b"?"][self.below(6)]);
-        }
-    }
-
-    /// Spoils a byte, or the length, of every third of the given bytes.
-    fn spoil(&mut self, bytes: &mut Vec<u8>) {
-        match self.below(9) {
-            0 => bytes.truncate(self.below(bytes.len() + 1)),
-            1 => {
-                let at = self.below(bytes.len().min(33));
-                bytes[at] = bytes[at].wrapping_add(1 + self.byte(255));
-            }
-            2 => {
-                let at = self.below(bytes.len());
-                bytes[at] = bytes[at].wrapping_add(1 + self.byte(255));
-            }
-            _ => {}
-        }
-    }
-}
+use numbers::Numbers;
+use sejimakpu::{Error, Judged, Matching, Verdict, MAX_BUILT_IMAGE, MAX_GRAMMAR};
 
 /// Library, twin and tuned forms judge the same, and leave the same in all lent cells.
 fn judge_the_same(image: &[u8], capture: &[u8], lent: (Vec<u32>, Vec<u32>)) -> Result<Judged, Error> {
@@ -208,18 +72,29 @@ fn on_rules_that_stop() {
 #[test]
 fn on_grammars() {
     let mut numbers = Numbers(0xD1B5_4A32_D192_ED03);
+    let (mut refused, mut accepted) = ([0; 2], [0; 2]);
     for _ in 0..600 {
         let mut grammar = numbers.grammar();
         numbers.spoil(&mut grammar);
         let room = if numbers.below(9) == 0 { 400 + numbers.below(300) } else { MAX_BUILT_IMAGE };
-        let (mut a, mut b) = (vec![7; room], vec![7; room]);
-        let built = sejimakpu::build(&grammar, &mut a);
-        assert_eq!(twin::build(&grammar, &mut b), built);
-        assert!(a == b);
-        if let Ok(length) = built {
-            agree_on(&a[..length], &mut numbers);
+        let images = [Matching::Whole, Matching::Leading].map(|matching| {
+            let (mut a, mut b) = (vec![7; room], vec![7; room]);
+            let built = sejimakpu::build(&grammar, matching, &mut a);
+            assert_eq!(twin::build(&grammar, matching, &mut b), built);
+            assert!(a == b);
+            built.map(|length| a[..length].to_vec())
+        });
+        assert!(images[0] != images[1] || images[0].is_err(), "each matching has an image of its own");
+        for (matching, image) in images.iter().enumerate() {
+            refused[matching] += usize::from(image.is_err());
+            if let Ok(image) = image {
+                let [verdict, _] = agree_on(image, &mut numbers);
+                accepted[matching] += usize::from(verdict == Some(Verdict::Accepted));
+            }
         }
     }
+    assert!(refused[0] == refused[1] && (50..400).contains(&refused[0]), "{refused:?} are refused");
+    assert!(accepted[0] > 10 && accepted[1] > 2 * accepted[0], "{accepted:?} are accepted");
 }
 
 #[test]
@@ -309,6 +184,15 @@ fn on_long_captures() {
         let capture = vec![b'a'; n];
         let judged = judge_the_same(&image, &capture, (vec![7; 900_000], vec![7; 900_000]));
         assert_eq!(judged.is_ok(), n == 65_535);
+
+        // All bytes are left over.
+        let mut leading = [0; 468];
+        assert_eq!(twin::build(&[4, 0, 0, 0], Matching::Leading, &mut leading), Ok(468));
+        let judged = judge_the_same(&leading, &capture, (vec![7; 1_000_000], vec![7; 1_000_000]));
+        assert_eq!(
+            judged.ok().map(|judged| (judged.verdict, judged.readings)),
+            (n == 65_535).then_some((Verdict::Accepted, 65_538))
+        );
 
         let lent = (vec![7; 500], vec![7; 1_000_000], vec![8; 1_000_000]);
         let (mut a, mut b) = (lent.clone(), lent);

@@ -1,8 +1,8 @@
 //! The workloads are what they say, at lengths far below those measured.
 use benchmark::backtracking_parser::{parse, TooManySteps};
-use benchmark::workloads::{self, backtracking, bundles::BUNDLES, lines, recursion, texts};
+use benchmark::workloads::{self, backtracking, banner, bundles::BUNDLES, lines, recursion, texts};
 use benchmark::{twin, workloads::building};
-use sejimakpu::{Judged, Reason, Refusal, Verdict, MAX_BUILT_IMAGE, MAX_GRAMMAR};
+use sejimakpu::{Judged, Matching, Reason, Refusal, Verdict, MAX_BUILT_IMAGE, MAX_GRAMMAR};
 
 fn judged(image: &[u8], capture: &[u8]) -> Judged {
     let cells = usize::from(image[24]) * (capture.len() + 2) * usize::from(image[26]);
@@ -11,7 +11,7 @@ fn judged(image: &[u8], capture: &[u8]) -> Judged {
 
 #[test]
 fn verdicts() {
-    for workload in workloads::all() {
+    for workload in workloads::all().into_iter().chain([banner::workload()]) {
         for n in 2..200 {
             let capture = (workload.capture)(n);
             assert_eq!(capture.len(), n);
@@ -43,9 +43,26 @@ fn parser_without_memory() {
 
 #[test]
 fn most_rules_and_classes() {
-    let mut image = vec![0; MAX_BUILT_IMAGE];
-    assert_eq!(twin::build(&building::widest(), &mut image), Ok(MAX_BUILT_IMAGE));
-    assert_eq!((image[25], image[26]), (63, 63));
+    for matching in [Matching::Whole, Matching::Leading] {
+        let mut image = vec![0; MAX_BUILT_IMAGE];
+        assert_eq!(twin::build(&building::widest(), matching, &mut image), Ok(MAX_BUILT_IMAGE));
+        assert_eq!((image[25], image[26]), (63, 63));
+    }
+}
+
+/// The banner is left over: the run passes it byte by byte, and the whole capture is no match.
+#[test]
+fn banners_are_passed() {
+    let leading = banner::workload();
+    let mut whole = vec![0; MAX_BUILT_IMAGE];
+    let length = twin::build(banner::GRAMMAR.as_flattened(), Matching::Whole, &mut whole).unwrap();
+    for n in 4..200 {
+        let capture = (leading.capture)(n);
+        let (one, other) = (judged(&whole[..length], &capture), judged(&leading.image, &capture));
+        assert_eq!((one.verdict, one.end.head as usize), (Verdict::Stuck, 1 + n.div_ceil(2)));
+        assert_eq!(other.readings - one.readings, n as u32 / 2, "a reading for each byte of the banner");
+        assert_eq!((other.verdict, other.end.head as usize), (Verdict::Accepted, n + 1));
+    }
 }
 
 #[test]

@@ -5,9 +5,10 @@ use crate::edges::tools::HALT;
 use crate::findings::Findings;
 use crate::rng::Rng;
 use crate::{compare, grammars, machines, sides};
+use model::building::{self, Matching};
 use model::calls::MAX_CAPTURE;
 use model::image::{write, Parts};
-use model::{building, bundle, grammar, image};
+use model::{bundle, grammar, image};
 
 /// A bundle in the making: what its count and its pairs say, and the bytes behind them.
 struct Draft {
@@ -52,7 +53,8 @@ fn image_with_captures(rng: &mut Rng) -> (Vec<u8>, Vec<Vec<u8>>) {
             let (bytes, capture) = grammars::with_capture(rng);
             let others = (1..count).map(|_| grammars::capture(rng, &bytes));
             let captures = [vec![capture], others.collect()].concat();
-            (building::build(&grammar::read(&bytes).expect("it is made to be good")), captures)
+            let parts = grammar::read(&bytes).expect("it is made to be good");
+            (building::build(&parts, rng.pick(&Matching::BOTH)), captures)
         }
         // Many captures of a large machine would take too long.
         2..=3 if count <= 8 => {

@@ -91,19 +91,24 @@ fn grammar_rules(rules: u8) -> Vec<[u8; 4]> {
 }
 
 /// The captures of up to two bytes over a and b, and some longer ones.
-const CAPTURES: &[&[u8]] = &[b"", b"a", b"b", b"aa", b"ab", b"ba", b"bb", b"aab", b"abab"];
+pub const CAPTURES: &[&[u8]] = &[b"", b"a", b"b", b"aa", b"ab", b"ba", b"bb", b"aab", b"abab"];
 
 pub fn grammar_count(rules: u8) -> usize {
     grammar_rules(rules).len().pow(rules as u32)
 }
 
-pub fn grammar_case(rules: u8, mut number: usize, found: &mut Findings, rng: &mut Rng) {
+pub fn grammar(rules: u8, mut number: usize) -> Vec<u8> {
     let all = grammar_rules(rules);
     let mut bytes = Vec::new();
     for _ in 0..rules {
         bytes.extend(all[number % all.len()]);
         number /= all.len();
     }
+    bytes
+}
+
+pub fn grammar_case(rules: u8, number: usize, found: &mut Findings, rng: &mut Rng) {
+    let bytes = grammar(rules, number);
     for capture in CAPTURES {
         grammar_on(found, rng, &bytes, capture, 100);
     }

@@ -2,7 +2,7 @@
 
 use crate::lively::{liveliest, Drawn};
 use crate::rng::Rng;
-use model::building;
+use model::building::{self, Matching};
 use model::grammar::{self, Part};
 
 /// Grammars use few bytes, so that rules meet.
@@ -21,8 +21,8 @@ enum Style {
 /// A good grammar with a capture on which it does a lot.
 pub fn with_capture(rng: &mut Rng) -> (Vec<u8>, Vec<u8>) {
     let drawn = liveliest(rng, &[1, 4, 8], |rng| {
-        let bytes = good(rng);
-        let image = building::build(&grammar::read(&bytes).expect("it is made to be good"));
+        let (bytes, matching) = (good(rng), rng.pick(&Matching::BOTH));
+        let image = building::build(&grammar::read(&bytes).expect("it is made to be good"), matching);
         Drawn { image, capture: capture(rng, &bytes), from: bytes }
     });
     (drawn.from, drawn.capture)

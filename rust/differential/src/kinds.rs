@@ -2,13 +2,12 @@
 
 use crate::damage::{damage, damage_rule};
 use crate::findings::Findings;
+use crate::parsing::{few_readings, leads_on, means_so, parses_so};
 use crate::rng::Rng;
 use crate::{bundles, compare, grammars, machines, program, recursion, sides, stops, texts};
-use model::answer::{Judged, Verdict};
-use model::grammar::Part;
-use model::parse::{parse, parse_from, Parsed};
-use model::text::{self, meaning};
-use model::{building, grammar, image};
+use model::answer::Judged;
+use model::building::{self, Matching};
+use model::{grammar, image};
 
 pub type Case = fn(&mut Findings, &mut Rng);
 
@@ -40,12 +39,6 @@ pub const KINDS: &[Kind] = &[
 /// The cases of each of these are looked at together too.
 pub const MACHINES: &str = "machines";
 pub const RECURSION: &str = "recursion";
-
-/// Parsing that takes more calls is not compared: the judge has no such limit, plain recursion has.
-const PARSE_CALLS: usize = 20_000;
-
-/// On captures of up to so many bytes every line of a text is parsed from every place.
-const SHORT: usize = 40;
 
 /// Plain runs that might not end get about so many steps.
 pub const LONG: usize = 10_000;
@@ -95,44 +88,37 @@ fn grammar_case(found: &mut Findings, rng: &mut Rng) {
     grammar_on(found, rng, &bytes, &capture, LONG);
 }
 
-/// One grammar on one capture, in every call; a plain run that might not end gets about so many steps.
+/// One grammar on one capture, in every call and for both matchings; a plain run that might not end gets about so many
+/// steps.
 pub fn grammar_on(found: &mut Findings, rng: &mut Rng, bytes: &[u8], capture: &[u8], long: usize) {
-    let parts = grammar::read(bytes).expect("it is made to be good");
-    let room = building::build(&parts).len() + rng.below(17);
-    let Ok(image) = sides::build(found, rng, bytes, room) else { return };
-    let _ = sides::check(found, &image);
     let passed = recursion::check(found, rng, bytes).is_ok();
-    if let Some(judged) = judge_with_spare_cells(found, rng, &image, capture) {
-        parses_so(found, &parts, bytes, capture, judged);
+    let judged = Matching::BOTH.map(|matching| matched_on(found, rng, bytes, matching, capture, long));
+    for judged in judged.iter().flatten() {
         recursion::ends(found, passed, judged.verdict, &[("grammar", bytes), ("capture", capture)]);
     }
+    if let [Some(whole), Some(leading)] = judged {
+        leads_on(found, bytes, capture, whole, leading);
+    }
+}
+
+fn matched_on(
+    found: &mut Findings,
+    rng: &mut Rng,
+    bytes: &[u8],
+    matching: Matching,
+    capture: &[u8],
+    long: usize,
+) -> Option<Judged> {
+    let parts = grammar::read(bytes).expect("it is made to be good");
+    let room = building::build(&parts, matching).len() + rng.below(17);
+    let image = sides::build(found, rng, bytes, matching, room).ok()?;
+    let _ = sides::check(found, &image);
+    let judged = judge_with_spare_cells(found, rng, &image, capture);
+    if let Some(judged) = judged {
+        parses_so(found, matching, bytes, capture, judged);
+    }
     some_plain_run(found, rng, &image, capture, long);
-}
-
-/// Readings of a grammar's machine are at most 6 m (n + 1) + 2.
-pub fn few_readings(found: &mut Findings, bytes: &[u8], capture: &[u8], judged: Judged) {
-    let bound = 6 * (bytes.len() / 4) * (capture.len() + 1) + 2;
-    let many = (judged.readings > bound).then(|| format!("{} readings, over {bound}", judged.readings));
-    found.note(many, &[("grammar", bytes), ("capture", capture)]);
-}
-
-/// The verdict is what parsing says, and the readings are few.
-pub fn parses_so(found: &mut Findings, parts: &[Part], bytes: &[u8], capture: &[u8], judged: Judged) {
-    few_readings(found, bytes, capture, judged);
-    let Some(parsed) = parse(parts, capture, PARSE_CALLS) else { return };
-    judged_as(found, parsed, capture, judged, ("grammar", bytes));
-}
-
-/// The verdict is the one of what parsing came to.
-fn judged_as(found: &mut Findings, parsed: Parsed, capture: &[u8], judged: Judged, input: (&str, &[u8])) {
-    found.parsed += 1;
-    let verdict = match parsed {
-        Parsed::Rest(place) if place == capture.len() => Verdict::Accepted,
-        Parsed::NoResult => Verdict::Looping,
-        Parsed::Rest(_) | Parsed::Failure => Verdict::Stuck,
-    };
-    let differs = (verdict != judged.verdict).then(|| format!("parsed {parsed:?}, judged {}", judged.verdict));
-    found.note(differs, &[input, ("capture", capture)]);
+    judged
 }
 
 /// A damaged image, in every call. Where it is good after all it is judged.
@@ -163,15 +149,15 @@ fn some_image(rng: &mut Rng) -> Vec<u8> {
     if rng.percent(30) {
         let rules = rng.within(1..=4);
         let bytes = grammars::of_rules(rng, rules);
-        return building::build(&grammar::read(&bytes).expect("it is made to be good"));
+        return building::build(&grammar::read(&bytes).expect("it is made to be good"), rng.pick(&Matching::BOTH));
     }
     machines::small_image(rng)
 }
 
 /// A damaged grammar, and buffers around the length needed.
 fn damaged_grammar(found: &mut Findings, rng: &mut Rng) {
-    let bytes = some_damaged_grammar(rng);
-    let needed = grammar::read(&bytes).map_or(100, |parts| building::build(&parts).len());
+    let (bytes, matching) = (some_damaged_grammar(rng), rng.pick(&Matching::BOTH));
+    let needed = grammar::read(&bytes).map_or(100, |parts| building::build(&parts, matching).len());
     let room = match rng.below(6) {
         0 => rng.below(needed),
         1 => needed - 1,
@@ -179,7 +165,7 @@ fn damaged_grammar(found: &mut Findings, rng: &mut Rng) {
         3 => 0,
         _ => needed + rng.below(20),
     };
-    if let Ok(image) = sides::build(found, rng, &bytes, room) {
+    if let Ok(image) = sides::build(found, rng, &bytes, matching, room) {
         let _ = sides::check(found, &image);
     }
 }
@@ -260,7 +246,8 @@ pub fn text_on(found: &mut Findings, rng: &mut Rng, text: &[u8], capture: &[u8])
     let read = sides::read_grammar(found, &old, text);
     // A refused text needs nothing.
     let parts = read.as_deref().ok().and_then(|bytes| grammar::read(bytes).ok()).unwrap_or_default();
-    let image = if parts.is_empty() { 100 } else { building::build(&parts).len() } + rng.below(17);
+    let needed = if parts.is_empty() { 100 } else { building::build(&parts, Matching::Whole).len() };
+    let image = needed + rng.below(17);
     let cells = 5 * (capture.len() + 2) * (2 * parts.len() + 1);
     let lent = sides::Lent { image, notes: cells + rng.below(9), work: cells + rng.below(9) };
     let built = sides::build_text(found, rng, text, image);
@@ -268,34 +255,17 @@ pub fn text_on(found: &mut Findings, rng: &mut Rng, text: &[u8], capture: &[u8])
     let passed = recursion::check_text(found, rng, text, &read);
     if let (Ok(bytes), Ok(image), Ok(judged)) = (read, built, judged) {
         same_as_bytes(found, rng, text, &bytes, &image);
-        few_readings(found, &bytes, capture, judged);
+        few_readings(found, Matching::Whole, &bytes, capture, judged);
         means_so(found, text, capture, judged, &parts);
         recursion::ends(found, passed, judged.verdict, &[("text", text), ("capture", capture)]);
     }
 }
 
-/// The grammar read passes the call that takes bytes, which gives the same image.
+/// The grammar read passes the call that takes bytes, which gives the same image for the whole capture.
 fn same_as_bytes(found: &mut Findings, rng: &mut Rng, text: &[u8], bytes: &[u8], image: &[u8]) {
-    let built = sides::build(found, rng, bytes, image.len());
+    let built = sides::build(found, rng, bytes, Matching::Whole, image.len());
     let same = built.is_ok_and(|other| other == image);
     found.note(compare::answers("one image from text and from bytes", &true, &same), &[("text", text)]);
-}
-
-/// The verdict is what the text's own equations say; and so is what each line's rule comes to, at every place.
-fn means_so(found: &mut Findings, text: &[u8], capture: &[u8], judged: Judged, parts: &[Part]) {
-    let typed = text::read(text).expect("it was read");
-    let meaning = meaning::of(&typed, capture);
-    judged_as(found, meaning.line(0, 0), capture, judged, ("text", text));
-    if capture.len() > SHORT {
-        return;
-    }
-    for (line, place) in (0..typed.bodies.len()).flat_map(|line| (0..=capture.len()).map(move |place| (line, place))) {
-        let Some(by_rule) = parse_from(parts, capture, (line, place), PARSE_CALLS) else { continue };
-        let means = meaning.line(line, place);
-        let differs =
-            (means != by_rule).then(|| format!("line {line} at {place}: {means:?}, and {by_rule:?} by its rule"));
-        found.note(differs, &[("text", text), ("capture", capture)]);
-    }
 }
 
 /// A text with a byte or a piece of it wrong. Where it is good after all it is judged.

@@ -15,6 +15,7 @@ mod grammars;
 mod kinds;
 mod lively;
 mod machines;
+mod parsing;
 mod program;
 mod recursion;
 mod rng;

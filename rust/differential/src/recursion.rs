@@ -7,6 +7,7 @@ use crate::findings::Findings;
 use crate::rng::Rng;
 use crate::{compare, grammars, sides};
 use model::answer::{Refusal, Verdict};
+use model::building::Matching;
 use model::recursion::TextRefusal;
 
 const MAX_RULES: usize = 31;
@@ -103,10 +104,11 @@ pub fn ends(found: &mut Findings, passed: bool, verdict: Verdict, inputs: &[(&st
     }
 }
 
-/// The verdict of a good grammar on a capture.
+/// The verdict of a good grammar on a capture, for either matching: it loops for both or for none.
 fn verdict(found: &mut Findings, rng: &mut Rng, bytes: &[u8], capture: &[u8]) -> Verdict {
-    let room = built(bytes).len();
-    let image = sides::build(found, rng, bytes, room).expect("there is room enough");
+    let matching = rng.pick(&Matching::BOTH);
+    let room = built(bytes, matching).len();
+    let image = sides::build(found, rng, bytes, matching, room).expect("there is room enough");
     judge(found, rng, &image, capture).expect("there are cells enough").verdict
 }
 

@@ -3,7 +3,8 @@
 use crate::grammars;
 use crate::lively::{liveliest, Drawn};
 use crate::rng::Rng;
-use model::{building, grammar, text};
+use model::building::{self, Matching};
+use model::{grammar, text};
 
 /// Names that begin alike, or like the reserved words.
 const NAMES: &[&str] =
@@ -29,7 +30,8 @@ struct Writer<'a> {
 pub fn with_capture(rng: &mut Rng) -> (Vec<u8>, Vec<u8>) {
     let drawn = liveliest(rng, &[1, 4, 8], |rng| {
         let (from, bytes) = readable(rng);
-        let image = building::build(&grammar::read(&bytes).expect("a text that is read gives a good grammar"));
+        let parts = grammar::read(&bytes).expect("a text that is read gives a good grammar");
+        let image = building::build(&parts, Matching::Whole);
         Drawn { image, capture: grammars::capture(rng, &bytes), from }
     });
     (drawn.from, drawn.capture)

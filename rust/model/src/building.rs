@@ -16,6 +16,20 @@ const RIGHT: u8 = 1;
 
 const NONE: [u8; 4] = [0, 0, 0, 0];
 
+/// How much of the capture has to be matched. Where nothing is said, only its beginning.
+#[derive(Clone, Copy, Debug, Default, PartialEq, Eq)]
+pub enum Matching {
+    /// All of it: bytes that are left over leave the run without a rule.
+    Whole,
+    /// Its beginning: bytes that are left over are passed, one by one, up to the right marker.
+    #[default]
+    Leading,
+}
+
+impl Matching {
+    pub const BOTH: [Matching; 2] = [Matching::Whole, Matching::Leading];
+}
+
 fn first(rule: usize) -> u8 {
     1 + 2 * rule as u8
 }
@@ -57,7 +71,7 @@ fn borders(grammar: &[Part]) -> BTreeSet<usize> {
 }
 
 /// The image of a good grammar.
-pub fn build(grammar: &[Part]) -> Vec<u8> {
+pub fn build(grammar: &[Part], matching: Matching) -> Vec<u8> {
     let borders = borders(grammar);
     let mut class_map = [0; 256];
     for (byte, class) in class_map.iter_mut().enumerate() {
@@ -68,7 +82,10 @@ pub fn build(grammar: &[Part]) -> Vec<u8> {
     for state in START..STATES {
         for class in 0..classes + 2 {
             for symbol in 0..symbols {
-                rules.push(rule(grammar, &class_map, classes, state, class, symbol));
+                rules.push(match symbol {
+                    0 => lowest_column(matching, classes, state, class),
+                    _ => rule(grammar, &class_map, state, class, symbol),
+                });
             }
         }
     }
@@ -76,15 +93,20 @@ pub fn build(grammar: &[Part]) -> Vec<u8> {
     write(&Parts { states, classes: classes as u8, symbols: symbols as u8, finals, class_map, rules })
 }
 
-fn rule(grammar: &[Part], class_map: &[u8; 256], classes: usize, state: u8, class: usize, symbol: usize) -> [u8; 4] {
+/// What is done with the first entry on top: before rule 0 is called, and after it has come back.
+fn lowest_column(matching: Matching, classes: usize, state: u8, class: usize) -> [u8; 4] {
     let (left_marker, right_marker) = (classes, classes + 1);
-    if symbol == 0 {
-        return match state {
-            START if class == left_marker => push(0, RIGHT, WORK),
-            OK if class == right_marker => pop(DONE),
-            _ => NONE,
-        };
+    match (state, matching) {
+        (START, _) if class == left_marker => push(0, RIGHT, WORK),
+        (OK, _) if class == right_marker => pop(DONE),
+        // A byte that rule 0 left over.
+        (OK, Matching::Leading) if class != left_marker => change(0, RIGHT, OK),
+        _ => NONE,
     }
+}
+
+/// What is done with a symbol of a grammar's rule on top.
+fn rule(grammar: &[Part], class_map: &[u8; 256], state: u8, class: usize, symbol: usize) -> [u8; 4] {
     let index = (symbol - 1) / 2;
     if symbol % 2 == 1 {
         // A marker is no byte's class, so it is in no range.

@@ -1,6 +1,7 @@
 //! The library's calls as the document tells them: refusals first, then the answer and what the lent cells hold.
 
 use crate::answer::{refuse, Judged, Ran, Refusal};
+use crate::building::Matching;
 use crate::machine::Machine;
 use crate::walk::Outcome;
 use crate::{building, grammar, image, plain, text};
@@ -68,14 +69,14 @@ pub fn plain_run(
 }
 
 /// Building, refusals 11 to 13.
-pub fn build(bytes: &[u8], buffer: &mut [u8]) -> Result<usize, Refusal> {
-    let image = image_for(bytes, buffer.len())?;
+pub fn build(bytes: &[u8], matching: Matching, buffer: &mut [u8]) -> Result<usize, Refusal> {
+    let image = image_for(bytes, matching, buffer.len())?;
     Ok(put(&image, buffer))
 }
 
 /// The image of a grammar, where a buffer of so many bytes holds it.
-fn image_for(bytes: &[u8], room: usize) -> Result<Vec<u8>, Refusal> {
-    let image = building::build(&grammar::read(bytes)?);
+fn image_for(bytes: &[u8], matching: Matching, room: usize) -> Result<Vec<u8>, Refusal> {
+    let image = building::build(&grammar::read(bytes)?, matching);
     if room < image.len() {
         return refuse(13, image.len());
     }
@@ -93,9 +94,14 @@ pub fn read_grammar(text: &[u8], buffer: &mut [u8]) -> Result<usize, Refusal> {
     Ok(put(&text::read(text)?.grammar(), buffer))
 }
 
+/// The image of a text, which always has to match the whole capture.
+fn image_of_text(text: &[u8], room: usize) -> Result<Vec<u8>, Refusal> {
+    image_for(&text::read(text)?.grammar(), Matching::Whole, room)
+}
+
 /// Building from a text, refusals 15 to 17 and 13.
 pub fn build_text(text: &[u8], buffer: &mut [u8]) -> Result<usize, Refusal> {
-    let image = image_for(&text::read(text)?.grammar(), buffer.len())?;
+    let image = image_of_text(text, buffer.len())?;
     Ok(put(&image, buffer))
 }
 
@@ -108,7 +114,7 @@ pub fn judge_text_checks(
     notes: usize,
     work: usize,
 ) -> Result<Vec<u8>, Refusal> {
-    let image = image_for(&text::read(text)?.grammar(), buffer.len())?;
+    let image = image_of_text(text, buffer.len())?;
     judge_checks(image::read(&image), capture_length, notes, work)?;
     put(&image, buffer);
     Ok(image)

@@ -1,5 +1,7 @@
 //! Parsing itself, by direct recursion: what a grammar's machine should come to, without any machine.
 
+use crate::answer::Verdict;
+use crate::building::Matching;
 use crate::grammar::Part;
 
 #[derive(Clone, Copy, Debug, PartialEq, Eq)]
@@ -9,6 +11,28 @@ pub enum Parsed {
     Failure,
     /// The recursion has no end.
     NoResult,
+}
+
+impl Parsed {
+    /// What judging by the grammar's image should say, of a capture of so many bytes.
+    pub fn verdict(self, matching: Matching, length: usize) -> Verdict {
+        match (self, matching) {
+            (Parsed::NoResult, _) => Verdict::Looping,
+            (Parsed::Failure, _) => Verdict::Stuck,
+            (Parsed::Rest(_), Matching::Leading) => Verdict::Accepted,
+            (Parsed::Rest(rest), Matching::Whole) if rest == length => Verdict::Accepted,
+            (Parsed::Rest(_), Matching::Whole) => Verdict::Stuck,
+        }
+    }
+}
+
+/// The most readings of the image of so many rules on so many bytes. Bytes that are left over are read once each.
+pub fn most_readings(matching: Matching, rules: usize, length: usize) -> usize {
+    let parsing = 6 * rules * (length + 1) + 2;
+    match matching {
+        Matching::Whole => parsing,
+        Matching::Leading => parsing + length,
+    }
 }
 
 struct Parser<'a> {

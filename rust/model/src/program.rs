@@ -1,6 +1,7 @@
 //! The programs `judge` and `read_text`: what they print for what they read.
 
 use crate::answer::{refuse, Judged, Refusal};
+use crate::building::Matching;
 use crate::calls::{build, judge_answer, judge_checks};
 use crate::image::{number_at, read};
 use crate::{summary, text};
@@ -23,7 +24,7 @@ pub fn output(input: &[u8]) -> String {
 fn answer(input: &[u8]) -> Result<Judged, Refusal> {
     let (grammar, capture) = parts(input)?;
     let mut buffer = vec![0; IMAGE_BUFFER];
-    let length = build(grammar, &mut buffer)?;
+    let length = build(grammar, Matching::Whole, &mut buffer)?;
     let (mut notes, mut work) = (vec![0; CELLS], vec![0; CELLS]);
     let (machine, _) = judge_checks(read(&buffer[..length]), capture.len(), CELLS, CELLS)?;
     Ok(judge_answer(&summary::judge(machine, capture), &mut notes, &mut work))

@@ -14,11 +14,11 @@ use std::slice;
 /// all; they end as after judging the captures one after another.
 ///
 /// ```
-/// use sejimakpu::{Reason, Refusal, Verdict};
+/// use sejimakpu::{Matching, Reason, Refusal, Verdict};
 ///
-/// // One byte from '0' to '9'.
+/// // One byte from '0' to '9', and nothing after it.
 /// let mut image = [0; sejimakpu::MAX_BUILT_IMAGE];
-/// let length = sejimakpu::build(&[5, b'0', b'9', 0], &mut image)?;
+/// let length = sejimakpu::build(&[5, b'0', b'9', 0], Matching::Whole, &mut image)?;
 /// let image = &image[..length];
 ///
 /// let bundle = sejimakpu::pack_bundle(&["7", "x", "a line too long for the cells"]).unwrap();

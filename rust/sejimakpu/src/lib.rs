@@ -6,12 +6,12 @@
 //! made for.
 //!
 //! ```
-//! use sejimakpu::{Reason, Verdict};
+//! use sejimakpu::{Matching, Reason, Verdict};
 //!
-//! // A grammar of one rule: one byte from '0' to '9'.
+//! // A grammar of one rule: one byte from '0' to '9', and nothing after it.
 //! let grammar = [5, b'0', b'9', 0];
 //! let mut image = [0; sejimakpu::MAX_BUILT_IMAGE];
-//! let length = sejimakpu::build(&grammar, &mut image)?;
+//! let length = sejimakpu::build(&grammar, Matching::Whole, &mut image)?;
 //! let image = &image[..length];
 //!
 //! let capture = b"7";
@@ -37,12 +37,14 @@ mod error;
 mod ffi;
 #[cfg(test)]
 mod header;
+mod matching;
 mod pack;
 mod recursion;
 
 pub use answers::{Config, Judged, Ran, Verdict};
 pub use bundle::{judge_bundle, Lines, Report, Totals};
 pub use error::{Error, Reason, Refusal};
+pub use matching::Matching;
 pub use pack::{pack_bundle, PackError};
 pub use recursion::{check_recursion, check_text_recursion};
 
@@ -101,7 +103,7 @@ pub fn judge(image: &[u8], capture: &[u8], notes: &mut [u32], work: &mut [u32]) 
 /// ```
 /// // The empty grammar on the empty capture takes three steps and two cells.
 /// let mut image = [0; 468];
-/// sejimakpu::build(&[4, 0, 0, 0], &mut image)?;
+/// sejimakpu::build(&[4, 0, 0, 0], sejimakpu::Matching::Whole, &mut image)?;
 /// let run = |budget, cells| sejimakpu::plain_run(&image, &[], budget, &mut vec![7; cells]);
 /// assert_eq!(run(3, 2)?.verdict, sejimakpu::Verdict::Accepted);
 /// assert_eq!(run(2, 2)?.verdict, sejimakpu::Verdict::Spent);
@@ -119,13 +121,32 @@ pub fn plain_run(image: &[u8], capture: &[u8], budget: u32, stack: &mut [u32]) -
 
 /// Builds the image of a grammar at the start of a buffer, and answers its length. Later bytes stay.
 ///
+/// The matching says how much of a capture has to match. [`Matching::Leading`] is for a console that goes on after the
+/// match, as with a banner that the firmware prints after the dump; [`Matching::Whole`] is for wherever something after the
+/// match would be a fault. With none chosen, by `Matching::default()`, it is leading. There was no choice before, and every
+/// image was for the whole capture: an older caller who meant that must say `Matching::Whole` now.
+///
+/// ```
+/// use sejimakpu::Matching;
+///
+/// // The two images of the empty grammar differ in one rule, by which a byte after the match is passed.
+/// let (mut whole, mut leading, mut default) = ([0; 468], [0; 468], [0; 468]);
+/// assert_eq!(sejimakpu::build(&[4, 0, 0, 0], Matching::Whole, &mut whole)?, 468);
+/// assert_eq!(sejimakpu::build(&[4, 0, 0, 0], Matching::Leading, &mut leading)?, 468);
+/// assert_eq!(sejimakpu::build(&[4, 0, 0, 0], Matching::default(), &mut default)?, 468);
+/// assert_eq!((&whole[360..364], &leading[360..364]), (&[0, 0, 0, 0][..], &[1, 2, 0, 1][..]));
+/// assert_eq!((&whole[..360], &whole[364..]), (&leading[..360], &leading[364..]));
+/// assert_eq!(default, leading);
+/// # Ok::<(), sejimakpu::Error>(())
+/// ```
+///
 /// A range with its low byte above its high byte is legal and always fails:
 ///
 /// ```
 /// // Such a range, or else one byte 'a': as 'a' alone, with the three classes of 'a'.
 /// let grammar = [2, 1, 2, 0, 5, 0xff, 0x00, 0, 5, b'a', b'a', 0];
 /// let mut image = [0; sejimakpu::MAX_BUILT_IMAGE];
-/// let length = sejimakpu::build(&grammar, &mut image)?;
+/// let length = sejimakpu::build(&grammar, sejimakpu::Matching::Whole, &mut image)?;
 /// assert_eq!(length, 288 + 4 * 5 * (3 + 2) * 7);
 /// # Ok::<(), sejimakpu::Error>(())
 /// ```
@@ -133,8 +154,8 @@ pub fn plain_run(image: &[u8], capture: &[u8], budget: u32, stack: &mut [u32]) -
 /// # Errors
 ///
 /// [`Error::Refused`]: refusals 11 to 13; a refused call changes no byte.
-pub fn build(grammar: &[u8], image: &mut [u8]) -> Result<usize, Error> {
-    ffi::answer_of(|answer| ffi::build(grammar, image, answer))?.count()
+pub fn build(grammar: &[u8], matching: Matching, image: &mut [u8]) -> Result<usize, Error> {
+    ffi::answer_of(|answer| ffi::build(grammar, matching, image, answer))?.count()
 }
 
 /// Reads a typed grammar: puts its bytes at the start of the array, and answers their count, for [`build`]. Later bytes
@@ -165,7 +186,8 @@ pub fn read_grammar(text: &[u8], grammar: &mut [u8; MAX_GRAMMAR]) -> Result<usiz
 
 /// Builds the image of a typed grammar at the start of a buffer, and answers its length. Later bytes stay.
 ///
-/// It is the image that [`build`] makes of the bytes that [`read_grammar`] gives.
+/// It is for the whole capture: the image that [`build`] makes by [`Matching::Whole`] of the bytes that [`read_grammar`]
+/// gives. For a leading match, give these bytes to [`build`].
 ///
 /// ```
 /// let mut image = [0; sejimakpu::MAX_BUILT_IMAGE];
@@ -185,6 +207,7 @@ pub fn build_text(text: &[u8], image: &mut [u8]) -> Result<usize, Error> {
 
 /// Judges a capture by a typed grammar: builds its image at the start of a buffer, and judges by that as [`judge`] does.
 ///
+/// It is for the whole capture, as the image of [`build_text`] is: accepted only where parsing consumes all of it.
 /// Afterwards the buffer holds the image, and notes and work cells are as [`judge`] leaves them. A grammar of m rules
 /// needs 5 · (n + 2) · (2 · m + 1) of each for n bytes; with too few the refusal says how many.
 ///

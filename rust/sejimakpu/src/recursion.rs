@@ -2,7 +2,8 @@
 use crate::{ffi, Error};
 
 /// Checks that no rule of a grammar leads back to itself before anything is consumed. Where it passes, judging by the
-/// grammar never says [`Looping`](crate::Verdict::Looping), whatever the capture.
+/// grammar never says [`Looping`](crate::Verdict::Looping), whatever the capture and whichever the
+/// [`Matching`](crate::Matching).
 ///
 /// A rule may match nothing if it is empty, a not, a sequence of two such, or a choice with one such, and only then. A
 /// sequence leads to its first part, and to its second where the first may match nothing; a choice leads to both parts, a

@@ -1,6 +1,6 @@
 //! The twin's building: the image of a grammar, the rules by the table of states and symbols.
 use super::check::{refused, MAP, RULES};
-use sejimakpu::{Error, Reason, MAX_GRAMMAR};
+use sejimakpu::{Error, Matching, Reason, MAX_GRAMMAR};
 
 const STATES: u32 = 5;
 const START: u32 = 0;
@@ -145,23 +145,23 @@ impl<'a> Plan<'a> {
         STATES as usize * (capture_length + 2) * self.symbols as usize
     }
 
-    pub fn write(&self, image: &mut [u8]) {
+    pub fn write(&self, matching: Matching, image: &mut [u8]) {
         write_header(&mut image[..MAP], self.size, self.classes as u8, self.symbols as u8);
         image[MAP..RULES].copy_from_slice(&self.map);
-        write_rules(self.rules, &self.map, self.classes, self.symbols, &mut image[RULES..]);
+        write_rules(self.rules, &self.map, self.classes, self.symbols, matching, &mut image[RULES..]);
     }
 }
 
 /// Builds the image of a grammar at the start of a buffer, as [`sejimakpu::build`] does.
-pub fn build(grammar: &[u8], image: &mut [u8]) -> Result<usize, Error> {
-    build_checked(check_grammar(grammar)?, image)
+pub fn build(grammar: &[u8], matching: Matching, image: &mut [u8]) -> Result<usize, Error> {
+    build_checked(check_grammar(grammar)?, matching, image)
 }
 
 /// Builds the image of rules that have passed their check.
-pub(super) fn build_checked(rules: &[[u8; 4]], image: &mut [u8]) -> Result<usize, Error> {
+pub(super) fn build_checked(rules: &[[u8; 4]], matching: Matching, image: &mut [u8]) -> Result<usize, Error> {
     let plan = Plan::of(rules);
     let image = plan.room(image)?;
-    plan.write(image);
+    plan.write(matching, image);
     Ok(image.len())
 }
 
@@ -173,13 +173,13 @@ fn write_header(header: &mut [u8], size: u32, classes: u8, symbols: u8) {
     }
 }
 
-fn write_rules(rules: &[[u8; 4]], map: &[u8; 256], classes: u32, symbols: u32, image: &mut [u8]) {
+fn write_rules(rules: &[[u8; 4]], map: &[u8; 256], classes: u32, symbols: u32, matching: Matching, image: &mut [u8]) {
     // One row for a state and a class: symbol 0, then two symbols for each grammar rule.
     let mut rows = image.as_chunks_mut::<4>().0.chunks_exact_mut(symbols as usize);
     for state in 0..STATES {
         for class in 0..classes + 2 {
             let row = rows.next().expect("there is a row for each state and class");
-            row[0] = start_rule(state, class, classes);
+            row[0] = start_rule(matching, state, class, classes);
             if state == START || state == u32::from(DONE) {
                 row[1..].fill(NO_RULE);
                 continue;
@@ -204,12 +204,14 @@ fn is_inside(expression: Expression, map: &[u8; 256], class: u32) -> bool {
     }
 }
 
-/// Symbol 0: the run starts on the left marker, and is done on the right one.
-fn start_rule(state: u32, class: u32, classes: u32) -> [u8; 4] {
+/// Symbol 0: the run starts on the left marker, and is done on the right one. A leading match passes the bytes up to that.
+fn start_rule(matching: Matching, state: u32, class: u32, classes: u32) -> [u8; 4] {
     if state == START && class == classes {
         [2, WORK, 1, 1]
     } else if state == u32::from(OK) && class == classes + 1 {
         pop(DONE, STAYS)
+    } else if state == u32::from(OK) && class < classes && matching == Matching::Leading {
+        [1, OK, 0, 1]
     } else {
         NO_RULE
     }

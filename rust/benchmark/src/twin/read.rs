@@ -5,7 +5,7 @@ use super::check::refused;
 use super::faults::{check_text, line_of};
 use super::judge::judge_checked;
 use super::tokens::{Reader, Token};
-use sejimakpu::{Error, Judged, Reason, MAX_CAPTURE, MAX_GRAMMAR};
+use sejimakpu::{Error, Judged, Matching, Reason, MAX_CAPTURE, MAX_GRAMMAR};
 
 pub(super) const MAX_RULES: usize = MAX_GRAMMAR / 4;
 
@@ -221,7 +221,7 @@ pub fn read_grammar(text: &[u8], grammar: &mut [u8; MAX_GRAMMAR]) -> Result<usiz
 
 /// Builds the image of a text, as [`sejimakpu::build_text`] does. What was read needs no check.
 pub fn build_text(text: &[u8], image: &mut [u8]) -> Result<usize, Error> {
-    build_checked(read(text)?.rules(), image)
+    build_checked(read(text)?.rules(), Matching::Whole, image)
 }
 
 /// Judges by a text, as [`sejimakpu::judge_text`] does: all checks come before the image is written, each once.
@@ -241,6 +241,6 @@ pub fn judge_text(
     let cells = plan.cells(capture.len());
     let notes = notes.get_mut(..cells).ok_or_else(|| refused(Reason::NotesShort, cells))?;
     let work = work.get_mut(..cells).ok_or_else(|| refused(Reason::WorkShort, cells))?;
-    plan.write(image);
+    plan.write(Matching::Whole, image);
     Ok(judge_checked(image, capture, notes, work))
 }

@@ -1,7 +1,7 @@
 //! (b) Going back: each level parses the rest of the capture twice, so a parser without memory doubles its work a byte.
 use super::rule::{choice, range, sequence, EMPTY};
 use super::{image_of, Workload};
-use sejimakpu::Verdict;
+use sejimakpu::{Matching, Verdict};
 
 pub const NAME: &str = "backtracking";
 
@@ -21,7 +21,7 @@ pub fn workload() -> Workload {
     Workload {
         name: NAME,
         about: "exponential without memory, by a grammar of 8 rules",
-        image: image_of(&GRAMMAR),
+        image: image_of(&GRAMMAR, Matching::Whole),
         verdict: Verdict::Accepted,
         capture,
         wrong_byte: b'#',

@@ -1,7 +1,7 @@
 //! (a) Lines of words: what a console capture looks like, parsed without going back.
 use super::rule::{choice, range, sequence, EMPTY};
 use super::{image_of, Workload};
-use sejimakpu::Verdict;
+use sejimakpu::{Matching, Verdict};
 
 /// Lines of words of letters, one space between two words, a line feed after each line.
 pub const GRAMMAR: [[u8; 4]; 12] = [
@@ -23,7 +23,7 @@ pub fn workload() -> Workload {
     Workload {
         name: "lines",
         about: "lines of words, by a grammar of 12 rules",
-        image: image_of(&GRAMMAR),
+        image: image_of(&GRAMMAR, Matching::Whole),
         verdict: Verdict::Accepted,
         capture,
         wrong_byte: b'#',
@@ -31,7 +31,7 @@ pub fn workload() -> Workload {
 }
 
 /// Words of 1 to 9 letters, 9 words a line, by a fixed sequence of numbers.
-fn capture(n: usize) -> Vec<u8> {
+pub(super) fn capture(n: usize) -> Vec<u8> {
     let mut bytes = Vec::with_capacity(n + 10);
     let mut number: u32 = 1;
     for word in 1.. {

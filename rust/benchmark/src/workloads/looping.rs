@@ -1,7 +1,7 @@
 //! (c) Looping: all bytes are passed, one level of the stack a byte, and then a rule calls itself for ever.
 use super::rule::{choice, range, sequence};
 use super::{image_of, Workload};
-use sejimakpu::Verdict;
+use sejimakpu::{Matching, Verdict};
 
 /// s = letter s / for ever. The loop comes on the deepest level, so all levels are open when it is found.
 pub const GRAMMAR: [[u8; 4]; 4] = [
@@ -15,7 +15,7 @@ pub fn workload() -> Workload {
     Workload {
         name: "looping",
         about: "passes all bytes, then calls itself for ever, by a grammar of 4 rules",
-        image: image_of(&GRAMMAR),
+        image: image_of(&GRAMMAR, Matching::Whole),
         verdict: Verdict::Looping,
         capture,
         wrong_byte: b'#',

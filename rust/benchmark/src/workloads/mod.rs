@@ -1,5 +1,6 @@
 //! The workloads: an image, and for each length a capture that makes the run go through all of it.
 pub mod backtracking;
+pub mod banner;
 pub mod building;
 pub mod bundles;
 pub mod lines;
@@ -9,7 +10,7 @@ pub mod texts;
 pub mod two_way;
 
 use crate::twin;
-use sejimakpu::{Verdict, MAX_BUILT_IMAGE};
+use sejimakpu::{Matching, Verdict, MAX_BUILT_IMAGE};
 
 /// The lengths of capture that are measured.
 pub const SIZES: [usize; 4] = [1_000, 4_000, 16_000, 65_535];
@@ -32,7 +33,7 @@ impl Workload {
     }
 }
 
-/// All workloads, in the order of the table.
+/// All workloads that have a target, in the order of the table.
 pub fn all() -> [Workload; 4] {
     [lines::workload(), backtracking::workload(), looping::workload(), two_way::workload()]
 }
@@ -59,9 +60,9 @@ pub mod rule {
 }
 
 /// The image of a workload's grammar. The twin builds it: which of the two does is all one, their images are compared.
-fn image_of(grammar: &[[u8; 4]]) -> Vec<u8> {
+fn image_of(grammar: &[[u8; 4]], matching: Matching) -> Vec<u8> {
     let mut image = vec![0; MAX_BUILT_IMAGE];
-    let length = twin::build(grammar.as_flattened(), &mut image).expect("a workload's grammar is right");
+    let length = twin::build(grammar.as_flattened(), matching, &mut image).expect("a workload's grammar is right");
     image.truncate(length);
     image
 }

@@ -8,6 +8,7 @@ use crate::stops::{alike, swapped};
 use crate::{compare, grammars, sides};
 use model::answer::Ran;
 use model::answer::Verdict::{self, *};
+use model::building::Matching;
 use model::image::write;
 
 /// The longest capture.
@@ -65,9 +66,11 @@ fn kinds(edges: &mut Edges) {
     edges.add("no grammar's image has a rule that halts", |found, rng| {
         for rules in 1..=31 {
             let bytes = grammars::of_rules(rng, rules);
-            let image = sides::build(found, rng, &bytes, sejimakpu::MAX_BUILT_IMAGE).unwrap_or_default();
-            let halts = image[288..].chunks(4).any(|rule| rule[0] == 4);
-            found.note(compare::answers("a rule that halts", &false, &halts), &[("grammar", &bytes)]);
+            for matching in Matching::BOTH {
+                let Ok(image) = sides::build(found, rng, &bytes, matching, sejimakpu::MAX_BUILT_IMAGE) else { return };
+                let halts = image[288..].chunks(4).any(|rule| rule[0] == 4);
+                found.note(compare::answers("a rule that halts", &false, &halts), &[("grammar", &bytes)]);
+            }
         }
     });
 }
@@ -259,9 +262,10 @@ fn long_stops(edges: &mut Edges) {
 
 /// The accepting rule of a grammar's machine made to halt: one step less, at the configuration that would have accepted.
 fn doubled(edges: &mut Edges) {
-    for rules in [1, 2, 5, 15, 31] {
-        edges.add(format!("halts after a run of 5 times 2 to the {} steps", rules - 1), move |found, rng| {
-            let mut image = built(&doubling(rules, 1, [4, 0, 0, 0]));
+    for (rules, matching) in for_both(&[1, 2, 5, 15, 31]) {
+        let name = format!("halts after a run of 5 times 2 to the {} steps, {matching:?}", rules - 1);
+        edges.add(name, move |found, rng| {
+            let mut image = built(&doubling(rules, 1, [4, 0, 0, 0]), matching);
             // State 2 on the right marker with symbol 0: of one class and 2 m + 1 symbols.
             let at = 288 + 4 * (2 * 3 + 2) * (2 * rules as usize + 1);
             found.note(compare::cells("the accepting rule", &pop(4), &image[at..at + 4]), &[]);

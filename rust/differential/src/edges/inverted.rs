@@ -6,8 +6,8 @@ use crate::findings::Findings;
 use crate::kinds::grammar_on;
 use crate::rng::Rng;
 use crate::{compare, grammars, program, sides};
-use model::answer::Judged;
 use model::answer::Verdict::{self, *};
+use model::building::Matching;
 
 /// Where an image has its count of classes.
 const CLASSES: usize = 25;
@@ -16,19 +16,21 @@ const CLASSES: usize = 25;
 const RANGES: &[(u8, u8)] =
     &[(255, 0), (255, 254), (255, 1), (254, 0), (1, 0), (2, 0), (2, 1), (128, 127), (b'b', b'a'), (b'z', b'a')];
 
-/// Builds in a buffer of just the length that is told, and the count of classes is this one.
-fn classes(found: &mut Findings, rng: &mut Rng, grammar: &[u8], classes: usize) -> Vec<u8> {
+/// Builds for both matchings in a buffer of just the length that is told, and the count of classes is this one.
+fn classes(found: &mut Findings, rng: &mut Rng, grammar: &[u8], classes: usize) -> [Vec<u8>; 2] {
     let length = 288 + 4 * 5 * (classes + 2) * (2 * (grammar.len() / 4) + 1);
-    let got = sides::build(found, rng, grammar, length - 1);
-    refused(found, "build", got, 13, length);
-    let image = sides::build(found, rng, grammar, length).unwrap_or(vec![0; 288]);
-    let told = (length, classes);
-    let got = (image.len(), image[CLASSES] as usize);
-    found.note(compare::answers("length and classes, as told", &told, &got), &[("grammar", grammar)]);
-    image
+    build_refused(found, rng, grammar, length - 1, 13, length);
+    Matching::BOTH.map(|matching| {
+        let image = sides::build(found, rng, grammar, matching, length).unwrap_or(vec![0; 288]);
+        let told = (length, classes);
+        let got = (image.len(), image[CLASSES] as usize);
+        found.note(compare::answers("length and classes, as told", &told, &got), &[("grammar", grammar)]);
+        image
+    })
 }
 
-/// A grammar on a capture, in every call: verdict, readings and end are these, and the program's line too.
+/// A grammar on a capture, in every call: for the whole capture verdict, readings and end are these, and the program's
+/// line too.
 fn told(
     found: &mut Findings,
     rng: &mut Rng,
@@ -38,15 +40,17 @@ fn told(
     end: (usize, usize, usize),
 ) {
     grammar_on(found, rng, grammar, capture, 1000);
-    expect(found, rng, (&built(grammar), capture), verdict, Some(readings), end);
+    expect(found, rng, (&built(grammar, Matching::Whole), capture), verdict, Some(readings), end);
     let line = format!("{verdict} {readings} {} {} {}\n", end.0, end.1, end.2);
     program::compare_with(found, &model::program::input(grammar, capture), &line);
 }
 
-/// What the library answers for a grammar on a capture.
-fn judged(found: &mut Findings, rng: &mut Rng, grammar: &[u8], capture: &[u8]) -> Option<Judged> {
-    let image = sides::build(found, rng, grammar, 82_188).ok()?;
-    judge(found, rng, &image, capture).ok()
+/// What the library answers for a grammar on a capture, for both matchings.
+fn verdicts(found: &mut Findings, rng: &mut Rng, grammar: &[u8], capture: &[u8]) -> [Option<Verdict>; 2] {
+    Matching::BOTH.map(|matching| {
+        let image = sides::build(found, rng, grammar, matching, 82_188).ok()?;
+        judge(found, rng, &image, capture).ok().map(|judged| judged.verdict)
+    })
 }
 
 pub fn add(edges: &mut Edges) {
@@ -55,12 +59,12 @@ pub fn add(edges: &mut Edges) {
     as_failure(edges);
     edges.add("31 inverted ranges, and 32", |found, rng| {
         let all: Vec<u8> = (0..31).flat_map(|rule| [5, 255 - rule, rule, 0]).collect();
-        let image = classes(found, rng, &all, 1);
-        for byte in 0..=255 {
-            expect(found, rng, (&image, &[byte]), Stuck, Some(3), (3, 1, 0));
+        for image in classes(found, rng, &all, 1) {
+            for byte in 0..=255 {
+                expect(found, rng, (&image, &[byte]), Stuck, Some(3), (3, 1, 0));
+            }
         }
-        let got = sides::build(found, rng, &[&all[..], &[5, 1, 0, 0]].concat(), 90_000);
-        refused(found, "build", got, 11, 128);
+        build_refused(found, rng, &[&all[..], &[5, 1, 0, 0]].concat(), 90_000, 11, 128);
         // One range in order among them, first or last.
         for at in [0, 120] {
             let mut bytes = all.clone();
@@ -74,8 +78,7 @@ pub fn add(edges: &mut Edges) {
             for (wrong, byte) in [(3, 1), (0, 6), (0, 0)] {
                 let right = bytes[at + wrong];
                 bytes[at + wrong] = byte;
-                let got = sides::build(found, rng, &bytes, 90_000);
-                refused(found, "build", got, 12, at);
+                build_refused(found, rng, &bytes, 90_000, 12, at);
                 bytes[at + wrong] = right;
             }
         }
@@ -86,14 +89,17 @@ fn alone(edges: &mut Edges) {
     for &(low, high) in RANGES {
         edges.add(format!("inverted: {low} to {high} alone"), move |found, rng| {
             let grammar = [5, low, high, 0];
-            let image = classes(found, rng, &grammar, 1);
-            // All such grammars have one image.
-            found.note(compare::answers("image", &built(&[5, 1, 0, 0]), &image), &[]);
+            let images = classes(found, rng, &grammar, 1);
+            // All such grammars have one image for each matching.
+            let one = Matching::BOTH.map(|matching| built(&[5, 1, 0, 0], matching));
+            found.note(compare::answers("images", &one, &images), &[]);
             told(found, rng, (&grammar, b""), Stuck, 3, (3, 1, 0));
             for byte in [0, 1, high.saturating_sub(1), high, high + 1, low - 1, low, low.saturating_add(1), 254, 255] {
                 told(found, rng, (&grammar, &[byte]), Stuck, 3, (3, 1, 0));
             }
-            expect_run(found, rng, (&image, &[low]), (1000, 2), (Stuck, 2));
+            for image in images {
+                expect_run(found, rng, (&image, &[low]), (1000, 2), (Stuck, 2));
+            }
         });
     }
     edges.add("inverted: a range of one byte, and one of none", |found, rng| {
@@ -104,9 +110,10 @@ fn alone(edges: &mut Edges) {
         }
     });
     edges.add("inverted: on the longest capture", |found, rng| {
-        let image = built(&[5, 255, 0, 0]);
-        for byte in [0, 255] {
-            expect(found, rng, (&image, &vec![byte; 65_535]), Stuck, Some(3), (3, 1, 0));
+        for image in Matching::BOTH.map(|matching| built(&[5, 255, 0, 0], matching)) {
+            for byte in [0, 255] {
+                expect(found, rng, (&image, &vec![byte; 65_535]), Stuck, Some(3), (3, 1, 0));
+            }
         }
     });
 }
@@ -131,11 +138,12 @@ fn beside_others(edges: &mut Edges) {
             for bytes in
                 [[2, 1, 2, 0, 5, low, high, 0, 5, high, low, 0], [2, 2, 1, 0, 5, low, high, 0, 5, high, low, 0]]
             {
-                let image = classes(found, rng, &bytes, count);
-                for byte in 0..=255 {
-                    let inside = (high..=low).contains(&byte);
-                    let (verdict, end) = if inside { (Accepted, (2, 2, 0)) } else { (Stuck, (3, 1, 0)) };
-                    expect(found, rng, (&image, &[byte]), verdict, None, end);
+                for image in classes(found, rng, &bytes, count) {
+                    for byte in 0..=255 {
+                        let inside = (high..=low).contains(&byte);
+                        let (verdict, end) = if inside { (Accepted, (2, 2, 0)) } else { (Stuck, (3, 1, 0)) };
+                        expect(found, rng, (&image, &[byte]), verdict, None, end);
+                    }
                 }
             }
         });
@@ -170,10 +178,10 @@ fn as_failure(edges: &mut Edges) {
             }
             other.extend([4, 0, 0, 0]);
             let capture = grammars::capture(rng, &bytes);
-            let one = judged(found, rng, &bytes, &capture).map(|judged| judged.verdict);
-            let failure = judged(found, rng, &other, &capture).map(|judged| judged.verdict);
+            let one = verdicts(found, rng, &bytes, &capture);
+            let failure = verdicts(found, rng, &other, &capture);
             found.note(
-                compare::answers("verdict with a failure", &failure, &one),
+                compare::answers("verdicts with a failure", &failure, &one),
                 &[("grammar", &bytes), ("capture", &capture)],
             );
         }

@@ -2,11 +2,12 @@
 
 use super::tools::*;
 use super::Edges;
-use crate::kinds::few_readings;
 use crate::lively::{liveliest, Drawn};
+use crate::parsing::{few_readings, leads_on};
 use crate::rng::Rng;
 use crate::{grammars, machines, sides};
 use model::answer::Verdict::{self, *};
+use model::building::Matching;
 
 /// The longest capture.
 const LONG: usize = 65_535;
@@ -39,12 +40,22 @@ pub fn add(edges: &mut Edges) {
     {
         edges.add(format!("{open} opening and {close} closing"), move |found, rng| {
             let (capture, verdict, end) = nested(open, close);
-            let image = built(NESTED);
-            expect(found, rng, (&image, &capture), verdict, None, end);
-            if let Ok(judged) = judge(found, rng, &image, &capture) {
-                few_readings(found, NESTED, &capture, judged);
+            let judged = Matching::BOTH.map(|matching| {
+                let image = built(NESTED, matching);
+                // It may match nothing, and so never fails.
+                let (verdict, end) = match matching {
+                    Matching::Whole => (verdict, end),
+                    Matching::Leading => (Accepted, (2, capture.len() + 1, 0)),
+                };
+                expect(found, rng, (&image, &capture), verdict, None, end);
+                let _ = sides::plain_run(found, rng, &image, &capture, 1_000_000, 300_000);
+                let judged = judge(found, rng, &image, &capture).ok()?;
+                few_readings(found, matching, NESTED, &capture, judged);
+                Some(judged)
+            });
+            if let [Some(whole), Some(leading)] = judged {
+                leads_on(found, NESTED, &capture, whole, leading);
             }
-            let _ = sides::plain_run(found, rng, &image, &capture, 1_000_000, 300_000);
         });
     }
     for number in 0..16 {
@@ -64,14 +75,15 @@ pub fn add(edges: &mut Edges) {
     for number in 0..8 {
         edges.add(format!("a grammar on the longest capture, {number}"), move |found, _| {
             let rng = &mut Rng::of_case(SEED + 1, number);
+            let matching = Matching::BOTH[number as usize % 2];
             let drawn = liveliest(rng, &[200], |rng| {
                 let bytes = grammars::of_rules(rng, 6);
-                Drawn { image: built(&bytes), capture: of_letters(rng, b"abcd", 200), from: bytes }
+                Drawn { image: built(&bytes, matching), capture: of_letters(rng, b"abcd", 200), from: bytes }
             });
             // The short capture again and again, so that what was found on it is found here.
             let capture: Vec<u8> = drawn.capture.iter().copied().cycle().take(LONG).collect();
             if let Ok(judged) = judge(found, rng, &drawn.image, &capture) {
-                few_readings(found, &drawn.from, &capture, judged);
+                few_readings(found, matching, &drawn.from, &capture, judged);
             }
             let _ = sides::plain_run(found, rng, &drawn.image, &capture, 200_000, 50_000);
         });

@@ -5,6 +5,7 @@ mod bundles;
 mod halted_reports;
 mod halting;
 mod inverted;
+mod leading;
 mod long;
 mod numbers;
 mod program;
@@ -45,6 +46,7 @@ pub fn all() -> Vec<Edge> {
     table::add(&mut edges);
     sizes::add(&mut edges);
     inverted::add(&mut edges);
+    leading::add(&mut edges);
     refusals::add(&mut edges);
     runs::add(&mut edges);
     halting::add(&mut edges);

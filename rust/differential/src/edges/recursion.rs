@@ -7,6 +7,7 @@ use crate::recursion::{check, short_captures, small_case, starting_from};
 use crate::rng::Rng;
 use crate::{compare, sides};
 use model::answer::{Refusal, Verdict};
+use model::building::Matching;
 
 type Rule = [u8; 4];
 
@@ -214,10 +215,11 @@ fn captures(edges: &mut Edges) {
         // What stands first always fails, and so rule 0 never comes again.
         let rules = [sequence(1, 0), not(2), EMPTY];
         told(found, rng, &rules, Some(0));
-        let image = built(rules.as_flattened());
-        for capture in short_captures() {
-            let got = judge(found, rng, &image, &capture).map(|judged| judged.verdict);
-            found.note(compare::answers("verdict, as told", &Ok(Verdict::Stuck), &got), &[("capture", &capture)]);
+        for image in Matching::BOTH.map(|matching| built(rules.as_flattened(), matching)) {
+            for capture in short_captures() {
+                let got = judge(found, rng, &image, &capture).map(|judged| judged.verdict);
+                found.note(compare::answers("verdict, as told", &Ok(Verdict::Stuck), &got), &[("capture", &capture)]);
+            }
         }
     });
     edges.add("recursion: one that rule 0 never comes to loops from there alone", |found, rng| {
@@ -230,9 +232,12 @@ fn captures(edges: &mut Edges) {
             (&from_there, [Verdict::Looping, Verdict::Looping]),
         ] {
             for (capture, verdict) in [&b""[..], b"a"].into_iter().zip(verdicts) {
-                let Ok(image) = sides::build(found, rng, bytes, built(bytes).len()) else { return };
-                let got = judge(found, rng, &image, capture).map(|judged| judged.verdict);
-                found.note(compare::answers("verdict, as told", &Ok(verdict), &got), &[("grammar", bytes)]);
+                for matching in Matching::BOTH {
+                    let room = built(bytes, matching).len();
+                    let Ok(image) = sides::build(found, rng, bytes, matching, room) else { return };
+                    let got = judge(found, rng, &image, capture).map(|judged| judged.verdict);
+                    found.note(compare::answers("verdict, as told", &Ok(verdict), &got), &[("grammar", bytes)]);
+                }
             }
         }
     });

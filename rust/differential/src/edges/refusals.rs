@@ -208,8 +208,7 @@ fn grammars(edges: &mut Edges) {
         for length in [0, 1, 2, 3, 5, 7, 121, 122, 123, 125, 128, 256, 4096] {
             // Bad rules and a short buffer come after.
             for (byte, room) in [(0, 0), (4, 1000), (255, 90_000)] {
-                let got = sides::build(found, rng, &vec![byte; length], room);
-                refused(found, "build", got, 11, length);
+                build_refused(found, rng, &vec![byte; length], room, 11, length);
             }
         }
     });
@@ -242,8 +241,7 @@ fn grammars(edges: &mut Edges) {
                 for room in [0, 5000] {
                     let mut bytes = [4, 0, 0, 0].repeat(3);
                     bytes[at..at + 4].copy_from_slice(&rule);
-                    let got = sides::build(found, rng, &bytes, room);
-                    refused(found, "build", got, 12, at);
+                    build_refused(found, rng, &bytes, room, 12, at);
                 }
             }
         });
@@ -251,19 +249,16 @@ fn grammars(edges: &mut Edges) {
     edges.add("refusal 12: the last of 31 rules, and the first of two", |found, rng| {
         let mut bytes = [4, 0, 0, 0].repeat(31);
         bytes[121] = 1;
-        let got = sides::build(found, rng, &bytes, 5000);
-        refused(found, "build", got, 12, 120);
+        build_refused(found, rng, &bytes, 5000, 12, 120);
         bytes[60] = 7;
-        let got = sides::build(found, rng, &bytes, 5000);
-        refused(found, "build", got, 12, 60);
+        build_refused(found, rng, &bytes, 5000, 12, 60);
     });
     edges.add("refusal 13: buffers around the length needed", |found, rng| {
         for room in [0, 1, 288, 466, 467] {
-            let got = sides::build(found, rng, &[4, 0, 0, 0], room);
-            refused(found, "build", got, 13, 468);
+            build_refused(found, rng, &[4, 0, 0, 0], room, 13, 468);
         }
-        for room in [468, 469, 1000] {
-            let got = sides::build(found, rng, &[4, 0, 0, 0], room).map(|image| image.len());
+        for (room, matching) in for_both(&[468, 469, 1000]) {
+            let got = sides::build(found, rng, &[4, 0, 0, 0], matching, room).map(|image| image.len());
             found.note(crate::compare::answers("build", &Ok(468), &got), &[]);
         }
     });

@@ -8,6 +8,7 @@ use crate::rng::Rng;
 use crate::{compare, sides};
 use model::answer::Verdict::*;
 use model::answer::{Judged, Refusal};
+use model::building::Matching;
 use model::bundle::{write, Line, Report, Totals};
 
 pub fn refusal(number: u32, place: usize) -> Line {
@@ -83,7 +84,8 @@ fn verdicts(edges: &mut Edges) {
         });
     }
     edges.add("report: captures of the document", |found, rng| {
-        // C1 and C2, C3 and C4, C7 and C8: two captures of one grammar each.
+        // C1 and C2, C3 and C4, C7 and C8: two captures of one grammar each, for the whole capture.
+        let built = |bytes: &[u8]| built(bytes, Matching::Whole);
         let line = |verdict, readings, end| Ok(Judged { verdict, readings, end: config(end) });
         let both = |readings| Totals { accepted: 1, stuck: 1, readings, ..Totals::default() };
         let lines = [line(Accepted, 3, (2, 1, 0)), line(Stuck, 3, (2, 1, 0))];
@@ -96,6 +98,17 @@ fn verdicts(edges: &mut Edges) {
         let looping = Totals { looping: 64, readings: 128, ..Totals::default() };
         let lines = [line(Looping, 2, (1, 1, 1)); 64];
         told(found, rng, (&built(&[1, 0, 0, 0]), &of(&[&b""[..]; 64])), (30, 30), &lines, looping);
+    });
+    edges.add("report: captures of the document, for a leading match", |found, rng| {
+        // By one image C1, C2 and a longer capture; by one C3, C4 and a capture that goes on after its match.
+        let line = |verdict, readings, end| Ok(Judged { verdict, readings, end: config(end) });
+        let built = |bytes: &[u8]| built(bytes, Matching::Leading);
+        let lines = [line(Accepted, 3, (2, 1, 0)), line(Accepted, 4, (2, 2, 0)), line(Accepted, 6, (2, 4, 0))];
+        let totals = Totals { accepted: 3, readings: 13, ..Totals::default() };
+        told(found, rng, (&built(&[4, 0, 0, 0]), &of(&[b"", b"a", b"abc"])), (75, 75), &lines, totals);
+        let lines = [line(Accepted, 4, (2, 2, 0)), line(Stuck, 3, (3, 1, 0)), line(Accepted, 6, (2, 4, 0))];
+        let totals = Totals { accepted: 2, stuck: 1, readings: 13, ..Totals::default() };
+        told(found, rng, (&built(&[5, 97, 97, 0]), &of(&[b"a", b"b", b"abc"])), (75, 75), &lines, totals);
     });
 }
 

@@ -2,9 +2,10 @@
 
 use super::tools::*;
 use super::Edges;
-use crate::{kinds, sides};
+use crate::parsing::parses_so;
+use crate::sides;
 use model::answer::Verdict::*;
-use model::grammar;
+use model::building::Matching::{self, *};
 use model::image::write;
 
 /// The longest capture.
@@ -22,32 +23,46 @@ fn exponential(edges: &mut Edges) {
     for rules in 15..=31u8 {
         edges.add(format!("a run of 5 times 2 to the {} steps", rules - 1), move |found, rng| {
             let bytes = doubling(rules, 1, [4, 0, 0, 0]);
-            let image = built(&bytes);
-            expect(found, rng, (&image, b""), Accepted, None, (2, 1, 0));
-            let steps = (5 << (rules - 1)) - 2;
-            let told = if steps > 100_000 { (Spent, 100_000) } else { (Accepted, steps) };
-            expect_run(found, rng, (&image, b""), (100_000, 40), told);
+            for image in Matching::BOTH.map(|matching| built(&bytes, matching)) {
+                expect(found, rng, (&image, b""), Accepted, None, (2, 1, 0));
+                let steps = (5 << (rules - 1)) - 2;
+                let told = if steps > 100_000 { (Spent, 100_000) } else { (Accepted, steps) };
+                expect_run(found, rng, (&image, b""), (100_000, 40), told);
+            }
         });
         edges.add(format!("{rules} rules that fail twice each"), move |found, rng| {
-            let image = built(&doubling(rules, 2, [5, b'a', b'a', 0]));
-            expect(found, rng, (&image, b"b"), Stuck, None, (3, 1, 0));
-            let _ = sides::plain_run(found, rng, &image, b"b", 100_000, 40);
+            let bytes = doubling(rules, 2, [5, b'a', b'a', 0]);
+            for image in Matching::BOTH.map(|matching| built(&bytes, matching)) {
+                expect(found, rng, (&image, b"b"), Stuck, None, (3, 1, 0));
+                let _ = sides::plain_run(found, rng, &image, b"b", 100_000, 40);
+            }
         });
     }
     for (length, verdict, end) in
         [(32_768, Accepted, (2, 32_769, 0)), (32_769, Stuck, (2, 32_769, 0)), (32_767, Stuck, (3, 1, 0))]
     {
         edges.add(format!("doubling that takes 32,768 bytes, on {length}"), move |found, rng| {
-            let image = built(&doubling(16, 1, [5, b'a', b'a', 0]));
-            expect(found, rng, (&image, &vec![b'a'; length]), verdict, None, end);
+            let bytes = doubling(16, 1, [5, b'a', b'a', 0]);
+            expect(found, rng, (&built(&bytes, Whole), &vec![b'a'; length]), verdict, None, end);
+            // A byte too many is left over, which a leading match passes.
+            let (verdict, end) = if length > 32_768 { (Accepted, (2, length + 1, 0)) } else { (verdict, end) };
+            expect(found, rng, (&built(&bytes, Leading), &vec![b'a'; length]), verdict, None, end);
         });
     }
     edges.add("a choice that is tried again from the same place", |found, rng| {
         let bytes = [2, 1, 2, 0, 1, 3, 4, 0, 1, 3, 5, 0, 5, b'a', b'a', 0, 5, b'b', b'b', 0, 5, b'c', b'c', 0];
-        for (capture, verdict) in [(&b"ab"[..], Accepted), (b"ac", Accepted), (b"aa", Stuck), (b"acc", Stuck)] {
-            if let Ok(judged) = judge(found, rng, &built(&bytes), capture) {
+        for (capture, matching, verdict) in [
+            (&b"ab"[..], Whole, Accepted),
+            (b"ac", Whole, Accepted),
+            (b"aa", Whole, Stuck),
+            (b"acc", Whole, Stuck),
+            (b"ac", Leading, Accepted),
+            (b"aa", Leading, Stuck),
+            (b"acc", Leading, Accepted),
+        ] {
+            if let Ok(judged) = judge(found, rng, &built(&bytes, matching), capture) {
                 found.note(crate::compare::answers("verdict", &verdict, &judged.verdict), &[("capture", capture)]);
-                kinds::parses_so(found, &grammar::read(&bytes).unwrap(), &bytes, capture, judged);
+                parses_so(found, matching, &bytes, capture, judged);
             }
         }
     });
@@ -195,10 +210,10 @@ fn growing_loops(edges: &mut Edges) {
             &[2, 1, 0, 0, 5, 98, 98, 0],
             &[1, 1, 0, 0, 3, 2, 0, 0, 5, 98, 98, 0],
         ] {
-            for capture in [&b""[..], b"a", b"aa"] {
-                if let Ok(judged) = judge(found, rng, &built(bytes), capture) {
+            for (capture, matching) in for_both(&[&b""[..], b"a", b"aa"]) {
+                if let Ok(judged) = judge(found, rng, &built(bytes, matching), capture) {
                     found.note(crate::compare::answers("verdict", &Looping, &judged.verdict), &[("grammar", bytes)]);
-                    kinds::parses_so(found, &grammar::read(bytes).unwrap(), bytes, capture, judged);
+                    parses_so(found, matching, bytes, capture, judged);
                 }
             }
         }

@@ -2,10 +2,12 @@
 
 use super::tools::*;
 use super::Edges;
-use crate::kinds::{few_readings, grammar_on};
+use crate::kinds::grammar_on;
+use crate::parsing::few_readings;
 use crate::rng::Rng;
 use crate::{compare, grammars, sides};
 use model::answer::Verdict::*;
+use model::building::Matching::{self, *};
 use model::image::{write, Parts};
 
 pub fn add(edges: &mut Edges) {
@@ -19,8 +21,7 @@ pub fn add(edges: &mut Edges) {
 /// 0, 1, 31 and 32 rules.
 fn rules(edges: &mut Edges) {
     edges.add("0 rules", |found, rng| {
-        let got = sides::build(found, rng, &[], 1000);
-        refused(found, "build", got, 11, 0);
+        build_refused(found, rng, &[], 1000, 11, 0);
     });
     edges.add("1 rule, of each kind", |found, rng| {
         for rule in
@@ -39,8 +40,7 @@ fn rules(edges: &mut Edges) {
         }
     });
     edges.add("32 rules", |found, rng| {
-        let got = sides::build(found, rng, &[4, 0, 0, 0].repeat(32), 90_000);
-        refused(found, "build", got, 11, 128);
+        build_refused(found, rng, &[4, 0, 0, 0].repeat(32), 90_000, 11, 128);
     });
 }
 
@@ -50,34 +50,39 @@ fn captures(edges: &mut Edges) {
     let letters: &[u8] = &[2, 1, 3, 0, 1, 2, 0, 0, 5, b'a', b'z', 0, 4, 0, 0, 0];
     for length in [0, 1, 65_534, 65_535] {
         edges.add(format!("a capture of {length} bytes"), move |found, rng| {
-            let (image, capture) = (built(letters), vec![b'q'; length]);
-            let needed = sides::cells(found, &image, length);
-            found.note(compare::answers("cells", &Ok(5 * (length + 2) * 9), &needed), &[]);
-            expect(found, rng, (&image, &capture), Accepted, None, (2, length + 1, 0));
-            if let Ok(judged) = judge(found, rng, &image, &capture) {
-                few_readings(found, letters, &capture, judged);
+            for matching in Matching::BOTH {
+                let (image, capture) = (built(letters, matching), vec![b'q'; length]);
+                let needed = sides::cells(found, &image, length);
+                found.note(compare::answers("cells", &Ok(5 * (length + 2) * 9), &needed), &[]);
+                expect(found, rng, (&image, &capture), Accepted, None, (2, length + 1, 0));
+                if let Ok(judged) = judge(found, rng, &image, &capture) {
+                    few_readings(found, matching, letters, &capture, judged);
+                }
+                let _ = sides::plain_run(found, rng, &image, &capture, u32::MAX, 200_000);
+                let _ = sides::plain_run(found, rng, &image, &capture, u32::MAX, 1000);
+                let _ = sides::plain_run(found, rng, &image, &capture, 50_000, 200_000);
             }
-            let _ = sides::plain_run(found, rng, &image, &capture, u32::MAX, 200_000);
-            let _ = sides::plain_run(found, rng, &image, &capture, u32::MAX, 1000);
-            let _ = sides::plain_run(found, rng, &image, &capture, 50_000, 200_000);
         });
     }
     edges.add("a capture of 65,535 bytes, its last one wrong", move |found, rng| {
         let mut capture = vec![b'q'; 65_535];
         capture[65_534] = b'.';
-        expect(found, rng, (&built(letters), &capture), Stuck, None, (2, 65_535, 0));
+        expect(found, rng, (&built(letters, Whole), &capture), Stuck, None, (2, 65_535, 0));
+        expect(found, rng, (&built(letters, Leading), &capture), Accepted, None, (2, 65_536, 0));
     });
     edges.add("a capture of 65,535 bytes, 15 rules", |found, rng| {
         let bytes = grammars::of_rules(rng, 15);
         let capture: Vec<u8> = (0..65_535).map(|_| rng.pick(b"abcd")).collect();
-        let image = built(&bytes);
-        if let Ok(judged) = judge(found, rng, &image, &capture) {
-            few_readings(found, &bytes, &capture, judged);
+        for matching in Matching::BOTH {
+            let image = built(&bytes, matching);
+            if let Ok(judged) = judge(found, rng, &image, &capture) {
+                few_readings(found, matching, &bytes, &capture, judged);
+            }
+            let _ = sides::plain_run(found, rng, &image, &capture, 100_000, 10_000);
         }
-        let _ = sides::plain_run(found, rng, &image, &capture, 100_000, 10_000);
     });
     edges.add("a capture of 65,536 bytes", move |found, rng| {
-        let (image, capture) = (built(letters), vec![b'q'; 65_536]);
+        let (image, capture) = (built(letters, Whole), vec![b'q'; 65_536]);
         let got = sides::cells(found, &image, 65_536);
         refused(found, "cells", got, 7, 65_536);
         for cells in [0, 9, 5 * 65_538 * 9] {
@@ -89,8 +94,10 @@ fn captures(edges: &mut Edges) {
     });
     edges.add("lengths far over any capture", move |found, _| {
         for length in [65_537, 1 << 20, 1 << 32, (1 << 32) + 1, usize::MAX - 1, usize::MAX] {
-            let got = sides::cells(found, &built(letters), length);
-            refused(found, "cells", got, 7, length);
+            for matching in Matching::BOTH {
+                let got = sides::cells(found, &built(letters, matching), length);
+                refused(found, "cells", got, 7, length);
+            }
         }
     });
 }
@@ -107,16 +114,17 @@ fn cells(edges: &mut Edges) {
         (30, 30, Some(8)),
     ] {
         edges.add(format!("notes {notes} and work {work} short of N"), move |found, rng| {
-            let image = built(&[4, 0, 0, 0]);
-            let got = sides::judge(found, rng, &image, b"", 30 - notes, 30 - work);
-            match told {
-                Some(number) => refused(found, "judge", got, number, 30),
-                None => found.note(compare::answers("judged", &true, &got.is_ok()), &[]),
+            for image in Matching::BOTH.map(|matching| built(&[4, 0, 0, 0], matching)) {
+                let got = sides::judge(found, rng, &image, b"", 30 - notes, 30 - work);
+                match told {
+                    Some(number) => refused(found, "judge", got, number, 30),
+                    None => found.note(compare::answers("judged", &true, &got.is_ok()), &[]),
+                }
             }
         });
     }
     edges.add("many cells more than N", |found, rng| {
-        let _ = sides::judge(found, rng, &built(&[1, 0, 0, 0]), b"abc", 100_000, 70_000);
+        let _ = sides::judge(found, rng, &built(&[1, 0, 0, 0], Whole), b"abc", 100_000, 70_000);
     });
     edges.add("the largest N there is is needed", |found, rng| {
         let (image, capture) = (largest(rng), vec![0; 65_535]);
@@ -196,12 +204,13 @@ fn images(edges: &mut Edges) {
     // 31 rules with 62 different borders: 63 classes.
     let many: Vec<u8> = (0..31).flat_map(|rule| [5, 2 + 8 * rule, 5 + 8 * rule, 0]).collect();
     edges.add("the longest image of a grammar", move |found, rng| {
-        let image = sides::build(found, rng, &many, 82_188).unwrap_or_default();
-        found.note(compare::answers("image length", &82_188, &image.len()), &[]);
-        let got = sides::build(found, rng, &many, 82_187);
-        refused(found, "build", got, 13, 82_188);
-        for byte in 0..=255 {
-            let _ = judge(found, rng, &image, &[byte]);
+        build_refused(found, rng, &many, 82_187, 13, 82_188);
+        for matching in Matching::BOTH {
+            let image = sides::build(found, rng, &many, matching, 82_188).unwrap_or_default();
+            found.note(compare::answers("image length", &82_188, &image.len()), &[]);
+            for byte in 0..=255 {
+                let _ = judge(found, rng, &image, &[byte]);
+            }
         }
     });
     edges.add("borders at 0, 1, 255 and 256", |found, rng| {

@@ -1,12 +1,13 @@
 //! C1 to C10 of the document, and the numbers told beside them.
 
-use super::tools::{built, expect, expect_run, machine, pop, LEFT_MARKER};
+use super::tools::{built, expect, expect_run, judge, machine, pop, LEFT_MARKER};
 use super::Edges;
-use crate::kinds::parses_so;
+use crate::parsing::{leads_on, parses_so};
 use crate::{compare, program, sides};
 use model::answer::Verdict::{self, *};
-use model::grammar;
+use model::building::Matching::{Leading, Whole};
 
+/// The document's rows are for the whole capture. What is said of a leading match stands in a column of its own.
 struct Row {
     name: &'static str,
     grammar: &'static [u8],
@@ -15,11 +16,31 @@ struct Row {
     readings: usize,
     end: (usize, usize, usize),
     steps: u64,
+    leading: Verdict,
 }
 
 const ROWS: &[Row] = &[
-    Row { name: "C1", grammar: &[4, 0, 0, 0], capture: b"", verdict: Accepted, readings: 3, end: (2, 1, 0), steps: 3 },
-    Row { name: "C2", grammar: &[4, 0, 0, 0], capture: b"a", verdict: Stuck, readings: 3, end: (2, 1, 0), steps: 2 },
+    Row {
+        name: "C1",
+        grammar: &[4, 0, 0, 0],
+        capture: b"",
+        verdict: Accepted,
+        readings: 3,
+        end: (2, 1, 0),
+        steps: 3,
+        leading: Accepted,
+    },
+    // Nothing is matched, and then there is a byte: the one row for which the matching makes a difference.
+    Row {
+        name: "C2",
+        grammar: &[4, 0, 0, 0],
+        capture: b"a",
+        verdict: Stuck,
+        readings: 3,
+        end: (2, 1, 0),
+        steps: 2,
+        leading: Accepted,
+    },
     Row {
         name: "C3",
         grammar: &[5, 97, 97, 0],
@@ -28,8 +49,18 @@ const ROWS: &[Row] = &[
         readings: 4,
         end: (2, 2, 0),
         steps: 4,
+        leading: Accepted,
     },
-    Row { name: "C4", grammar: &[5, 97, 97, 0], capture: b"b", verdict: Stuck, readings: 3, end: (3, 1, 0), steps: 2 },
+    Row {
+        name: "C4",
+        grammar: &[5, 97, 97, 0],
+        capture: b"b",
+        verdict: Stuck,
+        readings: 3,
+        end: (3, 1, 0),
+        steps: 2,
+        leading: Stuck,
+    },
     // No end: a plain run takes whatever it is given.
     Row {
         name: "C5",
@@ -39,6 +70,7 @@ const ROWS: &[Row] = &[
         readings: 2,
         end: (1, 1, 1),
         steps: 1000,
+        leading: Looping,
     },
     Row {
         name: "C6",
@@ -48,6 +80,7 @@ const ROWS: &[Row] = &[
         readings: 11,
         end: (2, 1, 0),
         steps: 18,
+        leading: Accepted,
     },
     Row {
         name: "C7",
@@ -57,6 +90,7 @@ const ROWS: &[Row] = &[
         readings: 5,
         end: (2, 1, 0),
         steps: 5,
+        leading: Accepted,
     },
     Row {
         name: "C8",
@@ -66,6 +100,7 @@ const ROWS: &[Row] = &[
         readings: 6,
         end: (3, 1, 0),
         steps: 5,
+        leading: Stuck,
     },
     Row {
         name: "C9",
@@ -75,19 +110,27 @@ const ROWS: &[Row] = &[
         readings: 8,
         end: (2, 1, 0),
         steps: 8,
+        leading: Accepted,
     },
 ];
 
 pub fn add(edges: &mut Edges) {
     for row in ROWS {
         edges.add(row.name, |found, rng| {
-            let room = built(row.grammar).len() + 5;
-            let Ok(image) = sides::build(found, rng, row.grammar, room) else { return };
+            let room = built(row.grammar, Whole).len() + 5;
+            let Ok(image) = sides::build(found, rng, row.grammar, Whole, room) else { return };
             expect(found, rng, (&image, row.capture), row.verdict, Some(row.readings), row.end);
             let ran = if row.verdict == Looping { Spent } else { row.verdict };
             expect_run(found, rng, (&image, row.capture), (1000, 2000), (ran, row.steps));
-            if let Ok(judged) = super::tools::judge(found, rng, &image, row.capture) {
-                parses_so(found, &grammar::read(row.grammar).unwrap(), row.grammar, row.capture, judged);
+            let judged = judge(found, rng, &image, row.capture);
+            let Ok(image) = sides::build(found, rng, row.grammar, Leading, room) else { return };
+            let leading = judge(found, rng, &image, row.capture);
+            let got = leading.map(|judged| judged.verdict);
+            found.note(compare::answers("leading, as told", &Ok(row.leading), &got), &[("grammar", row.grammar)]);
+            if let (Ok(judged), Ok(leading)) = (judged, leading) {
+                parses_so(found, Whole, row.grammar, row.capture, judged);
+                parses_so(found, Leading, row.grammar, row.capture, leading);
+                leads_on(found, row.grammar, row.capture, judged, leading);
             }
             let end = row.end;
             let line = format!("{} {} {} {} {}\n", row.verdict, row.readings, end.0, end.1, end.2);
@@ -100,7 +143,7 @@ pub fn add(edges: &mut Edges) {
         expect_run(found, rng, (&image, b""), (1, 1), (Ended, 1));
     });
     edges.add("C1: 468 bytes, 30 cells, three plain runs", |found, rng| {
-        let image = sides::build(found, rng, &[4, 0, 0, 0], 468).unwrap_or_default();
+        let image = sides::build(found, rng, &[4, 0, 0, 0], Whole, 468).unwrap_or_default();
         found.note(compare::answers("image length", &468, &image.len()), &[]);
         let cells = sides::cells(found, &image, 0);
         found.note(compare::answers("cells", &Ok(30), &cells), &[]);

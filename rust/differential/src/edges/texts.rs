@@ -10,6 +10,7 @@ use crate::rng::Rng;
 use crate::sides::{self, Lent};
 use crate::{compare, texts};
 use model::answer::Verdict::*;
+use model::building::Matching;
 
 /// Every call that takes a text refuses it so, whatever else is wrong with the call.
 fn text_refused(found: &mut Findings, rng: &mut Rng, text: &[u8], number: u32, place: usize) {
@@ -360,7 +361,7 @@ fn order(edges: &mut Edges) {
             let (text, capture) = texts::with_capture(rng);
             let old = sides::old_grammar(rng);
             let Ok(bytes) = sides::read_grammar(found, &old, &text) else { return };
-            let image = built(&bytes).len();
+            let image = built(&bytes, Matching::Whole).len();
             let cells = 5 * (capture.len() + 2) * (bytes.len() / 2 + 1);
             let mut some = |needed: usize| (needed + 2).saturating_sub(rng.below(5));
             let lent = Lent { image: some(image), notes: some(cells), work: some(cells) };

@@ -5,9 +5,10 @@ use crate::findings::Findings;
 use crate::rng::Rng;
 use crate::sides;
 use model::answer::{Config, Judged, Refusal, Verdict};
+use model::building::{self, Matching};
 use model::bundle::Line;
+use model::grammar;
 use model::image::{write, Parts};
-use model::{building, grammar};
 
 pub const STAY: u8 = 0;
 pub const RIGHT: u8 = 1;
@@ -60,8 +61,8 @@ pub fn machine(states: u8, symbols: u8, finals: u32, rules: &[(usize, usize, usi
 }
 
 /// The image that the model builds of a good grammar.
-pub fn built(bytes: &[u8]) -> Vec<u8> {
-    building::build(&grammar::read(bytes).expect("a good grammar"))
+pub fn built(bytes: &[u8], matching: Matching) -> Vec<u8> {
+    building::build(&grammar::read(bytes).expect("a good grammar"), matching)
 }
 
 /// Judges with one cell more than needed.
@@ -101,6 +102,19 @@ pub fn expect_run(
 pub fn refused<A>(found: &mut Findings, name: &str, got: Result<A, Refusal>, number: u32, place: usize) {
     let told = Some(Refusal { number, place });
     found.note(compare::answers(&format!("{name}, as told"), &told, &got.err()), &[]);
+}
+
+/// Each of these with each matching.
+pub fn for_both<T: Copy>(each: &[T]) -> impl Iterator<Item = (T, Matching)> + '_ {
+    each.iter().flat_map(|&one| Matching::BOTH.map(|matching| (one, matching)))
+}
+
+/// Building is refused so, for both matchings.
+pub fn build_refused(found: &mut Findings, rng: &mut Rng, grammar: &[u8], room: usize, number: u32, place: usize) {
+    for matching in Matching::BOTH {
+        let got = sides::build(found, rng, grammar, matching, room);
+        refused(found, "build", got, number, place);
+    }
 }
 
 /// A grammar in which rule k names rule k + 1 twice, and the last one is this.

@@ -1,6 +1,7 @@
 //! The tests can fail: wrong answers made on purpose are told apart from right ones by the comparing functions.
 
 mod halting;
+mod leading;
 mod recursion;
 
 use crate::compare::{
@@ -10,13 +11,14 @@ use crate::findings::{Findings, Tally};
 use crate::rng::Rng;
 use crate::sides::{old_bundling, put};
 use model::answer::{Config, Judged, Ran, Refusal, Verdict};
+use model::building::{self as model_building, Matching};
 use model::bundle::{self, Report};
-use model::{building as model_building, calls, grammar, image, plain, walk};
+use model::{calls, grammar, image, plain, walk};
 use std::time::Duration;
 
 /// C3, judged with two cells more than needed.
 fn right_judging() -> Judging {
-    let image = model_building::build(&grammar::read(&[5, 0x61, 0x61, 0]).unwrap());
+    let image = model_building::build(&grammar::read(&[5, 0x61, 0x61, 0]).unwrap(), Matching::Whole);
     let outcome = walk::judge(image::read(&image).unwrap(), b"a", 100).unwrap().outcome;
     let (mut notes, mut work) = (vec![7; outcome.notes.len() + 2], vec![9; outcome.notes.len() + 2]);
     let answer = Ok(calls::judge_answer(&outcome, &mut notes, &mut work));
@@ -69,7 +71,7 @@ fn a_wrong_refusal_is_seen() {
 
 #[test]
 fn a_wrong_plain_run_is_seen() {
-    let image = model_building::build(&grammar::read(&[4, 0, 0, 0]).unwrap());
+    let image = model_building::build(&grammar::read(&[4, 0, 0, 0]).unwrap(), Matching::Whole);
     let ran = plain::run(image::read(&image).unwrap(), b"", 2, 2);
     let right = Running { answer: Ok(ran), stack: vec![0; 2] };
     assert_eq!(running(&right, &right.clone()), None);
@@ -108,7 +110,7 @@ fn a_wrong_judging_by_a_text_is_seen() {
 
 /// C3 and C4 in one bundle with a capture for which there are too few cells, judged over old contents.
 fn right_bundling() -> (Report, Bundling) {
-    let image = model_building::build(&grammar::read(&[5, 0x61, 0x61, 0]).unwrap());
+    let image = model_building::build(&grammar::read(&[5, 0x61, 0x61, 0]).unwrap(), Matching::Whole);
     let bundle = bundle::write(3, &[(28, 1), (29, 1), (30, 2)], b"abaa");
     let mut left = old_bundling(&mut Rng::of_case(1, 2), 47, 46);
     let report = bundle::judge(

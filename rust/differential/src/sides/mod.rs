@@ -9,6 +9,7 @@ use crate::compare::{self, Building, Judging, Running, TextJudging};
 use crate::findings::Findings;
 use crate::rng::Rng;
 use model::answer::{Config, Judged, Ran, Refusal, Verdict};
+use model::building::Matching;
 use model::machine::Machine;
 use model::run::{Run, Step};
 use model::{calls, image, summary, walk};
@@ -155,13 +156,23 @@ pub fn run_by_library(image: &[u8], capture: &[u8], budget: u32, mut stack: Vec<
 }
 
 /// Building into a buffer of so many bytes; answers what the library built, if it did.
-pub fn build(found: &mut Findings, rng: &mut Rng, grammar: &[u8], buffer: usize) -> Result<Vec<u8>, Refusal> {
+pub fn build(
+    found: &mut Findings,
+    rng: &mut Rng,
+    grammar: &[u8],
+    matching: Matching,
+    buffer: usize,
+) -> Result<Vec<u8>, Refusal> {
     let mut buffer = rng.bytes(buffer);
     let mut got_buffer = buffer.clone();
-    let answer = sejimakpu::build(grammar, &mut got_buffer).map_err(refusal);
+    let (name, of_library) = match matching {
+        Matching::Whole => ("build whole", sejimakpu::Matching::Whole),
+        Matching::Leading => ("build leading", sejimakpu::Matching::Leading),
+    };
+    let answer = sejimakpu::build(grammar, of_library, &mut got_buffer).map_err(refusal);
     let got = Building { answer, buffer: got_buffer };
-    let answer = calls::build(grammar, &mut buffer);
-    found.note(compare::building("build", &Building { answer, buffer }, &got), &[("grammar", grammar)]);
+    let answer = calls::build(grammar, matching, &mut buffer);
+    found.note(compare::building(name, &Building { answer, buffer }, &got), &[("grammar", grammar)]);
     got.answer.map(|length| got.buffer[..length].to_vec())
 }
 

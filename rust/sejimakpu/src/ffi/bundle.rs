@@ -80,7 +80,7 @@ pub(crate) fn judge_bundle(
 mod tests {
     use super::super::{build, tests::halting};
     use super::*;
-    use crate::{pack_bundle, Reason};
+    use crate::{pack_bundle, Matching, Reason};
     use std::mem::{offset_of, size_of};
 
     /// What stood there before: no field of an answer, of a line or of the totals can be this.
@@ -106,7 +106,7 @@ mod tests {
     /// Judges by the image of the empty grammar, with so many notes and 45 work cells, over old contents.
     fn written(bundle: &[u8], notes: usize) -> Written {
         let mut image = [0; 468];
-        assert_eq!(build(&[4, 0, 0, 0], &mut image, &mut Answer::default()), 0);
+        assert_eq!(build(&[4, 0, 0, 0], Matching::Whole, &mut image, &mut Answer::default()), 0);
         written_by(&image, bundle, notes)
     }
 

@@ -9,7 +9,7 @@ mod recursion;
 #[cfg(test)]
 mod tests;
 
-use crate::{Config, Error, Judged, Reason, Refusal, Verdict, MAX_GRAMMAR};
+use crate::{Config, Error, Judged, Matching, Reason, Refusal, Verdict, MAX_GRAMMAR};
 
 pub(crate) use bundle::{judge_bundle, Line};
 pub(crate) use recursion::{check_recursion, check_text_recursion};
@@ -120,6 +120,13 @@ extern "C" {
         image_length: usize,
         answer: *mut Answer,
     ) -> u32;
+    fn sejimakpu_build_whole_nonnull(
+        grammar: *const u8,
+        grammar_length: usize,
+        image: *mut u8,
+        image_length: usize,
+        answer: *mut Answer,
+    ) -> u32;
     fn sejimakpu_read_grammar_nonnull(
         text: *const u8,
         text_length: usize,
@@ -191,9 +198,14 @@ pub(crate) fn plain_run(image: &[u8], capture: &[u8], budget: u32, stack: &mut [
     }
 }
 
-pub(crate) fn build(grammar: &[u8], image: &mut [u8], answer: &mut Answer) -> u32 {
+pub(crate) fn build(grammar: &[u8], matching: Matching, image: &mut [u8], answer: &mut Answer) -> u32 {
+    // The archive's name without a word for the matching is that of the default.
+    let build = match matching {
+        Matching::Whole => sejimakpu_build_whole_nonnull,
+        Matching::Leading => sejimakpu_build_nonnull,
+    };
     // SAFETY: each pointer goes with its own slice's length; `image` and `answer` are written, each borrowed alone.
-    unsafe { sejimakpu_build_nonnull(grammar.as_ptr(), grammar.len(), image.as_mut_ptr(), image.len(), answer) }
+    unsafe { build(grammar.as_ptr(), grammar.len(), image.as_mut_ptr(), image.len(), answer) }
 }
 
 pub(crate) fn read_grammar(text: &[u8], grammar: &mut [u8; MAX_GRAMMAR], answer: &mut Answer) -> u32 {

@@ -14,10 +14,14 @@ fn told(call: impl FnOnce(&mut Answer) -> u32) -> [u64; 7] {
     [returned.into(), place, verdict, count, state, head, symbol]
 }
 
-/// The image of the empty grammar: C1's.
+/// The image of the empty grammar for the whole capture: C1's.
 fn image() -> [u8; 468] {
+    image_of(Matching::Whole)
+}
+
+fn image_of(matching: Matching) -> [u8; 468] {
     let mut image = [0; 468];
-    assert_eq!(told(|answer| build(&[4, 0, 0, 0], &mut image, answer)), [0, 0, 0, 468, 0, 0, 0]);
+    assert_eq!(told(|answer| build(&[4, 0, 0, 0], matching, &mut image, answer)), [0, 0, 0, 468, 0, 0, 0]);
     image
 }
 
@@ -31,9 +35,26 @@ pub(super) fn halting() -> [u8; 468] {
 
 #[test]
 fn build_writes_every_field() {
-    let mut image = [9; 467];
-    assert_eq!(told(|answer| build(&[4, 0, 0, 0], &mut image, answer)), [13, 468, 0, 0, 0, 0, 0]);
-    assert_eq!(image, [9; 467]);
+    for matching in [Matching::Whole, Matching::Leading] {
+        let mut image = [9; 467];
+        let mut built = |grammar: &[u8]| told(|answer| build(grammar, matching, &mut image, answer));
+        assert_eq!(built(&[4, 0, 0]), [11, 3, 0, 0, 0, 0, 0]);
+        assert_eq!(built(&[4, 0, 0, 0, 4, 0, 0, 1]), [12, 4, 0, 0, 0, 0, 0]);
+        assert_eq!(built(&[4, 0, 0, 0]), [13, 468, 0, 0, 0, 0, 0]);
+        assert_eq!(image, [9; 467]);
+    }
+}
+
+/// C2, stuck where nothing may follow; else its byte is passed in state 2, and the run accepts at the right marker.
+#[test]
+fn each_matching_is_a_call_of_its_own() {
+    let (mut notes, mut work) = ([7; 45], [7; 45]);
+    let mut judged = |matching| {
+        let image = image_of(matching);
+        told(|answer| judge(&image, b"a", &mut notes, &mut work, answer))
+    };
+    assert_eq!(judged(Matching::Whole), [0, 0, 3, 3, 2, 1, 0]);
+    assert_eq!(judged(Matching::Leading), [0, 0, 1, 4, 2, 2, 0]);
 }
 
 #[test]
