@@ -158,8 +158,14 @@ fn write_rules(grammar: &[u8], image: &mut [u8], classes: u32, count: u32, match
             let pair = made_pair(grammar, image, classes, s);
             write_rule(image, i, pair.first);
             write_rule(image, i + 1, pair.second);
-            let t = counting::next(s, columns, symbols);
-            s = counting::next(t, columns, symbols);
+            // a rule's second symbol follows its first in the same row, so nothing is asked for it
+            let symbol = s.symbol + 1;
+            let second = Selector {
+                state: s.state,
+                class: s.class,
+                symbol,
+            };
+            s = counting::next(second, columns, symbols);
             i += 2;
         }
     }

@@ -9,7 +9,7 @@ use Rattle.image.proofs.CountingOn.{selects-first, selects-next, counts-on, sel
 use Rattle.builder.specs.Table.{made}
 use Rattle.builder.specs.Image.{symbols-of, built-rules}
 use Rattle.builder.specs.code.Writing.{rule-of}
-use Rattle.builder.proofs.CodeClasses.{grammar-short, classes-most, count-most, symbols-some}
+use Rattle.builder.proofs.CodeClasses.{grammar-short, classes-most, symbols-most, count-most, symbols-some}
 use Rattle.builder.proofs.CodeRows.{zero-is}
 use Rattle.builder.proofs.CodePairs.{Begins, begins-next, second-there, second-within, next-symbol}
 use Rattle.builder.proofs.CodeRules.{Rules-written, rules-start, rules-next, rules-end, selected, ready-kept, length-is}
@@ -122,24 +122,27 @@ write-rule-requires-3 c κs =
     let later : turn .loop .i + 1 < built-rules gs = second-within gs (turn .loop .s) _ _ _ (turn .loop .inv .1) (start .pre .0 .classes-are) (counted .symbol-count .ensures) more two in
     omega (arith, later, turn .loop .inv .0 .long, c .before .before .before .write-rule2 .kept .0)
 
-next-requires-2 : tie.Need-next-requires-2 Inv-loop μ-loop
-next-requires-2 c κs =
-    let turn = c .before .before .before .before .before .before .before .before .before .before .before .before .before in
-    let start = c .before .before .before .before .before .before .before .before .before .before .before .before .before .before .before .before .before .before in
-    counts-on _ _ _ _ (turn .loop .inv .1)
-    (omega (arith, turn .loop .inv .0 .within, count-most (start .args .grammar .now) (start .pre .0 .good)))
-
-next-requires-3 : tie.Need-next-requires-3 Inv-loop μ-loop
-next-requires-3 c κs =
+add-symbol : tie.Need-add-symbol Inv-loop μ-loop
+add-symbol c =
     let turn = c .before .before .before .before .before .before .before .before .before .before .before .before .before .before in
     let counted = turn .before .before in
     let start = counted .before .before .before in
     let gs = start .args .grammar .now in
-    let more : turn .loop .i < built-rules gs = omega (arith, c .before .before .before .before .before .before .before .before .before .before .before .before .before .loop-test .taken, start .pre .1 .count-is) in
     let odd : turn .loop .s .symbol % 2 ≡ 1 = turn .loop .inv .2 (c .before .before .before .before .before .before .before .before .before .before .before .if1 .left) in
     let two = second-there gs _ _ (counted .symbol-count .ensures) odd (turn .loop .inv .1 .symbol-below) in
+    omega (arith, two, counted .symbol-count .ensures, symbols-most gs (start .pre .0 .good))
+
+next-requires-2 : tie.Need-next-requires-2 Inv-loop μ-loop
+next-requires-2 c κs =
+    let turn = c .before .before .before .before .before .before .before .before .before .before .before .before .before .before in
+    let counted = turn .before .before in
+    let start = counted .before .before .before in
+    let gs = start .args .grammar .now in
+    let odd : turn .loop .s .symbol % 2 ≡ 1 = turn .loop .inv .2 (c .before .before .before .before .before .before .before .before .before .before .before .if1 .left) in
+    let two = second-there gs _ _ (counted .symbol-count .ensures) odd (turn .loop .inv .1 .symbol-below) in
+    let more : turn .loop .i < built-rules gs = omega (arith, c .before .before .before .before .before .before .before .before .before .before .before .before .before .loop-test .taken, start .pre .1 .count-is) in
     let later : turn .loop .i + 1 < built-rules gs = second-within gs (turn .loop .s) _ _ _ (turn .loop .inv .1) (start .pre .0 .classes-are) (counted .symbol-count .ensures) more two in
-    counts-on _ _ _ _ (selects-as (c .next2 .ensures) (selects-next _ _ _ _ (turn .loop .inv .1)))
+    counts-on _ _ _ _ (selects-as (sym (next-symbol (turn .loop .s) _ _ two)) (selects-next _ _ _ _ (turn .loop .inv .1)))
     (omega (arith, later, count-most gs (start .pre .0 .good)))
 
 add-i-2 : tie.Need-add-i-2 Inv-loop μ-loop
@@ -160,31 +163,27 @@ loop-again-2 c =
     let counted = turn .before .before in
     let start = counted .before .before .before in
     let gs = start .args .grammar .now in
-    let more : turn .loop .i < built-rules gs = omega (arith, c .before .before .before .before .before .before .before .before .before .before .before .before .before .before .loop-test .taken, start .pre .1 .count-is) in
     let odd : turn .loop .s .symbol % 2 ≡ 1 = turn .loop .inv .2 (c .before .before .before .before .before .before .before .before .before .before .before .before .if1 .left) in
     let two = second-there gs _ _ (counted .symbol-count .ensures) odd (turn .loop .inv .1 .symbol-below) in
+    let more : turn .loop .i < built-rules gs = omega (arith, c .before .before .before .before .before .before .before .before .before .before .before .before .before .before .loop-test .taken, start .pre .1 .count-is) in
     let later : turn .loop .i + 1 < built-rules gs = second-within gs (turn .loop .s) _ _ _ (turn .loop .inv .1) (start .pre .0 .classes-are) (counted .symbol-count .ensures) more two in
     let here = turn .loop .inv .1 in
-    let next = c .before .next2 .ensures ∙ next-symbol (turn .loop .s) _ _ two in
-    let there = selects-as (c .before .next2 .ensures) (selects-next _ _ _ _ here) in
+    let there = selects-as (sym (next-symbol (turn .loop .s) _ _ two)) (selects-next _ _ _ _ here) in
     let one =
     rules-next _ gs (start .args .image .now) (turn .loop .image) (first .write-rule2 .last .0) (turn .loop .i) _ _ (pair .made-pair .result .first) (turn .loop .inv .0)
     more (start .pre .0 .classes-are) (counted .symbol-count .ensures) (first .write-rule2 .kept .0) (first .write-rule2 .ensures)
     (selected _ _ _ _ _ _ _ here (pair .made-pair .ensures .first _))
     in
-    let placed : rule-of (pair .made-pair .result .second) ≡ made (start .args .matching) gs (c .before .next2 .result .state) (c .before .next2 .result .class) (c .before .next2 .result .symbol) =
-    pair .made-pair .ensures .second (start .args .matching) ∙ ap (λ (s : Selector). made (start .args .matching) gs (s .state) (s .class) (s .symbol)) (sym next)
-    in
     let both =
     rules-next _ gs (start .args .image .now) (first .write-rule2 .last .0) (second .write-rule3 .last .0) (turn .loop .i + 1) _ _ (pair .made-pair .result .second) one
     later (start .pre .0 .classes-are) (counted .symbol-count .ensures) (second .write-rule3 .kept .0) (second .write-rule3 .ensures)
-    (selected _ _ _ _ _ _ _ there placed)
+    (selected _ _ _ _ _ _ _ there (pair .made-pair .ensures .second _))
     in
     let sum : turn .loop .i + 1 + 1 ≡ turn .loop .i + 2 = omega arith in
-    let even : c .before .next2 .result .symbol % 2 ≡ 0 = omega (arith, odd, ap (λ (s : Selector). s .symbol) next) in (
+    let even : (turn .loop .s .symbol + 1) % 2 ≡ 0 = omega (arith, odd) in (
       rw (sym sum) both,
-      rw (sym sum) (selects-as (c .next3 .ensures) (selects-next _ _ _ _ there)),
-      begins-next _ _ _ _ (c .next3 .ensures) even,
+      rw (sym sum) (selects-as (c .next2 .ensures) (selects-next _ _ _ _ there)),
+      begins-next _ _ _ _ (c .next2 .ensures) even,
     )
 
 same-length : tie.Need-same-length Inv-loop μ-loop
@@ -222,8 +221,8 @@ write-rules-spec =
     write-rule-requires-2
     add-write-rule
     write-rule-requires-3
+    add-symbol
     next-requires-2
-    next-requires-3
     add-i-2
     loop-less-2
     loop-again-2
