@@ -15,7 +15,7 @@ use Rattle.image.proofs.Encoded.{header-length}
 use Rattle.builder.specs.declared.Matching.{Matching}
 use Rattle.builder.specs.declared.Matching.the-variants.{Whole, Leading}
 use Rattle.builder.specs.Classes.{class-count}
-use Rattle.builder.specs.Table.{state-start, state-ok, state-count, finals, rule, no-rule, on-byte, row-zero, made}
+use Rattle.builder.specs.Table.{state-ok, state-count, finals, rule, no-rule, on-byte, row-zero, made}
 use Rattle.builder.specs.Image.{Rule-table, symbols-of, built-rules, rules-made, map-made, parts, built}
 use Rattle.builder.specs.WholeBefore.{row-zero-before, made-before, built-before}
 use Rattle.builder.proofs.PartsMade.{map-length, rules-length}

@@ -110,8 +110,8 @@ module _ (how : Matching) (gs cs : List ℕ) (good : grammar-refusal gs .number 
   pub accepts-exact : ((d : Config) × Says (machine (built how gs) cs) Accepted d) ↔ As-parsed how gs cs Accepted
   accepts-exact = let b = built-parses how gs cs good bytes in (λ (d, s). parsed-as how gs cs b Accepted d s, accepted-there gs cs how b)
 
-  pub stuck-exact : ((d : Config) × Says (machine (built how gs) cs) Stuck d) ↔ As-parsed how gs cs Stuck
-  stuck-exact = let b = built-parses how gs cs good bytes in (λ (d, s). parsed-as how gs cs b Stuck d s, stuck-there gs cs how b)
+  pub sticks-exact : ((d : Config) × Says (machine (built how gs) cs) Stuck d) ↔ As-parsed how gs cs Stuck
+  sticks-exact = let b = built-parses how gs cs good bytes in (λ (d, s). parsed-as how gs cs b Stuck d s, stuck-there gs cs how b)
 
 -- looping, exactly where parsing has no result
 pub loops-exact :

@@ -1,6 +1,6 @@
 -- The choice of a match: a capture accepted whole is accepted leading, by the machines and by the calls; and what a C caller is told who builds and then judges. Assumes nothing.
 use mathlib.Core.Path.{_≡_, refl, sym, ap, subst, _∙_}
-use mathlib.Core.List.{List, _++_}
+use mathlib.Core.List.{List}
 use Prim.Native.Nat.{ℕ}
 use native.Mathlib.Decide.{ℕ-discrete}
 use lib.ListN.{length, getD, take, drop}
@@ -8,7 +8,6 @@ use lib.Seq.{take-at}
 use Rattle.codec.specs.Bytes.{Bytes}
 use Rattle.machine.specs.declared.Config.{Config}
 use Rattle.machine.specs.declared.Verdict.the-variants.{Accepted}
-use Rattle.machine.specs.declared.Reply.{Reply}
 use Rattle.machine.specs.Run.{config}
 use Rattle.machine.specs.Verdicts.{Says}
 use Rattle.image.specs.Image.{machine}
@@ -17,7 +16,6 @@ use Rattle.grammar.specs.Grammar.{grammar-refusal}
 use Rattle.builder.specs.declared.Matching.{Matching}
 use Rattle.builder.specs.declared.Matching.the-variants.{Whole, Leading}
 use Rattle.builder.specs.declared.Built.{Built}
-use Rattle.builder.specs.declared.Built.the-variants.{Image}
 use Rattle.builder.specs.Matching.{default-matching}
 use Rattle.builder.specs.Image.{built, built-length}
 use Rattle.builder.specs.Calls.{build-refusal}

@@ -43,7 +43,7 @@ use Rattle.answer.proofs.AnsweringMet.{answering-answer}
 use Rattle.answer.proofs.LineWhole.{line-whole, answer-determined, unread-refused}
 use Rattle.grammar_judge.proofs.Refusing.{refusals-left}
 use Rattle.answer.proofs.Answered.{line-parsed, answer-independent}
-use Rattle.grammar_judge.proofs.TwoCallsHold.{accepts-exact, stuck-exact as grammar-stuck, loops-exact, build-then-judge}
+use Rattle.grammar_judge.proofs.TwoCallsHold.{accepts-exact, sticks-exact, loops-exact, build-then-judge}
 use Rattle.syntax.proofs.FaultsRight.{faults-right}
 use Rattle.syntax.proofs.ReadingExact.{unambiguous, reading-exact}
 use Rattle.syntax_theory.proofs.TypedRight.{typed-right}
@@ -109,7 +109,7 @@ promises =
       built-accepts = accepts-exact Whole;
       built-loops = loops-exact;
       built-goes-on = λ how gs cs good bytes. let b = built-parses how gs cs good bytes in (λ on o p. b .parses-terminates o p on, b .no-parse-goes-on);
-      built-stuck = grammar-stuck Whole;
+      built-stuck = sticks-exact Whole;
       built-not-ended = λ how gs cs good bytes. built-parses how gs cs good bytes .never-ended;
       built-not-halted = λ how gs cs good bytes. built-parses how gs cs good bytes .never-halted;
       inverted-fails = inverted-fails;
@@ -221,7 +221,7 @@ promises =
       halting-images = halting-images;
       default-leading = default-leading;
       leading-accepts = accepts-exact Leading;
-      leading-stuck = grammar-stuck Leading;
+      leading-stuck = sticks-exact Leading;
       whole-then-leading = whole-then-leading;
       judged-whole-leading = judged-whole-leading;
       whole-as-before = whole-as-before;

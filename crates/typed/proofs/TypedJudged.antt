@@ -28,7 +28,7 @@ use Rattle.syntax_theory.proofs.TypedRight.{typed-right}
 use Rattle.grammar_judge.specs.Calls.{Lent, lent-refusal}
 use Rattle.grammar_judge.specs.TwoCalls.{As-parsed, Gets}
 use Rattle.grammar_judge.proofs.Refusing.{parts-fine}
-use Rattle.grammar_judge.proofs.TwoCallsHold.{accepts-exact, stuck-exact, loops-exact, gets, enough-unrefused}
+use Rattle.grammar_judge.proofs.TwoCallsHold.{accepts-exact, sticks-exact, loops-exact, gets, enough-unrefused}
 use Rattle.typed.specs.Calls.{Judge-text-says}
 use Rattle.typed.specs.TypedCalls.{As-typed, Typed-gets, Enough-lent}
 use Rattle.typed.proofs.ReadRight.{Lines-read, lines-read, lines-right, rules-needed}
@@ -74,7 +74,7 @@ module _
         ((c : Config) × Says (machine (built Whole (grammar-of (d ∷ ds))) cs) Stuck c)
         ↔ ((o : Option ℕ) × Means (d ∷ ds) cs (d .body) 0 o × (o ≡ some (length cs) → ⊥))
     typed-stuck =
-        let exact = stuck-exact Whole (grammar-of (d ∷ ds)) cs (right .good) bytes in
+        let exact = sticks-exact Whole (grammar-of (d ∷ ds)) cs (right .good) bytes in
         (λ s. typed-as right cs Stuck (exact .0 s), λ m. exact .1 (parsed-as right cs Stuck m))
 
     pub typed-loops :

@@ -6,9 +6,7 @@ use borrow.Author.Needs.{needs}
 use Rattle.image.specs.declared.Selector.{Selector}
 use Rattle.image.specs.code.Counting.{Selects}
 use Rattle.image.proofs.CountingOn.{selects-first, selects-next, counts-on, selects-as}
-use Rattle.builder.specs.Table.{made}
 use Rattle.builder.specs.Image.{symbols-of, built-rules}
-use Rattle.builder.specs.code.Writing.{rule-of}
 use Rattle.builder.proofs.CodeClasses.{grammar-short, classes-most, symbols-most, count-most, symbols-some}
 use Rattle.builder.proofs.CodeRows.{zero-is}
 use Rattle.builder.proofs.CodePairs.{Begins, begins-next, second-there, second-within, next-symbol}
