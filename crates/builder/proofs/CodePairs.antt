@@ -55,7 +55,7 @@ unfolding symbols-of
 half-there gs a odd h = omega arith
 
 -- THE SECOND SYMBOL is there too, and comes next
-pub second-there : (gs : List ℕ) (g a : ℕ) → g ≡ symbols-of gs → a % 2 ≡ 1 → a < g → a + 1 < g
+second-there : (gs : List ℕ) (g a : ℕ) → g ≡ symbols-of gs → a % 2 ≡ 1 → a < g → a + 1 < g
 unfolding symbols-of
 second-there gs g a e odd h = omega arith
 
@@ -76,7 +76,7 @@ row-room r n g a i e h l =
         let many : n * g ≤ r * g = mul-le-mul (ltb-false r n q) (omega arith) in
         absurd (omega (arith, many))
 
-pub second-within :
+second-within :
     (gs : List ℕ) (s : Selector) (n g i : ℕ) → Selects s (n + 2) g i → n ≡ class-count gs → g ≡ symbols-of gs → i < built-rules gs → s .symbol + 1 < g →
     i + 1 < built-rules gs
 unfolding built-rules
@@ -106,3 +106,16 @@ pub begins-next : (s t : Selector) (k g : ℕ) → t ≡ next-selector s k g →
 begins-next s t k g e even some =
     let is : t .symbol ≡ next-selector s k g .symbol = ap (λ (u : Selector). u .symbol) e in
     ⊎-elim (λ p. omega (arith, is, p)) (λ p. absurd (some (is ∙ p))) (symbol-after s k g)
+
+-- WHERE A TURN BEGINS AT A RULE'S FIRST SYMBOL: that is odd, the second is there, and its index is one of the rules'
+pub record Pair-there (gs : List ℕ) (s : Selector) (g i : ℕ) : Type 0 where
+  pub odd : s .symbol % 2 ≡ 1
+  pub two : s .symbol + 1 < g
+  pub later : i + 1 < built-rules gs
+
+pub pair-there :
+    (gs : List ℕ) (s : Selector) (n g i : ℕ) → Selects s (n + 2) g i → n ≡ class-count gs → g ≡ symbols-of gs → i < built-rules gs → Begins s →
+    (s .symbol ≡ 0 → ⊥) → Pair-there gs s g i
+pair-there gs s n g i w en eg more begins some =
+    let two : s .symbol + 1 < g = second-there gs g (s .symbol) eg (begins some) (w .symbol-below) in
+    record { odd = begins some; two = two; later = second-within gs s n g i w en eg more two }

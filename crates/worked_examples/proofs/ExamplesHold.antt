@@ -21,7 +21,7 @@ use Rattle.builder.specs.declared.Matching.the-variants.{Whole, Leading}
 use Rattle.builder.specs.Classes.{cuts-at, cut-from, cut, class-of, class-count, class-in}
 use Rattle.builder.specs.Table.{rows, by-state, select, on-byte, row-zero, class-inside, rows-at, made}
 use Rattle.builder.specs.Image.{symbols-of, built-rules, rules-made, map-made, built, parts}
-use Rattle.worked_examples.specs.Examples.{Row, Row-holds, Each, nil, cons, table, image-of, source-refusal, row-machine, marker-parts, marker-image, empty-grammar, plain-table, Plain-holds}
+use Rattle.worked_examples.specs.Examples.{Row, Row-holds, Each, nil, cons, second-row, grammar-rows, table, image-of, source-refusal, row-machine, marker-parts, marker-image, empty-grammar, plain-table, Plain-holds}
 use Rattle.worked_examples.specs.HaltingExamples.{telling-image, halting-table, Halts-after, halting-budgets, Rule-refused-so, halting-rules}
 use Rattle.worked_examples.specs.LeadingExamples.{leading-table}
 use Rattle.worked_examples.proofs.ChainEnd.{steps-on}
@@ -38,7 +38,7 @@ computed :
     (map found table ≡ map said table) × (length (built Whole empty-grammar) ≡ 468) × (how-many (machine (built Whole empty-grammar) []) ≡ 30) × Each Plain-holds plain-table
     × (map found (halting-table Halted) ≡ map said (halting-table Halted)) × Each (Halts-after 0) halting-budgets × Each Rule-refused-so (halting-rules 4)
     × (map found (leading-table Leading) ≡ map said (leading-table Leading))
-unfolding table leading-table plain-table telling-image halting-table Halts-after halting-budgets Rule-refused-so halting-rules found said found-by ran-found ran-said chain-last enough all-bytes steps-on image-of source-refusal row-machine marker-parts marker-image
+unfolding second-row grammar-rows table leading-table plain-table telling-image halting-table Halts-after halting-budgets Rule-refused-so halting-rules found said found-by ran-found ran-said chain-last enough all-bytes steps-on image-of source-refusal row-machine marker-parts marker-image
     start step step-on step-by config-of top how-many number-by config-by note-of sizes-of
     machine number-at little-endian pair-bytes header rule-bytes rules-bytes encode states classes symbols rule-offset rule-from rule-at class-under moved action-by action accepting
     or-else refuse-if pair-is directory counts count-wrong map-from move-off rule-bad index-class rules-refusal-from rule-count image-refusal

@@ -29,7 +29,7 @@ use Rattle.grammar_judge.specs.Calls.{Lent, parts-refusal}
 use Rattle.answer.specs.Calls.{judged-line, answer-refusal, Input-says, Answer-says}
 use Rattle.answer.proofs.LineWhole.{line-whole}
 use Rattle.answer.proofs.Answered.{input-judged, input-fine}
-use Rattle.worked_examples.specs.Examples.{Row, row, from-grammar, Row-holds, Each, cons, endless-grammar, table, image-of, row-machine}
+use Rattle.worked_examples.specs.Examples.{Row, row, from-grammar, Row-holds, Each, cons, endless-grammar, table, grammar-rows, image-of, row-machine}
 use Rattle.worked_examples.specs.ProgramLine.{endless-input, endless-line, Program-room}
 use Rattle.worked_examples.proofs.ExamplesHold.{examples-hold}
 
@@ -62,7 +62,7 @@ fifth : {P : Row → Type 0} {a b c d e : Row} {rest : List Row} → Each P (a �
 fifth (cons p (cons q (cons r (cons s (cons found later))))) = found
 
 endless-row : Row-holds (row (from-grammar Whole endless-grammar) [] Looping 2 (config 1 1 1) none)
-unfolding table
+unfolding table grammar-rows
 endless-row = fifth examples-hold
 
 answer-is :

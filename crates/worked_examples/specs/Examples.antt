@@ -1,7 +1,7 @@
 -- The ten worked examples C1 to C10: each with its verdict, readings, end configuration and steps; and what it is for such a row to be true. Assumes nothing: these are definitions.
 use mathlib.Core.Path.{_≡_}
 use mathlib.Core.Bool.{true}
-use mathlib.Core.List.{List, [], _∷_}
+use mathlib.Core.List.{List, [], _∷_, _++_}
 use mathlib.Core.Option.{Option, none, some}
 use Prim.Native.Nat.{ℕ}
 use lib.ListN.{replicate}
@@ -21,7 +21,7 @@ use Rattle.interpreter.specs.declared.Exit.the-variants.{Terminated, Spent, Dee
 use Rattle.interpreter.specs.PlainRun.{Run-end, run-end, run-on, True-end}
 use Rattle.grammar.specs.Grammar.{grammar-refusal}
 use Rattle.builder.specs.declared.Matching.{Matching}
-use Rattle.builder.specs.declared.Matching.the-variants.{Whole}
+use Rattle.builder.specs.declared.Matching.the-variants.{Whole, Leading}
 use Rattle.builder.specs.Table.{rule, no-rule}
 use Rattle.builder.specs.Image.{built}
 
@@ -98,20 +98,28 @@ not-grammar = 3 ∷ 1 ∷ 0 ∷ 0 ∷ 5 ∷ 97 ∷ 97 ∷ 0 ∷ []
 abbrev pub choice-grammar : List ℕ
 choice-grammar = 2 ∷ 1 ∷ 2 ∷ 0 ∷ 5 ∷ 97 ∷ 97 ∷ 0 ∷ 4 ∷ 0 ∷ 0 ∷ 0 ∷ []
 
+-- C2 has a byte left over, which a leading match passes
+unfoldable pub second-row : Matching → Row
+second-row Whole = row (from-grammar Whole empty-grammar) (97 ∷ []) Stuck 3 (config 2 1 0) (some 2)
+second-row Leading = row (from-grammar Leading empty-grammar) (97 ∷ []) Accepted 4 (config 2 2 0) (some 4)
+
+-- C1 to C9 in their order, by the choice of a match: the others' answers are the same by either
+unfoldable pub grammar-rows : Matching → List Row
+grammar-rows how =
+    row (from-grammar how empty-grammar) [] Accepted 3 (config 2 1 0) (some 3)
+    ∷ second-row how
+    ∷ row (from-grammar how byte-grammar) (97 ∷ []) Accepted 4 (config 2 2 0) (some 4)
+    ∷ row (from-grammar how byte-grammar) (98 ∷ []) Stuck 3 (config 3 1 0) (some 2)
+    ∷ row (from-grammar how endless-grammar) [] Looping 2 (config 1 1 1) none
+    ∷ row (from-grammar how sequence-grammar) [] Accepted 11 (config 2 1 0) (some 18)
+    ∷ row (from-grammar how not-grammar) [] Accepted 5 (config 2 1 0) (some 5)
+    ∷ row (from-grammar how not-grammar) (97 ∷ []) Stuck 6 (config 3 1 0) (some 5)
+    ∷ row (from-grammar how choice-grammar) [] Accepted 8 (config 2 1 0) (some 8)
+    ∷ []
+
 -- THE TABLE, C1 to C10 in their order; C1 to C9 match whole
 unfoldable pub table : List Row
-table =
-    row (from-grammar Whole empty-grammar) [] Accepted 3 (config 2 1 0) (some 3)
-    ∷ row (from-grammar Whole empty-grammar) (97 ∷ []) Stuck 3 (config 2 1 0) (some 2)
-    ∷ row (from-grammar Whole byte-grammar) (97 ∷ []) Accepted 4 (config 2 2 0) (some 4)
-    ∷ row (from-grammar Whole byte-grammar) (98 ∷ []) Stuck 3 (config 3 1 0) (some 2)
-    ∷ row (from-grammar Whole endless-grammar) [] Looping 2 (config 1 1 1) none
-    ∷ row (from-grammar Whole sequence-grammar) [] Accepted 11 (config 2 1 0) (some 18)
-    ∷ row (from-grammar Whole not-grammar) [] Accepted 5 (config 2 1 0) (some 5)
-    ∷ row (from-grammar Whole not-grammar) (97 ∷ []) Stuck 6 (config 3 1 0) (some 5)
-    ∷ row (from-grammar Whole choice-grammar) [] Accepted 8 (config 2 1 0) (some 8)
-    ∷ row (from-image popping-image) [] Ended 1 (config 0 0 0) (some 1)
-    ∷ []
+table = grammar-rows Whole ++ (row (from-image popping-image) [] Ended 1 (config 0 0 0) (some 1) ∷ [])
 
 -- THE STEPS OF A RUN that ends: with some budget and cells the plain run takes so many, and they are the step-by-step run's own, a last pop among them
 pub record Takes (M : Machine) (v : Verdict) (steps : ℕ) (end : Config) : Type 0 where

@@ -9,7 +9,7 @@ use Rattle.image.proofs.CountingOn.{selects-first, selects-next, counts-on, sel
 use Rattle.builder.specs.Image.{symbols-of, built-rules}
 use Rattle.builder.proofs.CodeClasses.{grammar-short, classes-most, symbols-most, count-most, symbols-some}
 use Rattle.builder.proofs.CodeRows.{zero-is}
-use Rattle.builder.proofs.CodePairs.{Begins, begins-next, second-there, second-within, next-symbol}
+use Rattle.builder.proofs.CodePairs.{Begins, begins-next, pair-there, next-symbol}
 use Rattle.builder.proofs.CodeRules.{Rules-written, rules-start, rules-next, rules-end, selected, ready-kept, length-is}
 use Rattle.builder.proofs.build.write_rules.Statement.{statement}
 use Rattle.builder.proofs.build.write_rules.Tie as tie
@@ -115,10 +115,8 @@ write-rule-requires-3 c κs =
     let start = counted .before .before .before in
     let gs = start .args .grammar .now in
     let more : turn .loop .i < built-rules gs = omega (arith, c .before .before .before .before .before .before .before .before .before .loop-test .taken, start .pre .1 .count-is) in
-    let odd : turn .loop .s .symbol % 2 ≡ 1 = turn .loop .inv .2 (c .before .before .before .before .before .before .before .if1 .left) in
-    let two = second-there gs _ _ (counted .symbol-count .ensures) odd (turn .loop .inv .1 .symbol-below) in
-    let later : turn .loop .i + 1 < built-rules gs = second-within gs (turn .loop .s) _ _ _ (turn .loop .inv .1) (start .pre .0 .classes-are) (counted .symbol-count .ensures) more two in
-    omega (arith, later, turn .loop .inv .0 .long, c .before .before .before .write-rule2 .kept .0)
+    let there = pair-there gs (turn .loop .s) _ _ _ (turn .loop .inv .1) (start .pre .0 .classes-are) (counted .symbol-count .ensures) more (turn .loop .inv .2) (c .before .before .before .before .before .before .before .if1 .left) in
+    omega (arith, there .later, turn .loop .inv .0 .long, c .before .before .before .write-rule2 .kept .0)
 
 add-symbol : tie.Need-add-symbol Inv-loop μ-loop
 add-symbol c =
@@ -126,9 +124,7 @@ add-symbol c =
     let counted = turn .before .before in
     let start = counted .before .before .before in
     let gs = start .args .grammar .now in
-    let odd : turn .loop .s .symbol % 2 ≡ 1 = turn .loop .inv .2 (c .before .before .before .before .before .before .before .before .before .before .before .if1 .left) in
-    let two = second-there gs _ _ (counted .symbol-count .ensures) odd (turn .loop .inv .1 .symbol-below) in
-    omega (arith, two, counted .symbol-count .ensures, symbols-most gs (start .pre .0 .good))
+    omega (arith, turn .loop .inv .1 .symbol-below, counted .symbol-count .ensures, symbols-most gs (start .pre .0 .good))
 
 next-requires-2 : tie.Need-next-requires-2 Inv-loop μ-loop
 next-requires-2 c κs =
@@ -136,12 +132,10 @@ next-requires-2 c κs =
     let counted = turn .before .before in
     let start = counted .before .before .before in
     let gs = start .args .grammar .now in
-    let odd : turn .loop .s .symbol % 2 ≡ 1 = turn .loop .inv .2 (c .before .before .before .before .before .before .before .before .before .before .before .if1 .left) in
-    let two = second-there gs _ _ (counted .symbol-count .ensures) odd (turn .loop .inv .1 .symbol-below) in
     let more : turn .loop .i < built-rules gs = omega (arith, c .before .before .before .before .before .before .before .before .before .before .before .before .before .loop-test .taken, start .pre .1 .count-is) in
-    let later : turn .loop .i + 1 < built-rules gs = second-within gs (turn .loop .s) _ _ _ (turn .loop .inv .1) (start .pre .0 .classes-are) (counted .symbol-count .ensures) more two in
-    counts-on _ _ _ _ (selects-as (sym (next-symbol (turn .loop .s) _ _ two)) (selects-next _ _ _ _ (turn .loop .inv .1)))
-    (omega (arith, later, count-most gs (start .pre .0 .good)))
+    let there = pair-there gs (turn .loop .s) _ _ _ (turn .loop .inv .1) (start .pre .0 .classes-are) (counted .symbol-count .ensures) more (turn .loop .inv .2) (c .before .before .before .before .before .before .before .before .before .before .before .if1 .left) in
+    counts-on _ _ _ _ (selects-as (sym (next-symbol (turn .loop .s) _ _ (there .two))) (selects-next _ _ _ _ (turn .loop .inv .1)))
+    (omega (arith, there .later, count-most gs (start .pre .0 .good)))
 
 add-i-2 : tie.Need-add-i-2 Inv-loop μ-loop
 add-i-2 c =
@@ -161,12 +155,10 @@ loop-again-2 c =
     let counted = turn .before .before in
     let start = counted .before .before .before in
     let gs = start .args .grammar .now in
-    let odd : turn .loop .s .symbol % 2 ≡ 1 = turn .loop .inv .2 (c .before .before .before .before .before .before .before .before .before .before .before .before .if1 .left) in
-    let two = second-there gs _ _ (counted .symbol-count .ensures) odd (turn .loop .inv .1 .symbol-below) in
     let more : turn .loop .i < built-rules gs = omega (arith, c .before .before .before .before .before .before .before .before .before .before .before .before .before .before .loop-test .taken, start .pre .1 .count-is) in
-    let later : turn .loop .i + 1 < built-rules gs = second-within gs (turn .loop .s) _ _ _ (turn .loop .inv .1) (start .pre .0 .classes-are) (counted .symbol-count .ensures) more two in
+    let there = pair-there gs (turn .loop .s) _ _ _ (turn .loop .inv .1) (start .pre .0 .classes-are) (counted .symbol-count .ensures) more (turn .loop .inv .2) (c .before .before .before .before .before .before .before .before .before .before .before .before .if1 .left) in
     let here = turn .loop .inv .1 in
-    let there = selects-as (sym (next-symbol (turn .loop .s) _ _ two)) (selects-next _ _ _ _ here) in
+    let next = selects-as (sym (next-symbol (turn .loop .s) _ _ (there .two))) (selects-next _ _ _ _ here) in
     let one =
     rules-next _ gs (start .args .image .now) (turn .loop .image) (first .write-rule2 .last .0) (turn .loop .i) _ _ (pair .made-pair .result .first) (turn .loop .inv .0)
     more (start .pre .0 .classes-are) (counted .symbol-count .ensures) (first .write-rule2 .kept .0) (first .write-rule2 .ensures)
@@ -174,13 +166,13 @@ loop-again-2 c =
     in
     let both =
     rules-next _ gs (start .args .image .now) (first .write-rule2 .last .0) (second .write-rule3 .last .0) (turn .loop .i + 1) _ _ (pair .made-pair .result .second) one
-    later (start .pre .0 .classes-are) (counted .symbol-count .ensures) (second .write-rule3 .kept .0) (second .write-rule3 .ensures)
-    (selected _ _ _ _ _ _ _ there (pair .made-pair .ensures .second _))
+    (there .later) (start .pre .0 .classes-are) (counted .symbol-count .ensures) (second .write-rule3 .kept .0) (second .write-rule3 .ensures)
+    (selected _ _ _ _ _ _ _ next (pair .made-pair .ensures .second _))
     in
     let sum : turn .loop .i + 1 + 1 ≡ turn .loop .i + 2 = omega arith in
-    let even : (turn .loop .s .symbol + 1) % 2 ≡ 0 = omega (arith, odd) in (
+    let even : (turn .loop .s .symbol + 1) % 2 ≡ 0 = omega (arith, there .odd) in (
       rw (sym sum) both,
-      rw (sym sum) (selects-as (c .next2 .ensures) (selects-next _ _ _ _ there)),
+      rw (sym sum) (selects-as (c .next2 .ensures) (selects-next _ _ _ _ next)),
       begins-next _ _ _ _ (c .next2 .ensures) even,
     )
 
