@@ -1,9 +1,10 @@
 /*
  * Sejimakpu: judges console captures by two-way pointer pushdown machines. For C99 and C++11.
  *
- * Link libsejimakpu.a (made by `rt staticlib sejimakpu`). Its twelve functions are proved against their contracts in
+ * Link libsejimakpu.a (made by `rt staticlib sejimakpu`). Its thirteen functions are proved against their contracts in
  * crates/sejimakpu: each returns on every input, and what it answers is what the definitions in crates/NAME/specs say.
- * Call them by the inline functions below, which only replace null pointers.
+ * Call them by the inline functions below, which only replace null pointers; sejimakpu_version, which takes no pointer, has
+ * none.
  *
  * What C must keep to, because no function can test it:
  *   - a pointer with a length above 0 points to that many elements, aligned as its type asks;
@@ -24,6 +25,12 @@
 #ifdef __cplusplus
 extern "C" {
 #endif
+
+/* The version that this header belongs to, by its three parts and as the one number that sejimakpu_version gives. */
+#define SEJIMAKPU_VERSION_MAJOR 0
+#define SEJIMAKPU_VERSION_MINOR 1
+#define SEJIMAKPU_VERSION_PATCH 0
+#define SEJIMAKPU_VERSION 1000
 
 /*
  * Verdicts. Only SEJIMAKPU_ACCEPTED passes a unit.
@@ -152,6 +159,12 @@ uint32_t sejimakpu_judge_bundle_nonnull(const uint8_t *image, size_t image_lengt
                                         sejimakpu_answer *answer);
 uint32_t sejimakpu_check_recursion_nonnull(const uint8_t *grammar, size_t grammar_length, sejimakpu_answer *answer);
 uint32_t sejimakpu_check_text_recursion_nonnull(const uint8_t *text, size_t text_length, sejimakpu_answer *answer);
+
+/*
+ * The version of the archive that is linked: 1000000 * major + 1000 * minor + patch. Compare it with SEJIMAKPU_VERSION, the
+ * header's, to see that header and archive belong together. In an acceptance record it names the archive that judged.
+ */
+uint32_t sejimakpu_version(void);
 
 /*
  * For the inline functions: the pointer, or one to an element that nobody reads or writes where the length is 0. A null

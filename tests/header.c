@@ -1,8 +1,9 @@
 /*
  * Tests of the header's inline functions, as C and as C++, but for building, which header_build.c tests, bundles, which
- * header_bundle.c and header_packing.c test, and left recursion, which header_recursion.c tests; and of rules that halt, by
- * hand-made machines. Linked with --wrap for each of the archive's functions, so that every pointer that reaches the archive
- * is seen here. Prints what does not hold, and leaves with status 1 if anything does.
+ * header_bundle.c and header_packing.c test, and left recursion, which header_recursion.c tests; of rules that halt, by
+ * hand-made machines; and of the version. Linked with --wrap for each of the archive's functions that takes a pointer, so
+ * that every pointer that reaches the archive is seen here. Prints what does not hold, and leaves with status 1 if anything
+ * does.
  */
 #include "sejimakpu.h"
 
@@ -295,6 +296,15 @@ static void words(void)
     expect(strcmp(sejimakpu_refusal_meaning(UINT32_MAX), "unknown refusal") == 0, "the last refusal", "has a meaning");
 }
 
+/* Header and archive belong together, and the header's number is made of its three parts. */
+static void version(void)
+{
+    expect(sejimakpu_version() == SEJIMAKPU_VERSION, "the archive's version", "is not the header's");
+    expect(SEJIMAKPU_VERSION ==
+               1000000 * SEJIMAKPU_VERSION_MAJOR + 1000 * SEJIMAKPU_VERSION_MINOR + SEJIMAKPU_VERSION_PATCH,
+           "the header's version", "is not made of its three parts");
+}
+
 /* A hand-made machine of one state, one class and one symbol. Its three rules are that on a byte, which halts, that on the
    left marker, which goes right, and that on the right marker, which is missing. */
 enum { HAND_MADE = 300, ON_BYTE = 288, ON_LEFT = 292, ON_RIGHT = 296, TAPE = 3 };
@@ -448,6 +458,7 @@ int main(void)
     judge_text("judge text, nothing", SEJIMAKPU_TEXT_SYNTAX, NULL, 0, NULL, 0, 0, 0, 0);
     expect(calls == 2 * 33, "the linker", "did not lead every call through this file");
     words();
+    version();
     halting();
     return faults == 0 ? 0 : 1;
 }

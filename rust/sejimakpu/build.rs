@@ -14,4 +14,6 @@ fn main() {
     }
     println!("cargo:rustc-link-search=native={}", folder.display());
     println!("cargo:rustc-link-lib=static=sejimakpu");
+    // for who depends on this crate and names the archive
+    println!("cargo:archive={}", archive.display());
 }

@@ -1,6 +1,7 @@
 // The library for C and Rust: each call on numbers and slices, its answer in six cells. include/sejimakpu.h declares these functions.
 // A slice is never null, not even an empty one: hence the names. The header's inline functions let C pass null with length 0.
 pub mod reply;
+pub mod version;
 
 use builder::Matching;
 use builder::build::build_image;

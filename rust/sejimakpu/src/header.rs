@@ -1,5 +1,6 @@
 //! The C header has the numbers and words of this crate. Tests only.
 use crate::{Reason, Verdict};
+use std::fmt::Display;
 
 const HEADER: &str = include_str!("../../../include/sejimakpu.h");
 
@@ -16,6 +17,12 @@ fn named(name: &str, number: u32, word: &str) {
     for line in [format!("SEJIMAKPU_{name} = {number}"), format!("case SEJIMAKPU_{name}: return \"{word}\";")] {
         assert!(has(&line), "no {line}");
     }
+}
+
+/// A macro has this number.
+pub(crate) fn defines(name: &str, number: impl Display) {
+    let line = format!("#define SEJIMAKPU_{name} {number}");
+    assert!(has(&line), "no {line}");
 }
 
 #[test]
@@ -76,7 +83,6 @@ fn limits() {
         ("MAX_GRAMMAR", crate::MAX_GRAMMAR),
         ("MAX_BUILT_IMAGE", crate::MAX_BUILT_IMAGE),
     ] {
-        let line = format!("#define SEJIMAKPU_{name} {number}");
-        assert!(has(&line), "no {line}");
+        defines(name, number);
     }
 }

@@ -1,9 +1,10 @@
 //! Judges console captures by two-way pointer pushdown machines.
 //!
 //! A thin, safe wrapper of the proved library: each function here but [`pack_bundle`] is one call of it and decides
-//! nothing. What is proved, and what not, is told in the repository's README. Each call gives [`Error::Refused`] where the
-//! input is not as it must be, and [`Error::Mismatch`] where another archive was linked than the one that this crate is
-//! made for.
+//! nothing. [`Grammar`], [`Image`] and [`Workspace`] own what the calls are lent, and [`Notes`] reads what they leave; every
+//! verdict and every refusal is the library's. What is proved, and what not, is told in the repository's README. Each call
+//! but [`version()`], which tells what is linked, gives [`Error::Refused`] where the input is not as it must be, and
+//! [`Error::Mismatch`] where another archive was linked than the one that this crate is made for.
 //!
 //! ```
 //! use sejimakpu::{Matching, Reason, Verdict};
@@ -35,18 +36,28 @@ mod answers;
 mod bundle;
 mod error;
 mod ffi;
+mod grammar;
 #[cfg(test)]
 mod header;
+mod image;
 mod matching;
+mod notes;
 mod pack;
 mod recursion;
+mod version;
+mod workspace;
 
 pub use answers::{Config, Judged, Ran, Verdict};
 pub use bundle::{judge_bundle, Lines, Report, Totals};
 pub use error::{Error, Reason, Refusal};
+pub use grammar::{Grammar, Rule};
+pub use image::Image;
 pub use matching::Matching;
+pub use notes::{Note, Notes};
 pub use pack::{pack_bundle, PackError};
 pub use recursion::{check_recursion, check_text_recursion};
+pub use version::{version, Version};
+pub use workspace::Workspace;
 
 /// The longest capture, in bytes.
 pub const MAX_CAPTURE: usize = 65_535;

@@ -1,5 +1,5 @@
-//! The archive's functions, as `include/sejimakpu.h` declares them. All `unsafe` of the crate is here, in [`bundle`] and in
-//! [`recursion`].
+//! The archive's functions, as `include/sejimakpu.h` declares them. All `unsafe` of the crate is here, in [`bundle`],
+//! [`recursion`] and [`mod@version`].
 //!
 //! What makes each call sound: a slice's pointer is never null, is aligned, and is good for the slice's length, also
 //! where that is 0; what the archive may write is borrowed by `&mut`, so that it overlaps nothing else; and the archive
@@ -8,11 +8,13 @@ mod bundle;
 mod recursion;
 #[cfg(test)]
 mod tests;
+mod version;
 
 use crate::{Config, Error, Judged, Matching, Reason, Refusal, Verdict, MAX_GRAMMAR};
 
 pub(crate) use bundle::{judge_bundle, Line};
 pub(crate) use recursion::{check_recursion, check_text_recursion};
+pub(crate) use version::version;
 
 /// A call's answer, field by field as in C.
 #[repr(C)]

@@ -1,0 +1,125 @@
+//! Judging: captures by machines, by several threads, told in the order given.
+use crate::captures::{self, Found, Source};
+use crate::hint::Hint;
+use crate::machines::{Machine, Trouble};
+use crate::record::{Answer, Capture, Judgement};
+use crate::shown;
+use sejimakpu::{Error, Grammar, Image, Verdict, Workspace, MAX_CAPTURE};
+use std::collections::BTreeMap;
+use std::num::NonZeroUsize;
+use std::sync::atomic::{AtomicUsize, Ordering};
+use std::sync::mpsc;
+use std::thread;
+use std::time::SystemTime;
+
+/// A capture to judge, and by which machines; or a thing that cannot be judged.
+pub struct Task {
+    pub capture: Found,
+    /// The numbers of the machines.
+    pub machines: Vec<usize>,
+    /// What is told in the place of a judgement.
+    pub error: Option<String>,
+}
+
+/// Judges every task, and hands on each capture in the order of the tasks.
+pub fn judge_all(machines: &[Machine], tasks: &[Task], jobs: NonZeroUsize, mut told: impl FnMut(Capture)) {
+    let next = AtomicUsize::new(0);
+    let (sender, receiver) = mpsc::channel();
+    thread::scope(|scope| {
+        for _ in 0..jobs.get().min(tasks.len()) {
+            let (sender, next) = (sender.clone(), &next);
+            scope.spawn(move || {
+                let mut bench = Bench { workspace: Workspace::new(), bytes: Vec::new() };
+                while let Some((number, task)) = take_next(next, tasks) {
+                    if sender.send((number, bench.judge(machines, task))).is_err() {
+                        return;
+                    }
+                }
+            });
+        }
+        drop(sender);
+        // What comes before its turn waits.
+        let (mut waiting, mut turn) = (BTreeMap::new(), 0);
+        for (number, capture) in receiver {
+            waiting.insert(number, capture);
+            while let Some(capture) = waiting.remove(&turn) {
+                told(capture);
+                turn += 1;
+            }
+        }
+    });
+}
+
+fn take_next<'a>(next: &AtomicUsize, tasks: &'a [Task]) -> Option<(usize, &'a Task)> {
+    let number = next.fetch_add(1, Ordering::Relaxed);
+    Some((number, tasks.get(number)?))
+}
+
+/// What one thread keeps from capture to capture.
+struct Bench {
+    workspace: Workspace,
+    bytes: Vec<u8>,
+}
+
+impl Bench {
+    fn judge(&mut self, machines: &[Machine], task: &Task) -> Capture {
+        let mut capture = Capture {
+            file: None,
+            bytes: None,
+            sha256: None,
+            judgements: Vec::new(),
+            error: task.error.clone(),
+            time: SystemTime::now(),
+        };
+        match &task.capture {
+            Ok(source) => {
+                capture.file = Some(shown::name(source.name()));
+                self.judge_source(machines, &task.machines, source, &mut capture);
+            }
+            Err((path, error)) => {
+                capture.file = Some(shown::name(path.as_os_str()));
+                capture.error = Some(error.clone());
+            }
+        }
+        capture
+    }
+
+    fn judge_source(&mut self, machines: &[Machine], by: &[usize], source: &Source, capture: &mut Capture) {
+        let taken = match captures::take(source, &mut self.bytes) {
+            Ok(taken) => taken,
+            Err(error) => {
+                capture.error = Some(format!("cannot be read: {error}"));
+                return;
+            }
+        };
+        (capture.bytes, capture.sha256) = (Some(taken.length), taken.sha256);
+        for &machine in by {
+            let answer = match &machines[machine].image {
+                Err(Trouble::Refused(refusal)) => Answer::Refused(*refusal),
+                Err(Trouble::Error(error)) => Answer::Error(error.clone()),
+                Ok(image) => self.answer(image, machines[machine].grammar.as_ref(), taken.length),
+            };
+            capture.judgements.push(Judgement { machine, answer });
+        }
+    }
+
+    /// What the library says of the bytes that were read, or of a length that it refuses.
+    fn answer(&mut self, image: &Image, grammar: Option<&Grammar>, length: u64) -> Answer {
+        let judged = if length > MAX_CAPTURE as u64 {
+            image.cells(length as usize).map(|_| None)
+        } else {
+            self.workspace.judge(image, &self.bytes).map(Some)
+        };
+        match judged {
+            Ok(Some(judged)) => {
+                let notes = self.workspace.notes().filter(|_| judged.verdict != Verdict::Accepted);
+                let hint = notes.map(|notes| Hint::of(grammar, &self.bytes, &judged, &notes));
+                Answer::Judged { verdict: judged.verdict, readings: judged.readings, end: judged.end, hint }
+            }
+            Err(Error::Refused(refusal)) => Answer::Refused(refusal),
+            // The archive's contract rules both out: another was linked.
+            Ok(None) => Answer::Error("the archive does not refuse a capture that is too long".into()),
+            Err(error) => Answer::Error(error.to_string()),
+        }
+    }
+}

@@ -1,0 +1,58 @@
+//! `sejimakpu`: a command line over the proved library. Every verdict, refusal and place is the library's; the tool finds the
+//! files, lends the cells, and tells what came out.
+mod captures;
+mod cli;
+mod formats;
+mod grammar_command;
+mod hint;
+mod judging;
+mod machines;
+mod output;
+mod plan;
+mod record;
+mod report;
+mod selftest;
+mod session;
+mod shown;
+mod status;
+mod version;
+
+use clap::error::ErrorKind;
+use clap::{CommandFactory, Parser};
+use cli::{Cli, Command, Grammar};
+use session::{complain, Session};
+use status::Status;
+use std::process::ExitCode;
+
+fn main() -> ExitCode {
+    let status = match Cli::parse().command {
+        Command::Judge(given) => judge(&given),
+        Command::Shift(given) => shift(&given),
+        Command::Grammar(Grammar::Check { grammars }) => grammar_command::check(&grammars),
+        Command::Grammar(Grammar::Show { grammar }) => grammar_command::show(&grammar),
+        Command::Selftest => selftest::run(),
+        Command::Completions { shell } => {
+            clap_complete::generate(shell, &mut Cli::command(), "sejimakpu", &mut std::io::stdout());
+            Status::Accepted
+        }
+    };
+    status.into()
+}
+
+fn judge(given: &cli::Judge) -> Status {
+    if given.captures.iter().filter(|name| *name == "-").count() > 1 {
+        let words = "standard input, -, is one capture and can be given once";
+        Cli::command().error(ErrorKind::ArgumentConflict, words).exit();
+    }
+    Session::of(given).run(&given.output)
+}
+
+fn shift(given: &cli::Shift) -> Status {
+    match plan::session(given) {
+        Ok(session) => session.run(&given.output),
+        Err(words) => {
+            complain(&format!("error: {words}"));
+            Status::Failed
+        }
+    }
+}

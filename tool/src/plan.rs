@@ -1,0 +1,150 @@
+//! A shift's plan: which captures are judged by which grammars.
+use crate::captures::{self, Source};
+use crate::cli;
+use crate::judging::Task;
+use crate::machines::Machine;
+use crate::session::Session;
+use globset::{GlobBuilder, GlobSet, GlobSetBuilder};
+use sejimakpu::Matching;
+use serde::Deserialize;
+use std::fs;
+use std::path::{Path, PathBuf};
+
+#[derive(Deserialize)]
+#[serde(deny_unknown_fields)]
+struct Plan {
+    #[serde(default)]
+    row: Vec<Row>,
+}
+
+#[derive(Deserialize)]
+#[serde(deny_unknown_fields)]
+struct Row {
+    captures: Patterns,
+    #[serde(default)]
+    grammars: Vec<PathBuf>,
+    #[serde(default)]
+    images: Vec<PathBuf>,
+    #[serde(default)]
+    matching: RowMatching,
+}
+
+#[derive(Deserialize)]
+#[serde(untagged)]
+enum Patterns {
+    One(String),
+    Several(Vec<String>),
+}
+
+/// Whole where the plan does not say.
+#[derive(Clone, Copy, Default, Deserialize)]
+#[serde(rename_all = "lowercase")]
+enum RowMatching {
+    #[default]
+    Whole,
+    Leading,
+}
+
+impl Patterns {
+    fn each(&self) -> &[String] {
+        match self {
+            Patterns::One(pattern) => std::slice::from_ref(pattern),
+            Patterns::Several(patterns) => patterns,
+        }
+    }
+
+    /// A star does not pass a folder's end, two do.
+    fn set(&self) -> Result<GlobSet, globset::Error> {
+        let mut set = GlobSetBuilder::new();
+        for pattern in self.each() {
+            set.add(GlobBuilder::new(pattern).literal_separator(true).build()?);
+        }
+        set.build()
+    }
+}
+
+/// A row with its patterns ready and its machines loaded.
+struct Ready {
+    set: GlobSet,
+    machines: Vec<usize>,
+}
+
+/// What a plan asks to judge in a folder; words where the plan is not as it must be.
+pub fn session(given: &cli::Shift) -> Result<Session, String> {
+    let shown = |path: &Path| crate::shown::name(path.as_os_str());
+    let text =
+        fs::read_to_string(&given.plan).map_err(|error| format!("{}: cannot be read: {error}", shown(&given.plan)))?;
+    let wrong = |words: String| format!("{}: {words}", shown(&given.plan));
+    let plan: Plan = toml::from_str(&text).map_err(|error| wrong(error.to_string()))?;
+    if plan.row.is_empty() {
+        return Err(wrong("the plan has no row".into()));
+    }
+    if !given.folder.is_dir() {
+        return Err(format!("{}: is no folder", shown(&given.folder)));
+    }
+    let mut session = Session::default();
+    let base = given.plan.parent().unwrap_or(Path::new(""));
+    let mut rows = Vec::new();
+    for (number, row) in (1..).zip(&plan.row) {
+        let set = row.captures.set().map_err(|error| wrong(format!("row {number}: {error}")))?;
+        if row.captures.each().is_empty() || row.grammars.is_empty() && row.images.is_empty() {
+            return Err(wrong(format!("row {number} needs a pattern of captures, and a grammar or an image")));
+        }
+        rows.push(Ready { set, machines: session.load_row(base, row) });
+    }
+    session.add_tasks(&given.folder, &rows);
+    for (number, (row, ready)) in (1..).zip(plan.row.iter().zip(&rows)) {
+        if !session.has_capture_of(&given.folder, ready) {
+            let patterns = row.captures.each().join(", ");
+            session.problems.push(format!("row {number} of the plan finds no capture: {patterns}"));
+        }
+    }
+    Ok(session)
+}
+
+/// A capture's path below the folder, which patterns are matched against.
+fn below<'a>(folder: &Path, source: &'a Source) -> Option<&'a Path> {
+    match source {
+        Source::File(file) => file.strip_prefix(folder).ok(),
+        Source::Input => None,
+    }
+}
+
+impl Ready {
+    fn names(&self, folder: &Path, source: &Source) -> bool {
+        below(folder, source).is_some_and(|path| self.set.is_match(path))
+    }
+}
+
+impl Session {
+    /// The numbers of a row's machines, each loaded once for all rows.
+    fn load_row(&mut self, base: &Path, row: &Row) -> Vec<usize> {
+        let matching = match row.matching {
+            RowMatching::Whole => Matching::Whole,
+            RowMatching::Leading => Matching::Leading,
+        };
+        let grammars = row.grammars.iter().map(|file| Machine::of_grammar(&base.join(file), matching));
+        let images = row.images.iter().map(|file| Machine::of_image(&base.join(file)));
+        grammars.chain(images).map(|machine| self.machine(machine)).collect()
+    }
+
+    /// Every file below the folder, by all rows that name it. One that no row names is told.
+    fn add_tasks(&mut self, folder: &Path, rows: &[Ready]) {
+        for capture in captures::below(folder) {
+            let mut machines: Vec<usize> = Vec::new();
+            let mut error = None;
+            if let Ok(source) = &capture {
+                for row in rows.iter().filter(|row| row.names(folder, source)) {
+                    machines
+                        .extend(row.machines.iter().filter(|machine| !machines.contains(machine)).collect::<Vec<_>>());
+                }
+                error = machines.is_empty().then(|| "no row of the plan names it".to_string());
+            }
+            self.tasks.push(Task { capture, machines, error });
+        }
+    }
+
+    fn has_capture_of(&self, folder: &Path, row: &Ready) -> bool {
+        self.tasks.iter().any(|task| task.capture.as_ref().is_ok_and(|source| row.names(folder, source)))
+    }
+}

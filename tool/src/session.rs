@@ -1,0 +1,211 @@
+//! One call of the tool: captures judged, told as they come, and the record written.
+use crate::captures;
+use crate::cli::{self, Color, Format};
+use crate::formats::{self, text};
+use crate::judging::{self, Task};
+use crate::machines::Machine;
+use crate::output;
+use crate::record::{Capture, Record, Totals};
+use crate::report;
+use crate::status::Status;
+use crate::version::JudgedBy;
+use indicatif::{ProgressBar, ProgressDrawTarget, ProgressStyle};
+use sejimakpu::Matching;
+use std::io::{self, IsTerminal, Write};
+use std::num::NonZeroUsize;
+use std::path::Path;
+use std::thread;
+use std::time::SystemTime;
+
+/// What is to be judged.
+#[derive(Default)]
+pub struct Session {
+    pub machines: Vec<Machine>,
+    pub tasks: Vec<Task>,
+    /// What is wrong and of no capture.
+    pub problems: Vec<String>,
+}
+
+impl Session {
+    /// Every capture that is given, by every grammar and image.
+    pub fn of(given: &cli::Judge) -> Session {
+        let mut session = Session::default();
+        let matching = if given.leading { Matching::Leading } else { Matching::Whole };
+        let grammars = given.grammar.iter().map(|file| Machine::of_grammar(file, matching));
+        let images = given.image.iter().map(|file| Machine::of_image(file));
+        let machines: Vec<usize> = grammars.chain(images).map(|machine| session.machine(machine)).collect();
+        let task = |capture| Task { capture, machines: machines.clone(), error: None };
+        session.tasks = captures::find(&given.captures).into_iter().map(task).collect();
+        session
+    }
+
+    /// The number of a machine among those loaded; the same file for the same matching is one.
+    pub fn machine(&mut self, machine: Machine) -> usize {
+        let same = |other: &Machine| {
+            (&other.file, other.kind, other.matching) == (&machine.file, machine.kind, machine.matching)
+        };
+        self.machines.iter().position(same).unwrap_or_else(|| {
+            self.machines.push(machine);
+            self.machines.len() - 1
+        })
+    }
+
+    /// Judges, tells and writes all of it.
+    pub fn run(self, output: &cli::Output) -> Status {
+        let started = SystemTime::now();
+        let format = output.format.or_else(|| formats::of_ending(output.out.as_deref()?)).unwrap_or(Format::Text);
+        let as_text = !output.quiet && (output.out.is_some() || format == Format::Text);
+        let mut teller = Teller::new(output, as_text, self.tasks.len());
+        for machine in &self.machines {
+            teller.machine(machine);
+        }
+        let machines: Vec<_> = self.machines.iter().map(Machine::record).collect();
+        let (mut totals, mut captures, mut status) = (Totals::default(), Vec::new(), Status::Accepted);
+        judging::judge_all(&self.machines, &self.tasks, jobs(output), |capture| {
+            status = status.max(capture.outcome().into());
+            totals.add(&capture);
+            teller.capture(&capture, &machines);
+            captures.push(capture);
+        });
+        for problem in self.problems {
+            let capture = unfound(problem);
+            status = Status::Failed;
+            totals.add(&capture);
+            teller.capture(&capture, &machines);
+            captures.push(capture);
+        }
+        teller.totals(&totals);
+        let judged_by = JudgedBy::this();
+        let record = Record { machines, captures, totals, started, finished: SystemTime::now(), judged_by };
+        status.max(teller.status).max(write_record(&record, format, output, status))
+    }
+}
+
+/// In the place of a capture that was not found.
+fn unfound(problem: String) -> Capture {
+    let error = Some(problem);
+    Capture { file: None, bytes: None, sha256: None, judgements: Vec::new(), error, time: SystemTime::now() }
+}
+
+fn jobs(output: &cli::Output) -> NonZeroUsize {
+    output.jobs.or_else(|| thread::available_parallelism().ok()).unwrap_or(NonZeroUsize::MIN)
+}
+
+/// Writes the record and the page to where they were asked for. The page is written in any case.
+fn write_record(record: &Record, format: Format, output: &cli::Output, status: Status) -> Status {
+    let written = match &output.out {
+        Some(file) => told(file, output::write_file(file, |out| formats::write(format, record, status, out))),
+        // The text was told as it came.
+        None if format == Format::Text => Status::Accepted,
+        None => {
+            let mut out = io::BufWriter::new(io::stdout().lock());
+            let result = formats::write(format, record, status, &mut out).and_then(|()| out.flush());
+            told(Path::new("standard output"), result)
+        }
+    };
+    let page = output
+        .report
+        .as_ref()
+        .map_or(Status::Accepted, |file| told(file, output::write_file(file, |out| report::write(record, out))));
+    written.max(page)
+}
+
+/// Says what could not be written.
+fn told(file: &Path, result: io::Result<()>) -> Status {
+    match result {
+        Ok(()) => Status::Accepted,
+        Err(error) => {
+            complain(&format!("error: {}: cannot be written: {error}", crate::shown::name(file.as_os_str())));
+            Status::Failed
+        }
+    }
+}
+
+/// A line on standard error. Where that cannot be written nothing else changes.
+pub fn complain(line: &str) {
+    let _ = writeln!(io::stderr(), "{line}");
+}
+
+/// Tells what comes, for a person: lines on standard output, hints and progress on standard error.
+struct Teller {
+    as_text: bool,
+    hints: bool,
+    lines: text::Style,
+    remarks: text::Style,
+    progress: ProgressBar,
+    /// What telling itself came to.
+    status: Status,
+}
+
+impl Teller {
+    fn new(output: &cli::Output, as_text: bool, tasks: usize) -> Teller {
+        let style = |terminal| text::Style { coloured: coloured(output.color, terminal) };
+        let progress = if output.quiet || !io::stderr().is_terminal() { ProgressBar::hidden() } else { bar(tasks) };
+        Teller {
+            as_text,
+            hints: !output.quiet,
+            lines: style(io::stdout().is_terminal()),
+            remarks: style(io::stderr().is_terminal()),
+            progress,
+            status: Status::Accepted,
+        }
+    }
+
+    /// What is wrong with a grammar, and a warning where a capture may loop by it.
+    fn machine(&mut self, machine: &Machine) {
+        let wrong = machine.complaint().map(|complaint| text::complaint("error:", &complaint, self.remarks));
+        let warning = machine.warning().filter(|_| self.hints);
+        let warning = warning.map(|complaint| text::complaint("warning:", &complaint, self.remarks));
+        self.remark(&wrong.or(warning).unwrap_or_default());
+    }
+
+    fn capture(&mut self, capture: &Capture, machines: &[crate::record::Machine]) {
+        let line = self.as_text.then(|| text::line(capture, machines, self.lines));
+        line.iter().for_each(|line| self.line(line));
+        if self.hints || !capture.outcome().is_judged() {
+            self.remark(&text::hints(capture, machines, self.remarks));
+        }
+        self.progress.inc(1);
+    }
+
+    fn totals(&mut self, totals: &Totals) {
+        self.progress.finish_and_clear();
+        if self.as_text {
+            self.line(&text::totals(totals));
+        }
+    }
+
+    /// A line on standard output. The first failure is told, and makes the status 2; judging goes on.
+    fn line(&mut self, line: &str) {
+        let written = self.progress.suspend(|| writeln!(io::stdout(), "{line}"));
+        if let (Err(error), Status::Accepted) = (written, self.status) {
+            self.status = Status::Failed;
+            complain(&format!("error: standard output: cannot be written: {error}"));
+        }
+    }
+
+    fn remark(&self, lines: &[String]) {
+        if !lines.is_empty() {
+            self.progress.suspend(|| complain(&lines.join("\n")));
+        }
+    }
+}
+
+/// A bar with count and rate.
+fn bar(tasks: usize) -> ProgressBar {
+    let bar = ProgressBar::with_draw_target(Some(tasks as u64), ProgressDrawTarget::stderr());
+    let style = ProgressStyle::with_template("{wide_bar} {pos}/{len} captures, {per_sec}, {eta} left");
+    bar.set_style(style.unwrap_or_else(|_| ProgressStyle::default_bar()));
+    bar
+}
+
+/// The usual conventions: never with NO_COLOR, always with CLICOLOR_FORCE, else on a terminal.
+fn coloured(color: Color, terminal: bool) -> bool {
+    let set = |name| std::env::var_os(name).is_some_and(|value| !value.is_empty());
+    match color {
+        Color::Always => true,
+        Color::Never => false,
+        Color::Auto if set("NO_COLOR") => false,
+        Color::Auto => terminal && std::env::var_os("TERM").is_none_or(|term| term != "dumb") || set("CLICOLOR_FORCE"),
+    }
+}
