@@ -3,7 +3,7 @@ use sejimakpu::MAX_CAPTURE;
 use sha2::{Digest, Sha256};
 use std::collections::BTreeSet;
 use std::ffi::{OsStr, OsString};
-use std::fs::{self, File};
+use std::fs::{self, DirEntry, File, FileType, Metadata};
 use std::io::{self, Read};
 use std::path::{Path, PathBuf};
 
@@ -54,9 +54,8 @@ pub fn below(folder: &Path) -> Vec<Found> {
 }
 
 fn walk(folder: &Path, above: &mut BTreeSet<PathBuf>, found: &mut Vec<Found>) {
-    let entries = || -> io::Result<(PathBuf, Vec<PathBuf>)> {
-        let entries = fs::read_dir(folder)?.map(|entry| Ok(entry?.path())).collect::<io::Result<_>>()?;
-        Ok((fs::canonicalize(folder)?, entries))
+    let entries = || -> io::Result<(PathBuf, Vec<DirEntry>)> {
+        Ok((fs::canonicalize(folder)?, fs::read_dir(folder)?.collect::<io::Result<_>>()?))
     };
     let (real, mut entries) = match entries() {
         Ok(both) => both,
@@ -66,9 +65,10 @@ fn walk(folder: &Path, above: &mut BTreeSet<PathBuf>, found: &mut Vec<Found>) {
     if !above.insert(real.clone()) {
         return found.push(Err((folder.into(), "a link leads back to a folder above it".into())));
     }
-    entries.sort();
-    for path in entries {
-        match fs::metadata(&path) {
+    entries.sort_by_cached_key(DirEntry::file_name);
+    for entry in entries {
+        let path = entry.path();
+        match kind(&entry) {
             Ok(what) if what.is_dir() => walk(&path, above, found),
             Ok(what) if what.is_file() => found.push(Ok(Source::File(path))),
             // Of a pipe or a device nobody knows whether it ends; who means one names it.
@@ -79,6 +79,14 @@ fn walk(folder: &Path, above: &mut BTreeSet<PathBuf>, found: &mut Vec<Found>) {
     above.remove(&real);
 }
 
+/// What an entry is, or what it leads to. Only a link has to be asked for.
+fn kind(entry: &DirEntry) -> io::Result<FileType> {
+    match entry.file_type()? {
+        what if what.is_symlink() => Ok(fs::metadata(entry.path())?.file_type()),
+        what => Ok(what),
+    }
+}
+
 /// A capture that was read: its bytes, or its length where it has too many for any judging.
 pub struct Taken {
     pub length: u64,
@@ -87,26 +95,25 @@ pub struct Taken {
 
 /// Reads a capture into a buffer. Of a longer one than any capture may be, only so much is read as shows that.
 pub fn take(source: &Source, bytes: &mut Vec<u8>) -> io::Result<Taken> {
+    const MOST: usize = MAX_CAPTURE + 1;
     bytes.clear();
-    let most = MAX_CAPTURE as u64 + 1;
-    let told = match source {
+    bytes.reserve(MOST);
+    let mut told = None;
+    match source {
         Source::Input => {
-            io::stdin().lock().take(most).read_to_end(bytes)?;
-            None
+            io::stdin().lock().take(MOST as u64).read_to_end(bytes)?;
         }
         Source::File(file) => {
             let file = File::open(file)?;
-            let what = file.metadata()?;
-            if what.is_dir() {
-                return Err(io::Error::new(io::ErrorKind::InvalidInput, "is a folder"));
+            (&file).take(MOST as u64).read_to_end(bytes)?;
+            if bytes.len() == MOST {
+                told = Some(file.metadata()?).filter(Metadata::is_file).map(|what| what.len());
             }
-            file.take(most).read_to_end(bytes)?;
-            what.is_file().then_some(what.len())
         }
-    };
-    if bytes.len() as u64 == most {
+    }
+    if bytes.len() == MOST {
         // A file tells its length; of a pipe it is known that it has so many bytes or more.
-        return Ok(Taken { length: told.unwrap_or(most).max(most), sha256: None });
+        return Ok(Taken { length: told.unwrap_or(0).max(MOST as u64), sha256: None });
     }
     Ok(Taken { length: bytes.len() as u64, sha256: Some(format!("{:x}", Sha256::digest(bytes))) })
 }

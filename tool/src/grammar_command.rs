@@ -1,11 +1,11 @@
 //! `grammar check` and `grammar show`.
 use crate::formats::text;
 use crate::machines::Machine;
+use crate::output;
 use crate::session::complain;
 use crate::shown::grouped;
 use crate::status::Status;
 use sejimakpu::{Error, Image, Matching, MAX_CAPTURE};
-use std::io::{self, Write};
 use std::path::Path;
 
 /// The lengths of captures for which the memory is told.
@@ -35,10 +35,10 @@ fn check_one(file: &Path) -> Status {
         _ => Ok(String::new()),
     };
     let looping = if warning.is_some() { Status::NotAccepted } else { Status::Accepted };
-    match told.map_err(|error| error.to_string()).and_then(|told| print(told.as_bytes())) {
-        Ok(()) => looping,
+    match told {
+        Ok(told) => looping.max(output::print(told.as_bytes())),
         Err(error) => {
-            complain(&format!("error: {error}"));
+            complain(&format!("error: {}: {error}", machine.name()));
             Status::Failed
         }
     }
@@ -71,19 +71,5 @@ pub fn show(file: &Path) -> Status {
             .for_each(|line| complain(&line));
         return Status::Failed;
     };
-    match print(&grammar.to_text()) {
-        Ok(()) => Status::Accepted,
-        Err(error) => {
-            complain(&format!("error: {error}"));
-            Status::Failed
-        }
-    }
-}
-
-/// Writes to standard output, and says what could not be written.
-fn print(bytes: &[u8]) -> Result<(), String> {
-    let mut out = io::stdout().lock();
-    out.write_all(bytes)
-        .and_then(|()| out.flush())
-        .map_err(|error| format!("standard output: cannot be written: {error}"))
+    output::print(&grammar.to_text())
 }

@@ -19,6 +19,9 @@ pub struct Hint {
     pub remark: Option<String>,
 }
 
+/// What stands after the last byte.
+const END: &str = "the end of the capture";
+
 /// The states of a grammar's machine: a rule is tried, has matched, has failed.
 const WORK: u32 = 1;
 const OK: u32 = 2;
@@ -39,7 +42,7 @@ impl Hint {
         };
         // Place 1 is the first byte; the left marker, place 0, is shown there too.
         let offset = (head as usize).saturating_sub(1);
-        let found = capture.get(offset).map_or("the end of the capture".into(), |&byte| shown::quoted(byte));
+        let found = capture.get(offset).map_or(END.into(), |&byte| shown::quoted(byte));
         Hint { place: Place::of(capture, offset), expected, found, remark }
     }
 
@@ -99,7 +102,7 @@ impl Parse<'_> {
         let mut furthest = Furthest::default();
         // A match that is not the whole capture: it could have ended there.
         if judged.end.state == OK && judged.end.symbol == 0 {
-            furthest.add(judged.end.head, "the end of the capture".into());
+            furthest.add(judged.end.head, END.into());
         }
         let rules: Vec<Rule> = self.grammar.rules().collect();
         let mut seen = vec![false; (capture.len() + 2) * rules.len() * 2];
@@ -153,14 +156,18 @@ impl Parse<'_> {
 
     /// What a rule that failed by itself wanted: the bytes of a range, or that something else does not stand here.
     fn wanted(&self, rules: &[Rule], rule: usize) -> Option<String> {
-        let name = |words: String| format!("{words} ({})", called(self.grammar, rule));
+        let name = |words: String| Some(format!("{words} ({})", called(self.grammar, rule)));
         match rules[rule] {
-            Rule::Range(low, high) if low <= high => Some(name(shown::range(low, high))),
-            Rule::Not(other) => Some(match rules[other] {
-                Rule::Range(0, 255) => "the end of the capture".into(),
+            Rule::Range(low, high) if low <= high => name(shown::range(low, high)),
+            Rule::Not(other) => match rules[other] {
+                // Two nots are an `&`, whose own ranges are told.
+                Rule::Not(_) => None,
+                Rule::Range(0, 255) => Some(END.into()),
                 Rule::Range(low, high) => name(format!("no {}", shown::range(low, high))),
-                _ => name(format!("no {}", called(self.grammar, other))),
-            }),
+                // A helper rule has no name of its own.
+                _ if other < self.grammar.lines().len() => name(format!("no {}", called(self.grammar, other))),
+                _ => name("something else".into()),
+            },
             _ => None,
         }
     }

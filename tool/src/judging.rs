@@ -8,9 +8,9 @@ use sejimakpu::{Error, Grammar, Image, Verdict, Workspace, MAX_CAPTURE};
 use std::collections::BTreeMap;
 use std::num::NonZeroUsize;
 use std::sync::atomic::{AtomicUsize, Ordering};
-use std::sync::mpsc;
+use std::sync::mpsc::{self, Sender};
 use std::thread;
-use std::time::SystemTime;
+use std::time::{Duration, Instant, SystemTime};
 
 /// A capture to judge, and by which machines; or a thing that cannot be judged.
 pub struct Task {
@@ -23,25 +23,23 @@ pub struct Task {
 
 /// Judges every task, and hands on each capture in the order of the tasks.
 pub fn judge_all(machines: &[Machine], tasks: &[Task], jobs: NonZeroUsize, mut told: impl FnMut(Capture)) {
+    let jobs = jobs.get().min(tasks.len());
+    if jobs <= 1 {
+        let mut bench = Bench::default();
+        return tasks.iter().for_each(|task| told(bench.judge(machines, task)));
+    }
     let next = AtomicUsize::new(0);
     let (sender, receiver) = mpsc::channel();
     thread::scope(|scope| {
-        for _ in 0..jobs.get().min(tasks.len()) {
+        for _ in 0..jobs {
             let (sender, next) = (sender.clone(), &next);
-            scope.spawn(move || {
-                let mut bench = Bench { workspace: Workspace::new(), bytes: Vec::new() };
-                while let Some((number, task)) = take_next(next, tasks) {
-                    if sender.send((number, bench.judge(machines, task))).is_err() {
-                        return;
-                    }
-                }
-            });
+            scope.spawn(move || judge_next(machines, tasks, next, &sender));
         }
         drop(sender);
         // What comes before its turn waits.
         let (mut waiting, mut turn) = (BTreeMap::new(), 0);
-        for (number, capture) in receiver {
-            waiting.insert(number, capture);
+        for batch in receiver {
+            waiting.extend(batch);
             while let Some(capture) = waiting.remove(&turn) {
                 told(capture);
                 turn += 1;
@@ -50,12 +48,34 @@ pub fn judge_all(machines: &[Machine], tasks: &[Task], jobs: NonZeroUsize, mut t
     });
 }
 
+/// Captures with their numbers, handed on together.
+type Batch = Vec<(usize, Capture)>;
+
+/// How long a thread keeps captures back: waking the one that tells them costs as much as judging a short one.
+const BATCH: Duration = Duration::from_millis(2);
+
+/// One thread: takes the next task until there is none.
+fn judge_next(machines: &[Machine], tasks: &[Task], next: &AtomicUsize, sender: &Sender<Batch>) {
+    let mut bench = Bench::default();
+    let (mut batch, mut since) = (Batch::new(), Instant::now());
+    while let Some((number, task)) = take_next(next, tasks) {
+        batch.push((number, bench.judge(machines, task)));
+        if since.elapsed() >= BATCH {
+            // The receiver stays until every thread has ended.
+            let _ = sender.send(std::mem::take(&mut batch));
+            since = Instant::now();
+        }
+    }
+    let _ = sender.send(batch);
+}
+
 fn take_next<'a>(next: &AtomicUsize, tasks: &'a [Task]) -> Option<(usize, &'a Task)> {
     let number = next.fetch_add(1, Ordering::Relaxed);
     Some((number, tasks.get(number)?))
 }
 
 /// What one thread keeps from capture to capture.
+#[derive(Default)]
 struct Bench {
     workspace: Workspace,
     bytes: Vec<u8>,

@@ -5,6 +5,7 @@ use sejimakpu::{Error, Grammar, Image, Matching, Reason, Refusal};
 use sha2::{Digest, Sha256};
 use std::fs;
 use std::io::{self, Read};
+use std::os::unix::ffi::OsStrExt;
 use std::path::{Path, PathBuf};
 
 /// Longer than any grammar and any image: what is longer is not read to its end.
@@ -36,7 +37,7 @@ impl From<Error> for Trouble {
 
 /// A typed grammar where the name ends in .peg, else a grammar's bytes.
 pub fn kind_of(file: &Path) -> Kind {
-    if file.extension().is_some_and(|ending| ending == "peg") {
+    if file.as_os_str().as_bytes().ends_with(b".peg") {
         Kind::Text
     } else {
         Kind::Bytes

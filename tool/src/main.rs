@@ -31,10 +31,7 @@ fn main() -> ExitCode {
         Command::Grammar(Grammar::Check { grammars }) => grammar_command::check(&grammars),
         Command::Grammar(Grammar::Show { grammar }) => grammar_command::show(&grammar),
         Command::Selftest => selftest::run(),
-        Command::Completions { shell } => {
-            clap_complete::generate(shell, &mut Cli::command(), "sejimakpu", &mut std::io::stdout());
-            Status::Accepted
-        }
+        Command::Completions { shell } => completions(shell),
     };
     status.into()
 }
@@ -55,4 +52,10 @@ fn shift(given: &cli::Shift) -> Status {
             Status::Failed
         }
     }
+}
+
+fn completions(shell: clap_complete::Shell) -> Status {
+    let mut script = Vec::new();
+    clap_complete::generate(shell, &mut Cli::command(), "sejimakpu", &mut script);
+    output::print(&script)
 }

@@ -1,37 +1,70 @@
 //! Where records go: standard output, and files that appear when they are whole.
+use crate::session::complain;
+use crate::status::Status;
+use std::ffi::OsString;
 use std::fs::{self, File};
 use std::io::{self, BufWriter, Write};
 use std::path::{Path, PathBuf};
 use std::process;
+use std::sync::atomic::{AtomicUsize, Ordering};
+
+/// Writes to standard output, and says what could not be written.
+pub fn print(bytes: &[u8]) -> Status {
+    let mut out = io::stdout().lock();
+    written("standard output", out.write_all(bytes).and_then(|()| out.flush()))
+}
+
+/// Says what could not be written.
+pub fn written(name: &str, result: io::Result<()>) -> Status {
+    match result {
+        Ok(()) => Status::Accepted,
+        Err(error) => {
+            complain(&format!("error: {name}: cannot be written: {error}"));
+            Status::Failed
+        }
+    }
+}
 
 /// Writes a file aside, in the same folder, and renames it when it is whole and on the disk; what stood there before stays
 /// until then. A device or a pipe cannot be renamed to, and is written as it is.
 pub fn write_file(file: &Path, write: impl FnOnce(&mut dyn Write) -> io::Result<()>) -> io::Result<()> {
-    // Through a link, so that it stays one.
-    let file = fs::canonicalize(file).unwrap_or_else(|_| file.into());
+    let file = followed(file);
     if fs::metadata(&file).is_ok_and(|what| !what.is_file()) {
         let mut out = BufWriter::new(File::options().write(true).open(&file)?);
         write(&mut out)?;
         return out.flush();
     }
-    let aside = aside(&file)?;
-    let written = || {
-        let mut out = BufWriter::new(File::create_new(&aside)?);
+    let aside = file.with_file_name(aside());
+    let whole = || {
+        let new = File::create_new(&aside)?;
+        if let Ok(old) = fs::metadata(&file) {
+            new.set_permissions(old.permissions())?;
+        }
+        let mut out = BufWriter::new(new);
         write(&mut out)?;
         out.into_inner()?.sync_all()?;
         fs::rename(&aside, &file)
     };
-    written().inspect_err(|_| {
+    whole().inspect_err(|_| {
         // Nothing more can be done where it cannot be removed.
         let _ = fs::remove_file(&aside);
     })
 }
 
-/// A name beside a file's that no other process takes.
-fn aside(file: &Path) -> io::Result<PathBuf> {
-    let name = file.file_name().ok_or_else(|| io::Error::new(io::ErrorKind::InvalidInput, "is no name of a file"))?;
-    let mut aside = std::ffi::OsString::from(".");
-    aside.push(name);
-    aside.push(format!(".{}.part", process::id()));
-    Ok(file.with_file_name(aside))
+/// Where a link leads, also where nothing is there yet: a link stays one. As many as the system follows.
+fn followed(file: &Path) -> PathBuf {
+    let mut file = file.to_path_buf();
+    for _ in 0..40 {
+        match fs::read_link(&file) {
+            Ok(target) => file = file.parent().unwrap_or(Path::new("")).join(target),
+            Err(_) => break,
+        }
+    }
+    file
+}
+
+/// A name that no other process and no other file of this one takes.
+fn aside() -> OsString {
+    static COUNT: AtomicUsize = AtomicUsize::new(0);
+    format!(".sejimakpu-{}-{}.part", process::id(), COUNT.fetch_add(1, Ordering::Relaxed)).into()
 }

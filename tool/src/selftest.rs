@@ -1,8 +1,8 @@
 //! The worked examples C1 to C10 and the samples, judged on site: that this build of the tool does on this machine what it must.
+use crate::output;
 use crate::session::complain;
 use crate::status::Status;
 use sejimakpu::{Config, Error, Grammar, Image, Judged, Matching, Verdict, Workspace};
-use std::io::{self, Write};
 
 /// An example: by what it is judged, the capture, and what the answer must be.
 struct Example {
@@ -90,13 +90,11 @@ pub fn run() -> Status {
             complain(&format!("error: {}: must be {must:?}, is {judged:?}", example.name));
         }
     }
-    let line = format!("{} examples: {} as they must be", EXAMPLES.len(), EXAMPLES.len() - wrong);
-    match writeln!(io::stdout(), "{line}") {
-        Ok(()) if wrong == 0 => Status::Accepted,
-        Ok(()) => Status::Failed,
-        Err(error) => {
-            complain(&format!("error: standard output: cannot be written: {error}"));
-            Status::Failed
-        }
+    let right = EXAMPLES.len() - wrong;
+    let told = output::print(format!("{} examples: {right} as they must be\n", EXAMPLES.len()).as_bytes());
+    if wrong == 0 {
+        told
+    } else {
+        Status::Failed
     }
 }

@@ -7,13 +7,13 @@ use crate::machines::Machine;
 use crate::output;
 use crate::record::{Capture, Record, Totals};
 use crate::report;
+use crate::shown;
 use crate::status::Status;
 use crate::version::JudgedBy;
 use indicatif::{ProgressBar, ProgressDrawTarget, ProgressStyle};
 use sejimakpu::Matching;
-use std::io::{self, IsTerminal, Write};
+use std::io::{self, BufWriter, IsTerminal, Stdout, Write};
 use std::num::NonZeroUsize;
-use std::path::Path;
 use std::thread;
 use std::time::SystemTime;
 
@@ -33,7 +33,10 @@ impl Session {
         let matching = if given.leading { Matching::Leading } else { Matching::Whole };
         let grammars = given.grammar.iter().map(|file| Machine::of_grammar(file, matching));
         let images = given.image.iter().map(|file| Machine::of_image(file));
-        let machines: Vec<usize> = grammars.chain(images).map(|machine| session.machine(machine)).collect();
+        let mut machines: Vec<usize> = grammars.chain(images).map(|machine| session.machine(machine)).collect();
+        // One that is given twice judges once. Numbers are counted up in the order given.
+        machines.sort_unstable();
+        machines.dedup();
         let task = |capture| Task { capture, machines: machines.clone(), error: None };
         session.tasks = captures::find(&given.captures).into_iter().map(task).collect();
         session
@@ -77,7 +80,8 @@ impl Session {
         teller.totals(&totals);
         let judged_by = JudgedBy::this();
         let record = Record { machines, captures, totals, started, finished: SystemTime::now(), judged_by };
-        status.max(teller.status).max(write_record(&record, format, output, status))
+        let status = status.max(teller.status).max(write_page(&record, output));
+        status.max(write_record(&record, format, output, status))
     }
 }
 
@@ -91,32 +95,26 @@ fn jobs(output: &cli::Output) -> NonZeroUsize {
     output.jobs.or_else(|| thread::available_parallelism().ok()).unwrap_or(NonZeroUsize::MIN)
 }
 
-/// Writes the record and the page to where they were asked for. The page is written in any case.
-fn write_record(record: &Record, format: Format, output: &cli::Output, status: Status) -> Status {
-    let written = match &output.out {
-        Some(file) => told(file, output::write_file(file, |out| formats::write(format, record, status, out))),
-        // The text was told as it came.
-        None if format == Format::Text => Status::Accepted,
-        None => {
-            let mut out = io::BufWriter::new(io::stdout().lock());
-            let result = formats::write(format, record, status, &mut out).and_then(|()| out.flush());
-            told(Path::new("standard output"), result)
-        }
-    };
-    let page = output
-        .report
-        .as_ref()
-        .map_or(Status::Accepted, |file| told(file, output::write_file(file, |out| report::write(record, out))));
-    written.max(page)
+/// Writes the page, where one was asked for.
+fn write_page(record: &Record, output: &cli::Output) -> Status {
+    output.report.as_ref().map_or(Status::Accepted, |file| {
+        let name = shown::name(file.as_os_str());
+        output::written(&name, output::write_file(file, |out| report::write(record, out)))
+    })
 }
 
-/// Says what could not be written.
-fn told(file: &Path, result: io::Result<()>) -> Status {
-    match result {
-        Ok(()) => Status::Accepted,
-        Err(error) => {
-            complain(&format!("error: {}: cannot be written: {error}", crate::shown::name(file.as_os_str())));
-            Status::Failed
+/// Writes the record to where it was asked for; the text on standard output was told as it came.
+fn write_record(record: &Record, format: Format, output: &cli::Output, status: Status) -> Status {
+    match &output.out {
+        Some(file) => {
+            let name = shown::name(file.as_os_str());
+            output::written(&name, output::write_file(file, |out| formats::write(format, record, status, out)))
+        }
+        None if format == Format::Text => Status::Accepted,
+        None => {
+            let mut out = BufWriter::new(io::stdout().lock());
+            let result = formats::write(format, record, status, &mut out).and_then(|()| out.flush());
+            output::written("standard output", result)
         }
     }
 }
@@ -133,6 +131,9 @@ struct Teller {
     lines: text::Style,
     remarks: text::Style,
     progress: ProgressBar,
+    /// Standard output: by lines on a terminal, else by blocks, written out before anything goes to standard error.
+    out: BufWriter<Stdout>,
+    by_lines: bool,
     /// What telling itself came to.
     status: Status,
 }
@@ -147,6 +148,8 @@ impl Teller {
             lines: style(io::stdout().is_terminal()),
             remarks: style(io::stderr().is_terminal()),
             progress,
+            out: BufWriter::new(io::stdout()),
+            by_lines: io::stdout().is_terminal(),
             status: Status::Accepted,
         }
     }
@@ -172,20 +175,29 @@ impl Teller {
         self.progress.finish_and_clear();
         if self.as_text {
             self.line(&text::totals(totals));
+            self.written(|out| out.flush());
         }
     }
 
-    /// A line on standard output. The first failure is told, and makes the status 2; judging goes on.
+    /// A line on standard output.
     fn line(&mut self, line: &str) {
-        let written = self.progress.suspend(|| writeln!(io::stdout(), "{line}"));
-        if let (Err(error), Status::Accepted) = (written, self.status) {
-            self.status = Status::Failed;
-            complain(&format!("error: standard output: cannot be written: {error}"));
+        let by_lines = self.by_lines;
+        self.written(|out| writeln!(out, "{line}").and_then(|()| if by_lines { out.flush() } else { Ok(()) }));
+    }
+
+    /// Writes to standard output. The first failure is told, and makes the status 2; judging goes on.
+    fn written(&mut self, write: impl FnOnce(&mut BufWriter<Stdout>) -> io::Result<()>) {
+        if self.status == Status::Accepted {
+            let out = &mut self.out;
+            if let Err(error) = self.progress.suspend(|| write(out)) {
+                self.status = output::written("standard output", Err(error));
+            }
         }
     }
 
-    fn remark(&self, lines: &[String]) {
+    fn remark(&mut self, lines: &[String]) {
         if !lines.is_empty() {
+            self.written(|out| out.flush());
             self.progress.suspend(|| complain(&lines.join("\n")));
         }
     }

@@ -56,7 +56,7 @@ pub struct Place {
 
 /// How many bytes of a line are shown before a place, and from it on.
 const BEFORE: usize = 50;
-const AFTER: usize = 40;
+const AFTER: usize = 60;
 
 impl Place {
     /// The place of an offset, which is one of the text's or its length.
@@ -150,7 +150,7 @@ mod tests {
         // Long lines are cut on both sides.
         let long = [b'x'; 200];
         let place = Place::of(&long, 100);
-        assert_eq!((place.column, place.before.chars().count(), place.after.chars().count()), (101, 51, 40));
+        assert_eq!((place.column, place.before.chars().count(), place.after.chars().count()), (101, 51, 60));
         assert!(place.before.starts_with('…') && place.after.ends_with('…'));
     }
 

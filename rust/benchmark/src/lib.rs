@@ -11,5 +11,6 @@ pub mod recursion;
 pub mod report;
 pub mod table;
 pub mod targets;
+pub mod tool;
 pub mod twin;
 pub mod workloads;

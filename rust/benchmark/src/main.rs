@@ -2,8 +2,8 @@
 //! the two do not agree; what it measures is for a reader to judge.
 use benchmark::judging::{Cells, Line};
 use benchmark::workloads::{self, SIZES};
-use benchmark::{bundles, judging, layouts, others, reading, recursion, report};
-use std::env;
+use benchmark::{bundles, judging, layouts, others, reading, recursion, report, tool};
+use std::{env, path::Path};
 
 /// Rounds over all lines, so that what else the machine does for a while falls on no line alone.
 const ROUNDS: usize = 4;
@@ -33,8 +33,9 @@ fn main() {
     match words.split_first() {
         None => long_calls(),
         Some((word, [])) if word == "short" => short_calls(),
+        Some((word, [path])) if word == "tool" => tool::print(Path::new(path)).expect("files can be written"),
         Some((word, files)) if word == "layouts" => layouts::print(files).expect("the runs' tables can be read"),
-        _ => panic!("nothing, `short`, or `layouts` and files"),
+        _ => panic!("nothing, `short`, `tool` and its path, or `layouts` and files"),
     }
 }
 

@@ -21,6 +21,12 @@ impl Targets {
         self.0.row(vec![figure.into(), format!("{measured:.3}"), format!("at most {target}"), met.into()]);
     }
 
+    /// A figure that should be at least so much.
+    pub fn at_least(&mut self, target: f64, figure: &str, measured: f64) {
+        let met = if measured >= target { "yes" } else { "NO" };
+        self.0.row(vec![figure.into(), format!("{measured:.3}"), format!("at least {target}"), met.into()]);
+    }
+
     /// A figure that has no target.
     pub fn told(&mut self, figure: &str, measured: f64) {
         self.0.row(vec![figure.into(), format!("{measured:.3}"), "none".into(), "".into()]);

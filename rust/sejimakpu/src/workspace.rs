@@ -1,5 +1,6 @@
 //! Cells that are lent to one judging after another.
 use crate::{Error, Image, Judged, Notes, Reason};
+use std::collections::TryReserveError;
 
 /// Notes and work cells, as many as were needed so far: for judging many captures, by one image or by several.
 ///
@@ -40,12 +41,12 @@ impl Workspace {
     ///
     /// # Errors
     ///
-    /// [`Error::Refused`]: refusal 7.
+    /// [`Error::Refused`]: refusal 7; and refusal 8 where there is no memory for the cells.
     pub fn judge(&mut self, image: &Image, capture: &[u8]) -> Result<Judged, Error> {
         self.last = None;
         let judged = match crate::judge(image.bytes(), capture, &mut self.notes, &mut self.work) {
             Err(Error::Refused(refusal)) if refusal.reason() == Reason::NotesShort => {
-                self.grow(refusal.place());
+                self.grow(refusal.place()).map_err(|_| refusal)?;
                 crate::judge(image.bytes(), capture, &mut self.notes, &mut self.work)
             }
             judged => judged,
@@ -68,11 +69,16 @@ impl Workspace {
     }
 
     /// So many cells, or half as many again as there were: captures that come by length do not each ask for new ones. The
-    /// old cells go first, and the new ones are of memory that is taken when it is written.
-    fn grow(&mut self, needed: usize) {
+    /// old cells go first. Without memory there is none.
+    fn grow(&mut self, needed: usize) -> Result<(), TryReserveError> {
         let cells = needed.max(self.notes.len() + self.notes.len() / 2);
         (self.notes, self.work) = (Vec::new(), Vec::new());
-        (self.notes, self.work) = (vec![0; cells], vec![0; cells]);
+        // Both are had before one is written.
+        self.notes.try_reserve_exact(cells)?;
+        self.work.try_reserve_exact(cells)?;
+        self.notes.resize(cells, 0);
+        self.work.resize(cells, 0);
+        Ok(())
     }
 }
 

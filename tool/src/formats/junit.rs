@@ -47,6 +47,16 @@ fn cases(record: &Record, capture: &Capture) -> Vec<Case> {
     capture.judgements.iter().map(case).collect()
 }
 
+/// The failure of the writing itself, as the other forms tell it.
+fn failure(error: quick_xml::Error) -> io::Error {
+    match error {
+        quick_xml::Error::Io(error) => {
+            error.raw_os_error().map_or_else(|| error.kind().into(), io::Error::from_raw_os_error)
+        }
+        other => io::Error::other(other),
+    }
+}
+
 pub fn write(record: &Record, out: &mut dyn Write) -> io::Result<()> {
     let cases: Vec<Case> = record.captures.iter().flat_map(|capture| cases(record, capture)).collect();
     let count = |of: fn(&Told) -> bool| cases.iter().filter(|case| of(&case.told)).count().to_string();
@@ -55,7 +65,7 @@ pub fn write(record: &Record, out: &mut dyn Write) -> io::Result<()> {
     let tests = cases.len().to_string();
 
     let mut writer = Writer::new_with_indent(&mut *out, b' ', 2);
-    let mut put = |event| writer.write_event(event).map_err(io::Error::other);
+    let mut put = |event| writer.write_event(event).map_err(failure);
     put(Event::Decl(BytesDecl::new("1.0", Some("UTF-8"), None)))?;
     let mut suite = BytesStart::new("testsuite");
     let started = record::time(record.started);

@@ -50,14 +50,15 @@ pub fn line(capture: &Capture, machines: &[Machine], style: Style) -> String {
 /// The last line.
 pub fn totals(totals: &Totals) -> String {
     let captures = if totals.captures == 1 { "capture" } else { "captures" };
-    let mut line = format!("{} {captures}: {} accepted", shown::grouped(totals.captures as usize), totals.accepted);
+    let count = |number: u64| shown::grouped(number as usize);
+    let mut line = format!("{} {captures}: {} accepted", count(totals.captures), count(totals.accepted));
     for outcome in &Outcome::ALL[1..] {
         match totals.of(*outcome) {
             0 => {}
-            count => line.push_str(&format!(", {} {}", shown::grouped(count as usize), outcome.word())),
+            some => line.push_str(&format!(", {} {}", count(some), outcome.word())),
         }
     }
-    line + &format!("; {} readings", shown::grouped(totals.readings as usize))
+    line + &format!("; {} readings", count(totals.readings))
 }
 
 /// Why a capture is not accepted, for a person: lines for each grammar that does not accept it.

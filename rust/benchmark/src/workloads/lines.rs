@@ -31,7 +31,7 @@ pub fn workload() -> Workload {
 }
 
 /// Words of 1 to 9 letters, 9 words a line, by a fixed sequence of numbers.
-pub(super) fn capture(n: usize) -> Vec<u8> {
+pub fn capture(n: usize) -> Vec<u8> {
     let mut bytes = Vec::with_capacity(n + 10);
     let mut number: u32 = 1;
     for word in 1.. {
