@@ -18,8 +18,15 @@ pub struct Cli {
 #[derive(Subcommand)]
 pub enum Command {
     /// Judges captures by one or more grammars
+    ///
+    /// A capture passes only if each grammar accepts it. A line for each capture goes to standard output, in the order
+    /// given, then the totals; why a capture is not accepted goes to standard error, as a hint.
+    #[command(override_usage = "sejimakpu judge -g <GRAMMAR>.. [OPTIONS] <CAPTURE>..")]
     Judge(Judge),
     /// Judges a shift's captures as a plan says, which names the grammars for each
+    ///
+    /// Every file below the folder must be named by a row of the plan, and every row must name a file: what is not judged
+    /// makes the status 2.
     Shift(Shift),
     /// Looks at grammars
     #[command(subcommand)]
@@ -33,8 +40,6 @@ pub enum Command {
     },
 }
 
-/// A capture passes only if each grammar accepts it. A line for each capture goes to standard output, in the order given,
-/// then the totals; why a capture is not accepted goes to standard error, as a hint.
 #[derive(Args)]
 pub struct Judge {
     /// A grammar: a text where the name ends in .peg, else its bytes; several may be given
@@ -53,7 +58,6 @@ pub struct Judge {
     pub output: Output,
 }
 
-/// Every file below the folder must be named by a row of the plan, and every row must name a file.
 #[derive(Args)]
 pub struct Shift {
     /// The plan: which captures are judged by which grammars

@@ -28,12 +28,15 @@ pub fn written(name: &str, result: io::Result<()>) -> Status {
 /// Writes a file aside, in the same folder, and renames it when it is whole and on the disk; what stood there before stays
 /// until then. A device or a pipe cannot be renamed to, and is written as it is.
 pub fn write_file(file: &Path, write: impl FnOnce(&mut dyn Write) -> io::Result<()>) -> io::Result<()> {
-    let file = followed(file);
-    if fs::metadata(&file).is_ok_and(|what| !what.is_file()) {
-        let mut out = BufWriter::new(File::options().write(true).open(&file)?);
-        write(&mut out)?;
-        return out.flush();
-    }
+    let file = match fs::metadata(file) {
+        Ok(what) if !what.is_file() => {
+            let mut out = BufWriter::new(File::options().write(true).open(file)?);
+            write(&mut out)?;
+            return out.flush();
+        }
+        Ok(_) => fs::canonicalize(file)?,
+        Err(_) => followed(file),
+    };
     let aside = file.with_file_name(aside());
     let whole = || {
         let new = File::create_new(&aside)?;
@@ -51,7 +54,7 @@ pub fn write_file(file: &Path, write: impl FnOnce(&mut dyn Write) -> io::Result<
     })
 }
 
-/// Where a link leads, also where nothing is there yet: a link stays one. As many as the system follows.
+/// Where a link leads at whose end nothing is yet: the link stays one. As many as the system follows.
 fn followed(file: &Path) -> PathBuf {
     let mut file = file.to_path_buf();
     for _ in 0..40 {
