@@ -1,4 +1,5 @@
 //! The command line: commands, options and their help.
+use clap::builder::{PathBufValueParser, TypedValueParser};
 use clap::{Args, Parser, Subcommand, ValueEnum};
 use std::ffi::OsString;
 use std::num::NonZeroUsize;
@@ -76,10 +77,10 @@ pub struct Output {
     #[arg(short, long, value_enum, value_name = "FORMAT")]
     pub format: Option<Format>,
     /// Writes the record to a file, which appears when it is whole; standard output then has the text
-    #[arg(short, long, value_name = "FILE")]
+    #[arg(short, long, value_name = "FILE", value_parser = PathBufValueParser::new().try_map(file))]
     pub out: Option<PathBuf>,
     /// Writes a page for a browser, which appears when it is whole
-    #[arg(long, value_name = "FILE.html")]
+    #[arg(long, value_name = "FILE.html", value_parser = PathBufValueParser::new().try_map(file))]
     pub report: Option<PathBuf>,
     /// How many captures are judged at once [default: as many as there are processors]
     #[arg(short, long, value_name = "N")]
@@ -90,6 +91,14 @@ pub struct Output {
     /// When to colour: auto is on a terminal, unless NO_COLOR is set
     #[arg(long, value_enum, value_name = "WHEN", default_value_t = Color::Auto)]
     pub color: Color,
+}
+
+/// A file's name. Standard output is no file: it has the text, or the record without --out.
+fn file(name: PathBuf) -> Result<PathBuf, &'static str> {
+    if name.as_os_str() == "-" {
+        return Err("- is no file; without --out the record goes to standard output");
+    }
+    Ok(name)
 }
 
 #[derive(Clone, Copy, PartialEq, Eq, ValueEnum)]

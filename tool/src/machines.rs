@@ -56,7 +56,10 @@ impl Machine {
     fn load(file: &Path, kind: Kind, matching: Matching) -> Machine {
         let (bytes, error) = match read(file) {
             Ok(bytes) => (bytes, None),
-            Err(error) => (Vec::new(), Some(Trouble::Error(format!("cannot be read: {error}")))),
+            Err(error) => {
+                let name = shown::name(file.as_os_str());
+                (Vec::new(), Some(Trouble::Error(format!("{name}: cannot be read: {error}"))))
+            }
         };
         let (grammar, image) = match (error, kind) {
             (Some(error), _) => (None, Err(error)),
@@ -86,6 +89,12 @@ impl Machine {
             Matching::Whole => "whole",
             Matching::Leading => "leading",
         };
+        let (refusal, error) = match &self.image {
+            Ok(_) => (None, None),
+            Err(Trouble::Refused(refusal)) => (Some(*refusal), None),
+            Err(Trouble::Error(error)) => (None, Some(error.clone())),
+        };
+        let place = self.complaint().and_then(|complaint| complaint.place);
         record::Machine {
             grammar: self.name(),
             kind: self.kind,
@@ -93,13 +102,19 @@ impl Machine {
             grammar_bytes: self.was_read().then_some(self.bytes.len()),
             grammar_sha256: self.was_read().then(|| format!("{:x}", Sha256::digest(&self.bytes))),
             rules: self.grammar.as_ref().map(Grammar::rule_count),
+            may_loop: self.grammar.as_ref().map(|grammar| grammar.left_recursion().is_some()),
+            refusal: refusal.map(|refusal| refusal.number()),
+            place: refusal.map(|refusal| refusal.place()),
+            line: place.as_ref().map(|place| place.line),
+            column: place.as_ref().map(|place| place.column),
+            error,
         }
     }
 
     /// What a person is told of a file that gives no image.
     pub fn complaint(&self) -> Option<Complaint> {
         match self.image.as_ref().err()? {
-            Trouble::Error(error) => Some(Complaint { words: format!("{}: {error}", self.name()), place: None }),
+            Trouble::Error(error) => Some(Complaint { words: error.clone(), place: None }),
             Trouble::Refused(refusal) => Some(self.told(*refusal)),
         }
     }

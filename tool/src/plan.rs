@@ -74,7 +74,8 @@ pub fn session(given: &cli::Shift) -> Result<Session, String> {
     let shown = |path: &Path| crate::shown::name(path.as_os_str());
     let text =
         fs::read_to_string(&given.plan).map_err(|error| format!("{}: cannot be read: {error}", shown(&given.plan)))?;
-    let wrong = |words: String| format!("{}: {words}", shown(&given.plan));
+    // What the plan has may not print.
+    let wrong = |words: String| format!("{}: {}", shown(&given.plan), crate::shown::name(words.as_ref()));
     let plan: Plan = toml::from_str(&text).map_err(|error| wrong(error.to_string()))?;
     if plan.row.is_empty() {
         return Err(wrong("the plan has no row".into()));
@@ -95,7 +96,7 @@ pub fn session(given: &cli::Shift) -> Result<Session, String> {
     session.add_tasks(&given.folder, &rows);
     for (number, (row, ready)) in (1..).zip(plan.row.iter().zip(&rows)) {
         if !session.has_capture_of(&given.folder, ready) {
-            let patterns = row.captures.each().join(", ");
+            let patterns = crate::shown::name(row.captures.each().join(", ").as_ref());
             session.problems.push(format!("row {number} of the plan finds no capture: {patterns}"));
         }
     }

@@ -192,6 +192,22 @@ pub struct Machine {
     pub grammar_sha256: Option<String>,
     /// How many of the 31 rules it has; none of an image.
     pub rules: Option<usize>,
+    /// Whether a rule leads back to itself before anything is consumed, so that a capture may be judged looping.
+    pub may_loop: Option<bool>,
+    /// Number and place of a refusal of this file, and its line and column in a text.
+    pub refusal: Option<u32>,
+    pub place: Option<usize>,
+    pub line: Option<usize>,
+    pub column: Option<usize>,
+    /// Why it could not be read.
+    pub error: Option<String>,
+}
+
+impl Machine {
+    /// Whether nothing can be judged by it: told once, and not of each capture.
+    pub fn is_wrong(&self) -> bool {
+        self.refusal.is_some() || self.error.is_some()
+    }
 }
 
 #[derive(Clone, Copy, Debug, PartialEq, Eq, Serialize)]

@@ -95,7 +95,20 @@ mod tests {
     fn machine(name: &str, matching: &'static str) -> Machine {
         let grammar_sha256 = Some("0123abcd".into());
         let (grammar, matching) = (name.into(), Some(matching));
-        Machine { grammar, kind: Kind::Text, matching, grammar_bytes: Some(4), grammar_sha256, rules: Some(14) }
+        Machine {
+            grammar,
+            kind: Kind::Text,
+            matching,
+            grammar_bytes: Some(4),
+            grammar_sha256,
+            rules: Some(14),
+            may_loop: Some(false),
+            refusal: None,
+            place: None,
+            line: None,
+            column: None,
+            error: None,
+        }
     }
 
     /// A record with every outcome, the best first, and an error that is of no capture.
@@ -108,7 +121,7 @@ mod tests {
             capture("one stuck", vec![judged(Verdict::Accepted, None), judged(Verdict::Stuck, None)]),
             capture("one looping", vec![judged(Verdict::Looping, Some("line goes round in a circle"))]),
             capture("one refused", vec![Answer::Refused(refusal)]),
-            capture("one <error>&\"", vec![Answer::Error("cannot be read: <why>".into())]),
+            capture("one <error>&\"", vec![Answer::Error("ring.peg: cannot be read: <why>".into())]),
             capture("last accepted", vec![judged(Verdict::Accepted, None)]),
         ];
         let error = Some("row 1 of the plan finds no capture".into());
@@ -134,7 +147,7 @@ mod tests {
             "aria-label=\"2 error, 1 refused, 1 looping, 1 stuck, 1 ended, 1 halted, 2 accepted\"",
             "<span class=\"error\" style=\"flex-grow:2\" title=\"2 error\"><b>2 error</b></span>",
             "<th scope=\"row\" class=\"file\"><bdi>one &lt;error&gt;&amp;&quot;</bdi></th>",
-            "<p><bdi>ring.peg</bdi>: cannot be read: &lt;why&gt;</p>",
+            "<p>ring.peg: cannot be read: &lt;why&gt;</p>",
             "<p>row 1 of the plan finds no capture</p>",
             "<p><bdi>ring.peg</bdi>: <b>refusal 7</b> at place 65536: the capture is longer than 65,535 bytes",
             "Hint: line goes round in a circle, at &#39;&lt;&#39;",

@@ -68,7 +68,8 @@ pub fn hints(capture: &Capture, machines: &[Machine], style: Style) -> Vec<Strin
     if let Some(error) = &capture.error {
         lines.push(format!("{} {file}: {error}", style.bold("error:")));
     }
-    for judgement in &capture.judgements {
+    // What is wrong with a grammar was told before.
+    for judgement in capture.judgements.iter().filter(|judgement| !machines[judgement.machine].is_wrong()) {
         let by = match capture.judgements.len() {
             1 => String::new(),
             _ => format!(" (by {})", machines[judgement.machine].grammar),

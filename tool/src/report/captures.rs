@@ -102,6 +102,8 @@ fn write_why(capture: &Capture, machines: &[Machine], out: &mut dyn Write) -> io
         let by = match &judgement.answer {
             // One grammar alone stands in its own column.
             Answer::Judged { .. } if capture.judgements.len() == 1 => String::new(),
+            // This names the grammar itself.
+            Answer::Error(_) => String::new(),
             // What is wrong may be with the grammar and not with the capture.
             _ => format!("{}: ", grammar(&machines[judgement.machine])),
         };
