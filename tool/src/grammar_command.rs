@@ -28,8 +28,9 @@ fn check_one(file: &Path) -> Status {
     let told = match (&machine.grammar, &machine.image) {
         (Some(grammar), Ok(image)) => needs(image).map(|needs| {
             let (rules, classes) = (grammar.rule_count(), image.classes());
+            let classes = if classes == 1 { "1 class of bytes".into() } else { format!("{classes} classes of bytes") };
             let looping = if warning.is_some() { "may loop" } else { "never loops" };
-            format!("{}: {rules} of 31 rules, {classes} classes of bytes, {looping}\n{needs}", machine.name())
+            format!("{}: {rules} of 31 rules, {classes}, {looping}\n{needs}", machine.name())
         }),
         // A grammar that is not complained of has both.
         _ => Ok(String::new()),

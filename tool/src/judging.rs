@@ -28,12 +28,17 @@ pub fn judge_all(machines: &[Machine], tasks: &[Task], jobs: NonZeroUsize, mut t
         let mut bench = Bench::default();
         return tasks.iter().for_each(|task| told(bench.judge(machines, task)));
     }
-    let next = AtomicUsize::new(0);
+    let next = &AtomicUsize::new(0);
     let (sender, receiver) = mpsc::channel();
     thread::scope(|scope| {
-        for _ in 0..jobs {
-            let (sender, next) = (sender.clone(), &next);
-            scope.spawn(move || judge_next(machines, tasks, next, &sender));
+        let start = |sender: Sender<Batch>| {
+            let run = move || judge_next(machines, tasks, next, &sender);
+            thread::Builder::new().spawn_scoped(scope, run).is_ok()
+        };
+        // Where the system gives no more threads, those that there are judge all; where it gives none, this one does.
+        let started = (0..jobs).take_while(|_| start(sender.clone())).count();
+        if started == 0 {
+            judge_next(machines, tasks, next, &sender);
         }
         drop(sender);
         // What comes before its turn waits.

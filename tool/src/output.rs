@@ -29,8 +29,8 @@ pub fn written(name: &str, result: io::Result<()>) -> Status {
 /// until then. A device or a pipe cannot be renamed to, and is written as it is.
 pub fn write_file(file: &Path, write: impl FnOnce(&mut dyn Write) -> io::Result<()>) -> io::Result<()> {
     let file = match fs::metadata(file) {
-        Ok(what) if !what.is_file() => {
-            let mut out = BufWriter::new(File::options().write(true).open(file)?);
+        Ok(what) if !what.is_file() || is_descriptor(file) => {
+            let mut out = BufWriter::new(File::options().append(true).open(file)?);
             write(&mut out)?;
             return out.flush();
         }
@@ -52,6 +52,12 @@ pub fn write_file(file: &Path, write: impl FnOnce(&mut dyn Write) -> io::Result<
         // Nothing more can be done where it cannot be removed.
         let _ = fs::remove_file(&aside);
     })
+}
+
+/// Whether a name stands for a file that is open already, such as a log that is written on.
+fn is_descriptor(file: &Path) -> bool {
+    ["/dev/stdout", "/dev/stderr"].map(Path::new).contains(&file)
+        || ["/dev/fd", "/proc/self/fd"].iter().any(|folder| file.starts_with(folder))
 }
 
 /// Where a link leads at whose end nothing is yet: the link stays one. As many as the system follows.

@@ -4,7 +4,7 @@ use crate::cli;
 use crate::judging::Task;
 use crate::machines::Machine;
 use crate::session::Session;
-use globset::{GlobBuilder, GlobSet, GlobSetBuilder};
+use globset::{GlobBuilder, GlobMatcher};
 use sejimakpu::Matching;
 use serde::Deserialize;
 use std::fs;
@@ -54,18 +54,15 @@ impl Patterns {
     }
 
     /// A star does not pass a folder's end, two do.
-    fn set(&self) -> Result<GlobSet, globset::Error> {
-        let mut set = GlobSetBuilder::new();
-        for pattern in self.each() {
-            set.add(GlobBuilder::new(pattern).literal_separator(true).build()?);
-        }
-        set.build()
+    fn matchers(&self) -> Result<Vec<GlobMatcher>, globset::Error> {
+        let matcher = |pattern: &String| GlobBuilder::new(pattern).literal_separator(true).build();
+        self.each().iter().map(|pattern| Ok(matcher(pattern)?.compile_matcher())).collect()
     }
 }
 
 /// A row with its patterns ready and its machines loaded.
 struct Ready {
-    set: GlobSet,
+    patterns: Vec<GlobMatcher>,
     machines: Vec<usize>,
 }
 
@@ -87,18 +84,15 @@ pub fn session(given: &cli::Shift) -> Result<Session, String> {
     let base = given.plan.parent().unwrap_or(Path::new(""));
     let mut rows = Vec::new();
     for (number, row) in (1..).zip(&plan.row) {
-        let set = row.captures.set().map_err(|error| wrong(format!("row {number}: {error}")))?;
+        let patterns = row.captures.matchers().map_err(|error| wrong(format!("row {number}: {error}")))?;
         if row.captures.each().is_empty() || row.grammars.is_empty() && row.images.is_empty() {
             return Err(wrong(format!("row {number} needs a pattern of captures, and a grammar or an image")));
         }
-        rows.push(Ready { set, machines: session.load_row(base, row) });
+        rows.push(Ready { patterns, machines: session.load_row(base, row) });
     }
     session.add_tasks(&given.folder, &rows);
-    for (number, (row, ready)) in (1..).zip(plan.row.iter().zip(&rows)) {
-        if !session.has_capture_of(&given.folder, ready) {
-            let patterns = crate::shown::name(row.captures.each().join(", ").as_ref());
-            session.problems.push(format!("row {number} of the plan finds no capture: {patterns}"));
-        }
+    for (number, row) in (1..).zip(&rows) {
+        session.tell_unfound(&given.folder, number, row);
     }
     Ok(session)
 }
@@ -111,10 +105,8 @@ fn below<'a>(folder: &Path, source: &'a Source) -> Option<&'a Path> {
     }
 }
 
-impl Ready {
-    fn names(&self, folder: &Path, source: &Source) -> bool {
-        below(folder, source).is_some_and(|path| self.set.is_match(path))
-    }
+fn names(pattern: &GlobMatcher, folder: &Path, source: &Source) -> bool {
+    below(folder, source).is_some_and(|path| pattern.is_match(path))
 }
 
 impl Session {
@@ -135,7 +127,7 @@ impl Session {
             let mut machines: Vec<usize> = Vec::new();
             let mut error = None;
             if let Ok(source) = &capture {
-                for row in rows.iter().filter(|row| row.names(folder, source)) {
+                for row in rows.iter().filter(|row| row.patterns.iter().any(|pattern| names(pattern, folder, source))) {
                     machines
                         .extend(row.machines.iter().filter(|machine| !machines.contains(machine)).collect::<Vec<_>>());
                 }
@@ -145,7 +137,14 @@ impl Session {
         }
     }
 
-    fn has_capture_of(&self, folder: &Path, row: &Ready) -> bool {
-        self.tasks.iter().any(|task| task.capture.as_ref().is_ok_and(|source| row.names(folder, source)))
+    /// Each pattern has to find a capture: one that is missing must not pass unseen.
+    fn tell_unfound(&mut self, folder: &Path, number: usize, row: &Ready) {
+        for pattern in &row.patterns {
+            let named = |task: &Task| task.capture.as_ref().is_ok_and(|source| names(pattern, folder, source));
+            if !self.tasks.iter().any(named) {
+                let pattern = crate::shown::name(pattern.glob().glob().as_ref());
+                self.problems.push(format!("row {number} of the plan finds no capture: {pattern}"));
+            }
+        }
     }
 }

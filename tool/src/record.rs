@@ -118,6 +118,11 @@ impl Capture {
         }
     }
 
+    /// Its name, or words in its place.
+    pub fn name(&self) -> &str {
+        self.file.as_deref().unwrap_or("(no capture)")
+    }
+
     /// The judgement that the outcome is of.
     pub fn deciding(&self) -> Option<&Judgement> {
         let outcome = self.outcome();

@@ -219,10 +219,11 @@ fn bar(tasks: usize) -> ProgressBar {
 /// The usual conventions: never with NO_COLOR, always with CLICOLOR_FORCE, else on a terminal.
 fn coloured(color: Color, terminal: bool) -> bool {
     let set = |name| std::env::var_os(name).is_some_and(|value| !value.is_empty());
+    let forced = set("CLICOLOR_FORCE") && std::env::var_os("CLICOLOR_FORCE").is_some_and(|value| value != "0");
     match color {
         Color::Always => true,
         Color::Never => false,
         Color::Auto if set("NO_COLOR") => false,
-        Color::Auto => terminal && std::env::var_os("TERM").is_none_or(|term| term != "dumb") || set("CLICOLOR_FORCE"),
+        Color::Auto => terminal && std::env::var_os("TERM").is_none_or(|term| term != "dumb") || forced,
     }
 }

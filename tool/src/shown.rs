@@ -95,6 +95,11 @@ pub fn list(things: &[String]) -> String {
     }
 }
 
+/// So many of a thing, by its name for one.
+pub fn count(number: usize, name: &str) -> String {
+    format!("{} {name}{}", grouped(number), if number == 1 { "" } else { "s" })
+}
+
 /// A number with its thousands apart.
 pub fn grouped(number: usize) -> String {
     let digits = number.to_string();

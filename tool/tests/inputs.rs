@@ -275,3 +275,26 @@ refused: shift/65537: refused 7 65537: the capture is longer than 65,535 bytes
         "hint: late: line 10000, column 5: expected 'F' (state) or 'B' (state), found '?'\n    4-1 ?\n        ^\n",
     );
 }
+
+/// What cannot be read is no empty capture, which this grammar accepts.
+#[test]
+fn a_standard_input_that_cannot_be_read_is_an_error() {
+    let folder = Folder::ring();
+    folder.file("all.peg", "all = .*;");
+    let lines = "error    -\n1 capture: 0 accepted, 1 error; 0 readings\n";
+    let folder_as_input = folder.shell("exec \"$@\" < .", "judge -g all.peg -");
+    folder_as_input.gives(2, lines, "error: -: cannot be read: Is a directory (os error 21)\n");
+    folder.shell("exec \"$@\" <&-", "judge -g all.peg -").writes(2, lines);
+}
+
+/// Where so many threads cannot be had, fewer judge.
+#[test]
+fn more_jobs_than_threads() {
+    let folder = Folder::ring();
+    for number in 0..400 {
+        folder.file(format!("shift/{number:03}"), FORMED);
+    }
+    let ran = folder.shell("ulimit -v 150000; exec \"$@\"", "judge -j 400 -g ring.peg shift");
+    let lines: String = (0..400).map(|number| format!("accepted shift/{number:03}\n")).collect();
+    ran.gives(0, &format!("{lines}400 captures: 400 accepted; 69,600 readings\n"), "");
+}

@@ -19,6 +19,7 @@ fn a_pipe_that_is_closed_early_is_2_and_no_panic() {
     for (format, first) in [
         ("text", "accepted shift/a-rather-long-name-of-a-capture-0000\n"),
         ("json", "{\n"),
+        ("csv", "file,bytes,sha256,grammar,grammar_sha256,matching,verdict,readings,end_state,end_head,end_symbol,line,column,expected,found,refusal,place,error,tool_version,tool_commit,archive_version,archive_sha256,time\n"),
         ("junit", "<?xml version=\"1.0\" encoding=\"UTF-8\"?>\n"),
     ] {
         let mut child = folder.tool(["judge", "-g", "ring.peg", "-f", format, "shift"]).spawn().unwrap();
@@ -180,6 +181,15 @@ fn out_to_a_pipe_or_to_standard_output() {
     folder.words("judge -g ring.peg -q --out /dev/stdout formed.capture").gives(0, ACCEPTED, "");
 }
 
+/// What stands in a file to which standard output is appended stays.
+#[test]
+fn out_to_an_appended_standard_output() {
+    let folder = Folder::ring();
+    folder.file("log", "old\n");
+    folder.shell("exec \"$@\" >> log", "judge -q -g ring.peg --out /dev/stdout formed.capture").gives(0, "", "");
+    assert_eq!(folder.text("log"), format!("old\n{ACCEPTED}"));
+}
+
 #[test]
 fn quiet_tells_only_what_could_not_be_done() {
     let folder = Folder::ring();
@@ -240,6 +250,14 @@ fn colours() {
     assert!(!ran.stdout.contains('\x1b'), "{}", ran.stdout);
     let ran = folder.words("judge --color always -g bad.peg formed.capture");
     assert!(ran.stderr.starts_with("\x1b[1merror:\x1b[0m bad.peg: line 1, column 2: "), "{}", ran.stderr);
+}
+
+/// By its convention 0 forces nothing.
+#[test]
+fn colours_are_not_forced_by_0() {
+    let folder = Folder::ring();
+    let ran = ran(folder.tool(["judge", "-g", "ring.peg", "formed.capture"]).env("CLICOLOR_FORCE", "0"));
+    ran.gives(0, ACCEPTED, "");
 }
 
 /// One line for each capture and one of totals on standard output; with a record there, nothing else.

@@ -104,6 +104,12 @@ fn what_cannot_be_read_is_2() {
         "error    no.capture\n1 capture: 0 accepted, 1 error; 0 readings\n",
         &format!("error: no.capture: cannot be read: {NO_FILE}\n"),
     );
+}
+
+/// The complaint of the grammar comes first. The capture was read: what is told of it names the grammar.
+#[test]
+fn an_unreadable_grammar_is_not_told_as_the_capture() {
+    let folder = Folder::ring();
     folder.folder("folder.peg");
     for (grammar, words) in [
         ("no.peg", NO_FILE),
@@ -112,11 +118,12 @@ fn what_cannot_be_read_is_2() {
         ("/dev/zero", "it is no grammar and no image: over 16 MiB"),
     ] {
         for option in ["-g", "-i"] {
-            folder.words(&format!("judge {option} {grammar} formed.capture")).gives(
-                2,
-                "error    formed.capture\n1 capture: 0 accepted, 1 error; 0 readings\n",
-                &format!("error: {grammar}: cannot be read: {words}\nerror: formed.capture: cannot be read: {words}\n"),
-            );
+            let ran = folder.words(&format!("judge {option} {grammar} formed.capture"));
+            ran.writes(2, "error    formed.capture\n1 capture: 0 accepted, 1 error; 0 readings\n");
+            let lines: Vec<&str> = ran.stderr.lines().collect();
+            assert_eq!(lines[0], format!("error: {grammar}: cannot be read: {words}"));
+            assert_eq!(lines.len(), 2, "{}", ran.stderr);
+            assert!(lines[1].starts_with("error: formed.capture: ") && lines[1].contains(grammar), "{}", lines[1]);
         }
     }
 }

@@ -34,7 +34,7 @@ fn told(answer: &Answer) -> Told {
 }
 
 fn cases(record: &Record, capture: &Capture) -> Vec<Case> {
-    let class = capture.file.clone().unwrap_or_else(|| "-".into());
+    let class = capture.name().to_string();
     if capture.judgements.is_empty() {
         let error = capture.error.clone().unwrap_or_else(|| "it was judged by no grammar".into());
         return vec![Case { name: class.clone(), class, told: Told::Error(error) }];

@@ -38,7 +38,7 @@ pub fn line(capture: &Capture, machines: &[Machine], style: Style) -> String {
     let outcome = capture.outcome();
     let mut line = style.outcome(outcome, &format!("{:<8}", outcome.word()));
     line.push(' ');
-    line.push_str(capture.file.as_deref().unwrap_or("-"));
+    line.push_str(capture.name());
     if let (true, true, Some(judgement)) =
         (capture.judgements.len() > 1, outcome != Outcome::Accepted, capture.deciding())
     {
@@ -49,21 +49,21 @@ pub fn line(capture: &Capture, machines: &[Machine], style: Style) -> String {
 
 /// The last line.
 pub fn totals(totals: &Totals) -> String {
-    let captures = if totals.captures == 1 { "capture" } else { "captures" };
-    let count = |number: u64| shown::grouped(number as usize);
-    let mut line = format!("{} {captures}: {} accepted", count(totals.captures), count(totals.accepted));
+    let grouped = |number: u64| shown::grouped(number as usize);
+    let mut line = shown::count(totals.captures as usize, "capture");
+    line.push_str(&format!(": {} accepted", grouped(totals.accepted)));
     for outcome in &Outcome::ALL[1..] {
         match totals.of(*outcome) {
             0 => {}
-            some => line.push_str(&format!(", {} {}", count(some), outcome.word())),
+            some => line.push_str(&format!(", {} {}", grouped(some), outcome.word())),
         }
     }
-    line + &format!("; {} readings", count(totals.readings))
+    line + "; " + &shown::count(totals.readings as usize, "reading")
 }
 
 /// Why a capture is not accepted, for a person: lines for each grammar that does not accept it.
 pub fn hints(capture: &Capture, machines: &[Machine], style: Style) -> Vec<String> {
-    let file = capture.file.as_deref().unwrap_or("-");
+    let file = capture.name();
     let mut lines = Vec::new();
     if let Some(error) = &capture.error {
         lines.push(format!("{} {file}: {error}", style.bold("error:")));
