@@ -1,12 +1,11 @@
 //! Captures: which files are meant, and reading them.
+use crate::descriptors;
 use sejimakpu::MAX_CAPTURE;
 use sha2::{Digest, Sha256};
 use std::collections::BTreeSet;
 use std::ffi::{OsStr, OsString};
 use std::fs::{self, DirEntry, File, FileType, Metadata};
 use std::io::{self, Read};
-use std::os::fd::AsFd;
-use std::os::unix::fs::{FileTypeExt, MetadataExt};
 use std::path::{Path, PathBuf};
 
 /// Where a capture comes from.
@@ -103,11 +102,8 @@ pub fn take(source: &Source, bytes: &mut Vec<u8>) -> io::Result<Taken> {
     let mut told = None;
     match source {
         Source::Input => {
-            let input = File::from(io::stdin().as_fd().try_clone_to_owned()?);
-            if is_null(&input)? {
-                return Err(io::Error::new(io::ErrorKind::InvalidInput, "standard input is closed, or is /dev/null"));
-            }
-            input.take(MOST as u64).read_to_end(bytes)?;
+            descriptors::input_open()?;
+            io::stdin().lock().take(MOST as u64).read_to_end(bytes)?;
         }
         Source::File(file) => {
             let file = File::open(file)?;
@@ -122,11 +118,4 @@ pub fn take(source: &Source, bytes: &mut Vec<u8>) -> io::Result<Taken> {
         return Ok(Taken { length: told.unwrap_or(0).max(MOST as u64), sha256: None });
     }
     Ok(Taken { length: bytes.len() as u64, sha256: Some(format!("{:x}", Sha256::digest(bytes))) })
-}
-
-/// Whether a file is /dev/null, which the runtime puts in the place of a closed standard input: an empty capture that nobody
-/// gave could be accepted.
-fn is_null(file: &File) -> io::Result<bool> {
-    let what = file.metadata()?;
-    Ok(what.file_type().is_char_device() && fs::metadata("/dev/null").is_ok_and(|null| null.rdev() == what.rdev()))
 }

@@ -2,6 +2,7 @@
 //! files, lends the cells, and tells what came out.
 mod captures;
 mod cli;
+mod descriptors;
 mod formats;
 mod grammar_command;
 mod hint;

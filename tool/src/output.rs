@@ -1,4 +1,5 @@
 //! Where records go: standard output, and files that appear when they are whole.
+use crate::descriptors;
 use crate::session::complain;
 use crate::status::Status;
 use std::ffi::OsString;
@@ -11,7 +12,8 @@ use std::sync::atomic::{AtomicUsize, Ordering};
 /// Writes to standard output, and says what could not be written.
 pub fn print(bytes: &[u8]) -> Status {
     let mut out = io::stdout().lock();
-    written("standard output", out.write_all(bytes).and_then(|()| out.flush()))
+    let printed = descriptors::output_open().and_then(|()| out.write_all(bytes)).and_then(|()| out.flush());
+    written("standard output", printed)
 }
 
 /// Says what could not be written.

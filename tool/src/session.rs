@@ -1,6 +1,7 @@
 //! One call of the tool: captures judged, told as they come, and the record written.
 use crate::captures;
 use crate::cli::{self, Color, Format};
+use crate::descriptors;
 use crate::formats::{self, text};
 use crate::judging::{self, Task};
 use crate::machines::Machine;
@@ -114,8 +115,8 @@ fn write_record(record: &Record, format: Format, output: &cli::Output, status: S
         None if format == Format::Text => Status::Accepted,
         None => {
             let mut out = BufWriter::new(io::stdout().lock());
-            let result = formats::write(format, record, status, &mut out).and_then(|()| out.flush());
-            output::written("standard output", result)
+            let result = descriptors::output_open().and_then(|()| formats::write(format, record, status, &mut out));
+            output::written("standard output", result.and_then(|()| out.flush()))
         }
     }
 }
@@ -190,7 +191,8 @@ impl Teller {
     fn written(&mut self, write: impl FnOnce(&mut BufWriter<Stdout>) -> io::Result<()>) {
         if self.status == Status::Accepted {
             let out = &mut self.out;
-            if let Err(error) = self.progress.suspend(|| write(out)) {
+            let open = descriptors::output_open();
+            if let Err(error) = open.and_then(|()| self.progress.suspend(|| write(out))) {
                 self.status = output::written("standard output", Err(error));
             }
         }

@@ -56,7 +56,7 @@ fn help_of_every_command() {
         ("", "sejimakpu <COMMAND>", &["judge", "shift", "grammar", "selftest", "completions", "Status: 0"][..]),
         (
             "judge",
-            "sejimakpu judge [OPTIONS] <CAPTURE>...",
+            "sejimakpu judge -g <GRAMMAR>.. [OPTIONS] <CAPTURE>..",
             &["--grammar", "--image", "--leading", "--format", "--out", "--report", "--jobs", "--quiet", "--color"],
         ),
         (

@@ -84,7 +84,7 @@ fn answer(capture: &str, machine: &str) -> Map<String, Value> {
     };
     let parts = match (machine, capture) {
         ("bad.peg", _) => vec![refused(15, 6)],
-        ("no.peg", _) => vec![json!({"verdict": "error", "error": NO_FILE})],
+        ("no.peg", _) => vec![json!({"verdict": "error", "error": format!("no.peg: {NO_FILE}")})],
         (_, "long.capture") => vec![refused(7, 65_536)],
         ("ring.peg", "formed.capture") => vec![judged("accepted", 174, [2, 25, 0])],
         ("ring.peg", _) => vec![judged("stuck", 105, [2, 13, 0]), hint(3, 3, &["'1'-'8' (port)"], "'?'", None)],

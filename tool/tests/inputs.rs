@@ -287,14 +287,16 @@ fn a_standard_input_that_cannot_be_read_is_an_error() {
     folder.shell("exec \"$@\" <&-", "judge -g all.peg -").writes(2, lines);
 }
 
-/// Where so many threads cannot be had, fewer judge.
+/// Where so many threads cannot be had, fewer judge. Each is given 300 MB for its stack here, and there is 1 GB for all.
 #[test]
 fn more_jobs_than_threads() {
     let folder = Folder::ring();
-    for number in 0..400 {
-        folder.file(format!("shift/{number:03}"), FORMED);
+    for number in 0..40 {
+        folder.file(format!("shift/{number:02}"), FORMED);
     }
-    let ran = folder.shell("ulimit -v 150000; exec \"$@\"", "judge -j 400 -g ring.peg shift");
-    let lines: String = (0..400).map(|number| format!("accepted shift/{number:03}\n")).collect();
-    ran.gives(0, &format!("{lines}400 captures: 400 accepted; 69,600 readings\n"), "");
+    let script = "ulimit -v 1000000; RUST_MIN_STACK=300000000 exec \"$@\"";
+    let lines: String = (0..40).map(|number| format!("accepted shift/{number:02}\n")).collect();
+    let lines = format!("{lines}40 captures: 40 accepted; 6,960 readings\n");
+    folder.shell(script, "judge -j 1 -g ring.peg shift").gives(0, &lines, "");
+    folder.shell(script, "judge -j 40 -g ring.peg shift").gives(0, &lines, "");
 }

@@ -108,6 +108,7 @@ fn every_outcome() {
     assert_eq!(ran.status, Some(2));
     let suite = read(&ran.stdout);
     let no_file = "cannot be read: No such file or directory (os error 2)";
+    let no_grammar = format!("no.peg: {no_file}");
     let looping =
         "looping: line 1, column 1: list goes round in a circle without reading on, at '1' (readings 3, end 1 1 1)";
     let stopped = |word: &str| {
@@ -121,14 +122,14 @@ fn every_outcome() {
         cases.push(case(capture, "ring.peg", ring));
         cases.push(case(capture, "list.peg", &["failure", looping]));
         cases.push(case(capture, "bad.peg", &["error", bad]));
-        cases.push(case(capture, "no.peg", &["error", no_file]));
+        cases.push(case(capture, "no.peg", &["error", &no_grammar]));
         cases.push(case(capture, "ended.image", &["failure", &stopped("ended")]));
         cases.push(case(capture, "halted.image", &["failure", &stopped("halted")]));
     }
     for machine in machines {
         let words = match machine {
             "bad.peg" => bad,
-            "no.peg" => no_file,
+            "no.peg" => &no_grammar,
             _ => long,
         };
         cases.push(case("long.capture", machine, &["error", words]));

@@ -181,6 +181,14 @@ fn out_to_a_pipe_or_to_standard_output() {
     folder.words("judge -g ring.peg -q --out /dev/stdout formed.capture").gives(0, ACCEPTED, "");
 }
 
+/// One of the two would be lost.
+#[test]
+fn out_and_report_to_one_file_is_2() {
+    let folder = Folder::ring();
+    let ran = folder.words("judge -g ring.peg --out same.html --report same.html formed.capture");
+    assert_eq!(ran.status, Some(2), "{ran:?}");
+}
+
 /// What stands in a file to which standard output is appended stays.
 #[test]
 fn out_to_an_appended_standard_output() {

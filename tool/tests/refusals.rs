@@ -4,15 +4,13 @@ use common::*;
 
 const NO_FILE: &str = "No such file or directory (os error 2)";
 
-/// A refused grammar or image: the complaint comes first, then a line for each capture, and none is accepted.
+/// A refused grammar or image: it is told once, each capture has its line, and none is accepted.
 #[track_caller]
 fn refused(folder: &Folder, option: &str, file: &str, complaint: &str, refusal: &str) {
     folder.words(&format!("judge {option} {file} formed.capture broken.capture")).gives(
         2,
         "refused  formed.capture\nrefused  broken.capture\n2 captures: 0 accepted, 2 refused; 0 readings\n",
-        &format!(
-            "error: {file}: {complaint}\nrefused: formed.capture: {refusal}\nrefused: broken.capture: {refusal}\n"
-        ),
+        &format!("error: {file}: {complaint}\n"),
     );
 }
 
@@ -106,7 +104,7 @@ fn what_cannot_be_read_is_2() {
     );
 }
 
-/// The complaint of the grammar comes first. The capture was read: what is told of it names the grammar.
+/// It is told once, by its own name: the captures could be read.
 #[test]
 fn an_unreadable_grammar_is_not_told_as_the_capture() {
     let folder = Folder::ring();
@@ -120,10 +118,7 @@ fn an_unreadable_grammar_is_not_told_as_the_capture() {
         for option in ["-g", "-i"] {
             let ran = folder.words(&format!("judge {option} {grammar} formed.capture"));
             ran.writes(2, "error    formed.capture\n1 capture: 0 accepted, 1 error; 0 readings\n");
-            let lines: Vec<&str> = ran.stderr.lines().collect();
-            assert_eq!(lines[0], format!("error: {grammar}: cannot be read: {words}"));
-            assert_eq!(lines.len(), 2, "{}", ran.stderr);
-            assert!(lines[1].starts_with("error: formed.capture: ") && lines[1].contains(grammar), "{}", lines[1]);
+            assert_eq!(ran.stderr, format!("error: {grammar}: cannot be read: {words}\n"));
         }
     }
 }

@@ -103,11 +103,11 @@ fn a_row_that_finds_no_capture_is_told() {
         row("\"**\"", "grammars = [\"ring.peg\"]\nmatching = \"leading\"") + &row("[\"none*\", \"sub/none\"]", BY_RING);
     shift(&folder, &plan).gives(
         2,
-        "accepted caps/a.capture\naccepted caps/sub/b.capture\naccepted caps/sub/deep/c.capture\nerror    -\n3 captures: 3 accepted, 1 error; 465 readings\n",
-        "error: -: row 2 of the plan finds no capture: none*, sub/none\n",
+        "accepted caps/a.capture\naccepted caps/sub/b.capture\naccepted caps/sub/deep/c.capture\nerror    (no capture)\nerror    (no capture)\n3 captures: 3 accepted, 2 error; 465 readings\n",
+        "error: (no capture): row 2 of the plan finds no capture: none*\nerror: (no capture): row 2 of the plan finds no capture: sub/none\n",
     );
     let quiet = folder.words("shift -q plans/plan.toml caps");
-    quiet.gives(2, "", "error: -: row 2 of the plan finds no capture: none*, sub/none\n");
+    quiet.gives(2, "", "error: (no capture): row 2 of the plan finds no capture: none*\nerror: (no capture): row 2 of the plan finds no capture: sub/none\n");
 }
 
 /// A capture that the plan lists by name and that is not there has not passed.
@@ -127,7 +127,7 @@ fn a_pattern_that_finds_none_is_escaped() {
     let plan =
         row("\"**\"", "grammars = [\"ring.peg\"]\nmatching = \"leading\"") + &row("\"x\\naccepted y\\u001b\"", BY_RING);
     let ran = shift(&folder, &plan);
-    assert_eq!(ran.stderr, "error: -: row 2 of the plan finds no capture: x\\naccepted y\\u{1b}\n");
+    assert_eq!(ran.stderr, "error: (no capture): row 2 of the plan finds no capture: x\\naccepted y\\u{1b}\n");
 }
 
 /// Nor does a field that is not known make a line of its own.
@@ -185,7 +185,7 @@ fn what_was_not_judged_passes_in_no_format() {
     }
     assert_eq!(
         run("text"),
-        "error    caps/a.capture\naccepted caps/sub/b.capture\nstuck    caps/sub/deep/c.capture\nerror    -\n3 captures: 1 accepted, 1 stuck, 2 error; 279 readings\n"
+        "error    caps/a.capture\naccepted caps/sub/b.capture\nstuck    caps/sub/deep/c.capture\nerror    (no capture)\n3 captures: 1 accepted, 1 stuck, 2 error; 279 readings\n"
     );
 }
 
@@ -251,8 +251,8 @@ fn a_plan_or_folder_that_cannot_be_read() {
     }
     folder.words("shift plans/plan.toml none").gives(
         2,
-        "error    none\nerror    -\n1 capture: 0 accepted, 2 error; 0 readings\n",
-        "error: none: there is no capture in this folder\nerror: -: row 1 of the plan finds no capture: **\n",
+        "error    none\nerror    (no capture)\n1 capture: 0 accepted, 2 error; 0 readings\n",
+        "error: none: there is no capture in this folder\nerror: (no capture): row 1 of the plan finds no capture: **\n",
     );
 }
 

@@ -216,11 +216,11 @@ fn a_grammar_given_twice_judges_once() {
     folder.words("judge -g ring.peg -g ring.peg broken.capture").gives(1, STUCK, BROKEN_HINT);
 }
 
-/// Memory that is not there is an error of the capture, and the others are judged.
+/// Where there is no memory for the cells, the library's refusal of too few stays, and the others are judged.
 #[test]
 fn too_little_memory_is_2() {
     let folder = Folder::ring();
     folder.file("big.capture", FORMED.repeat(2_700));
     let ran = folder.shell("ulimit -v 60000; exec \"$@\"", "judge -j 1 -g ring.peg big.capture formed.capture");
-    ran.writes(2, "error    big.capture\naccepted formed.capture\n2 captures: 1 accepted, 1 error; 174 readings\n");
+    ran.writes(2, "refused  big.capture\naccepted formed.capture\n2 captures: 1 accepted, 1 refused; 174 readings\n");
 }
