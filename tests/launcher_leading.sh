@@ -91,7 +91,7 @@ reader 'printf "\004\000\000\000"'
 # accept_instead NAME SCRIPT STATUS LINE LAST-ERROR
 accept_instead() {
     stand_in accept "$2"
-    says "accept: $1" "$3" "$4" "$5" "$stand/judge" --leading "$work/a.grammar" "$a"
+    says "accept: $1" "$3" "$4" "$5" "$stand/launcher/program" --leading "$work/a.grammar" "$a"
 }
 no_accept='judge: the program accept gave no answer'
 no_accept_line='judge: the program accept gave no line'
@@ -124,18 +124,18 @@ accept_instead 'words, and accepted' 'echo words >&2; echo accepted 4 2 2 0' 0 '
 # three words, and no input: the option, the grammar's bytes, the capture
 given='echo $# "$1" $(od -An -tx1 <"$2") $(od -An -tx1 <"$3") $(wc -c) >&2; echo accepted 4 2 2 0'
 accept_instead 'what it is given' "$given" 0 'accepted 4 2 2 0' '3 --leading 05 61 61 00 61 0'
-says 'accept: given the bytes of a text' 0 'accepted 4 2 2 0' '3 --leading 04 00 00 00 61 0' "$stand/judge" --leading "$work/short.peg" "$a"
+says 'accept: given the bytes of a text' 0 'accepted 4 2 2 0' '3 --leading 04 00 00 00 61 0' "$stand/launcher/program" --leading "$work/short.peg" "$a"
 says "accept: not given the launcher's input" 0 'accepted 4 2 2 0' '3 --leading 05 61 61 00 61 0' \
-    bash -c 'printf more | "$@"' - "$stand/judge" --leading "$work/a.grammar" "$a"
+    bash -c 'printf more | "$@"' - "$stand/launcher/program" --leading "$work/a.grammar" "$a"
 # it answers by its capture, of which the first is empty: that of the grammar alone
 stand_in accept 'case $(cat "$3") in b) exit 1 ;; c) echo accepted 12345678901 2 2 0 ;; *) echo accepted 4 2 2 0 ;; esac'
-says 'accept: a failure in the middle' 2 "accepted 4 2 2 0 $a" "$no_accept_line" "$stand/judge" --leading "$work/a.grammar" "$a" "$b" "$a"
-says 'accept: readings of more than 32 bits' 2 "accepted 4 2 2 0 $a" "$no_accept" "$stand/judge" --leading "$work/a.grammar" "$a" "$c" "$a"
+says 'accept: a failure in the middle' 2 "accepted 4 2 2 0 $a" "$no_accept_line" "$stand/launcher/program" --leading "$work/a.grammar" "$a" "$b" "$a"
+says 'accept: readings of more than 32 bits' 2 "accepted 4 2 2 0 $a" "$no_accept" "$stand/launcher/program" --leading "$work/a.grammar" "$a" "$c" "$a"
 stand_in accept 'case $(cat "$3") in a) echo accepted 4 2 2 0 ;; *) exit 1 ;; esac'
-says 'accept: no answer for the grammar alone' 2 '' "$no_accept_line" "$stand/judge" --leading "$work/a.grammar" "$a" "$a"
+says 'accept: no answer for the grammar alone' 2 '' "$no_accept_line" "$stand/launcher/program" --leading "$work/a.grammar" "$a" "$a"
 program 'echo ended 1 0 0 0'
 stand_in accept 'exit 3'
-says 'accept is not asked without the option' 1 'ended 1 0 0 0' '' "$stand/judge" "$work/a.grammar" "$a"
+says 'accept is not asked without the option' 1 'ended 1 0 0 0' '' "$stand/launcher/program" "$work/a.grammar" "$a"
 
 # building accept: first the library by rt, then accept by a C compiler, each where it is not there
 mkdir "$stand/include"
@@ -145,7 +145,7 @@ library=$stand/target/staticlib/libsejimakpu.a
 # tool NAME: standard input is the script of rt or of a compiler
 tool() { { printf '#!/bin/sh\n' && cat; } >"$stand/bin/$1" && chmod +x "$stand/bin/$1"; }
 # builds NAME STATUS LINE LAST-ERROR [CAPTURE]: with the tools that are there now, of the capture a, and of another too
-builds() { says "building: $1" "$2" "$3" "$4" env PATH="$stand/bin:$stand/tools" "$stand/judge" --leading "$work/a.grammar" "$a" "${@:5}"; }
+builds() { says "building: $1" "$2" "$3" "$4" env PATH="$stand/bin:$stand/tools" "$stand/launcher/program" --leading "$work/a.grammar" "$a" "${@:5}"; }
 unbuilt='judge: the program accept could not be built; where the library is older than include/sejimakpu.h, build it again: rt staticlib sejimakpu'
 no_library='judge: the library could not be built'
 no_compiler='judge: the program accept is not built, and no C compiler (cc or gcc) is here to build it'

@@ -45,7 +45,7 @@ says 'names in another locale' 0 "$lines$(totals 13 0 0 0 0 0 52)" '' env -C "$w
 says 'missing among several' 2 '' "judge: no such file: $work/missing" "$judge" "$work/a.grammar" "$a" "$work/missing" "$a"
 says 'no name among several' 2 '' 'judge: no such file: ' "$judge" "$work/a.grammar" "$a" '' "$a"
 says 'directory at the end' 2 '' "judge: is a directory: $work" "$judge" "$work/a.grammar" "$a" "$a" "$work"
-says 'unreadable among several' 2 '' "judge: cannot be read: $work/secret" "${other[@]}" "$stand/judge" "$work/a.grammar" "$a" "$work/secret" "$a"
+says 'unreadable among several' 2 '' "judge: cannot be read: $work/secret" "${other[@]}" "$stand/launcher/program" "$work/a.grammar" "$a" "$work/secret" "$a"
 says 'read error among several' 2 '' "judge: cannot be read to its end: $formed" \
     env READS=44f LD_PRELOAD="$work/calls.so" "$judge" "$work/a.grammar" "$a" "$formed" "$a"
 says 'missing among several, and a wrong text' 2 '' "judge: no such file: $work/missing" "$judge" "$work/short.peg" "$a" "$work/missing"
@@ -82,38 +82,38 @@ printf 'c' >"$work/c.capture"
 c=$work/c.capture
 program 'echo accepted 4294967295 2 2 0'
 says 'a sum past 32 bits' 0 "accepted 4294967295 2 2 0 $a${feed}accepted 4294967295 2 2 0 $a${feed}accepted 4294967295 2 2 0 $a$feed$(totals 3 0 0 0 0 0 12884901885)" '' \
-    "$stand/judge" "$work/a.grammar" "$a" "$a" "$a"
+    "$stand/launcher/program" "$work/a.grammar" "$a" "$a" "$a"
 printf 'd' >"$work/d.capture"
 d=$work/d.capture
 program 'case $(tail -c 1) in a) echo ended 5 0 0 0 ;; b) echo looping 7 0 0 0 ;; c) echo refused 9 1000 ;; d) echo halted 13 0 0 0 ;; *) echo stuck 11 0 0 0 ;; esac'
 says 'every kind of line' 2 \
     "ended 5 0 0 0 $a${feed}looping 7 0 0 0 $b${feed}refused 9 1000 $c${feed}halted 13 0 0 0 $d${feed}stuck 11 0 0 0 $work/1090.capture${feed}ended 5 0 0 0 $a${feed}halted 13 0 0 0 $d${feed}halted 13 0 0 0 $d$feed$(totals 0 2 1 1 3 1 67)" '' \
-    "$stand/judge" "$work/a.grammar" "$a" "$b" "$c" "$d" "$work/1090.capture" "$a" "$d" "$d"
-says 'several halted' 1 "halted 13 0 0 0 $d${feed}halted 13 0 0 0 $d$feed$(totals 0 0 0 0 2 0 26)" '' "$stand/judge" "$work/a.grammar" "$d" "$d"
+    "$stand/launcher/program" "$work/a.grammar" "$a" "$b" "$c" "$d" "$work/1090.capture" "$a" "$d" "$d"
+says 'several halted' 1 "halted 13 0 0 0 $d${feed}halted 13 0 0 0 $d$feed$(totals 0 0 0 0 2 0 26)" '' "$stand/launcher/program" "$work/a.grammar" "$d" "$d"
 reader 'printf x >>"${0%/*}/reads"; printf "\004\000\000\000"'
-says 'a text for several' 1 "ended 5 0 0 0 $a${feed}looping 7 0 0 0 $b$feed$(totals 0 1 0 1 0 0 12)" '' "$stand/judge" "$work/short.peg" "$a" "$b"
+says 'a text for several' 1 "ended 5 0 0 0 $a${feed}looping 7 0 0 0 $b$feed$(totals 0 1 0 1 0 0 12)" '' "$stand/launcher/program" "$work/short.peg" "$a" "$b"
 same 'a text for several is read once' 0 x cat "$stand/target/bin/reads"
 rm "$stand/target/bin/reads"
 
 # one that is halted passes no shift
 program 'case $(tail -c 1) in d) echo halted 13 0 0 0 ;; *) echo accepted 4 2 2 0 ;; esac'
-says 'others accepted, the last halted' 1 "accepted 4 2 2 0 $a${feed}halted 13 0 0 0 $d$feed$(totals 1 0 0 0 1 0 17)" '' "$stand/judge" "$work/a.grammar" "$a" "$d"
+says 'others accepted, the last halted' 1 "accepted 4 2 2 0 $a${feed}halted 13 0 0 0 $d$feed$(totals 1 0 0 0 1 0 17)" '' "$stand/launcher/program" "$work/a.grammar" "$a" "$d"
 
 # failures in the middle: the lines before are there, and no totals
 program 'case $(tail -c 1) in b) exit 3 ;; c) echo accepted 12345678901 2 2 0 ;; *) echo accepted 4 2 2 0 ;; esac'
-says 'a failure in the middle' 2 "accepted 4 2 2 0 $a" 'judge: the program failed with status 3' "$stand/judge" "$work/a.grammar" "$a" "$b" "$a"
-says 'readings of more than 32 bits' 2 "accepted 4 2 2 0 $a" 'judge: the program gave no answer' "$stand/judge" "$work/a.grammar" "$a" "$c" "$a"
+says 'a failure in the middle' 2 "accepted 4 2 2 0 $a" 'judge: the program failed with status 3' "$stand/launcher/program" "$work/a.grammar" "$a" "$b" "$a"
+says 'readings of more than 32 bits' 2 "accepted 4 2 2 0 $a" 'judge: the program gave no answer' "$stand/launcher/program" "$work/a.grammar" "$a" "$c" "$a"
 program 'case $(tail -c 1) in a) echo accepted 4 2 2 0 ;; esac'
-says 'no answer for the grammar alone' 2 '' 'judge: the program gave no line' "$stand/judge" "$work/a.grammar" "$a" "$a"
+says 'no answer for the grammar alone' 2 '' 'judge: the program gave no line' "$stand/launcher/program" "$work/a.grammar" "$a" "$a"
 
 # output that is full: from the start, or a file of 1,024 bytes at most, which four lines with names of 238 bytes fill
 program 'echo accepted 4 2 2 0'
 printf -v long '%238s' '' && long=${long// /n}
 cp "$a" "$work/names/$long"
 line="accepted 4 2 2 0 $long"
-several_to_full() { "$stand/judge" "$work/a.grammar" "$work/a.capture" "$work/a.capture" >/dev/full; }
-several_to_closed() { "$stand/judge" "$work/a.grammar" "$work/a.capture" "$work/a.capture" >&-; }
-fill() { ulimit -f 1 && cd "$work/names" && "$stand/judge" "$work/a.grammar" "$@"; }
+several_to_full() { "$stand/launcher/program" "$work/a.grammar" "$work/a.capture" "$work/a.capture" >/dev/full; }
+several_to_closed() { "$stand/launcher/program" "$work/a.grammar" "$work/a.capture" "$work/a.capture" >&-; }
+fill() { ulimit -f 1 && cd "$work/names" && "$stand/launcher/program" "$work/a.grammar" "$@"; }
 export stand
 export -f several_to_full several_to_closed fill
 says 'several, output full' 2 '' "$unwritten" bash -c several_to_full
@@ -123,7 +123,7 @@ says 'output full before the totals' 2 "$line$feed$line$feed$line$feed$line" "$u
 # a reader that takes one line; the program waits for its end before the second
 program "case \$(tail -c 1) in b) until [ -e '$work/closed' ]; do sleep 0.05; done ;; esac; echo accepted 4 2 2 0"
 to_short_reader() {
-    ("$stand/judge" "$work/a.grammar" "$work/a.capture" "$work/b.capture" "$work/a.capture"; printf '%s' "$?" >"$work/code") |
+    ("$stand/launcher/program" "$work/a.grammar" "$work/a.capture" "$work/b.capture" "$work/a.capture"; printf '%s' "$?" >"$work/code") |
         { IFS= read -r first; printf '%s\n' "$first"; exec <&-; : >"$work/closed"; }
     return "$(cat "$work/code")"
 }

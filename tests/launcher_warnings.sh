@@ -67,18 +67,18 @@ same 'temporary files of a warning removed' 0 '' ls -A "$work/temporary"
 # check_instead NAME SCRIPT STATUS LINE LAST-ERROR: of the text a=. for which the others give an answer
 check_instead() {
     reader "$grammar" "$2"
-    says "$1" "$3" "$4" "$5" "$stand/judge" "$work/short.peg" "$a"
+    says "$1" "$3" "$4" "$5" "$stand/launcher/program" "$work/short.peg" "$a"
 }
 program 'echo "ended 1 0 0 0"'
 grammar='printf "\004\000\000\000"'
 check_instead 'the text is checked' 'cat >&2; echo >&2; echo passes' 1 'ended 1 0 0 0' 'a=.'
 reader "$grammar" 'printf x >>"${0%/*}/checks"; echo passes'
-says 'a text for several is checked' 1 "ended 1 0 0 0 $a${feed}ended 1 0 0 0 $b$feed$(totals 0 2 0 0 0 0 2)" '' "$stand/judge" "$work/short.peg" "$a" "$b"
+says 'a text for several is checked' 1 "ended 1 0 0 0 $a${feed}ended 1 0 0 0 $b$feed$(totals 0 2 0 0 0 0 2)" '' "$stand/launcher/program" "$work/short.peg" "$a" "$b"
 same 'and checked once' 0 x cat "$stand/target/bin/checks"
 rm "$stand/target/bin/checks"
-says 'bytes are not checked' 1 'ended 1 0 0 0' '' "$stand/judge" "$work/a.grammar" "$a"
+says 'bytes are not checked' 1 'ended 1 0 0 0' '' "$stand/launcher/program" "$work/a.grammar" "$a"
 reader 'echo refused 15 3' 'printf x >>"${0%/*}/checks"; echo passes'
-says 'a refused text is not checked' 2 'refused 15 3' '       ^' "$stand/judge" "$work/short.peg" "$a"
+says 'a refused text is not checked' 2 'refused 15 3' '       ^' "$stand/launcher/program" "$work/short.peg" "$a"
 same 'not checked' 1 '' test -e "$stand/target/bin/checks"
 
 # the program that checks gives no answer: nothing is judged
