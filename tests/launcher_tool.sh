@@ -26,11 +26,11 @@ alike 'a missing grammar' 2 "$work/missing" "$a"
 alike 'leading, and stuck without it' 0 --leading "$typed" "$broken"
 alike several 1 "$typed" "$formed" "$broken"
 alike 'several, one refused' 2 "$work/empty.grammar" "$work/none" "$work/65536.capture" "$a"
-tool_to_full() { "$here/judge" "$work/a.grammar" "$work/a.capture" >/dev/full; }
+on_full() { "$@" >/dev/full; }
 tool_to_closed() { "$here/judge" "$work/a.grammar" "$work/a.capture" >&-; }
 export here
-export -f tool_to_full tool_to_closed
-same 'tool: output full' 2 'error: standard output: cannot be written: No space left on device (os error 28)' bash -c tool_to_full
+export -f tool_to_closed
+same 'tool: output full' 2 "$(on_full "$tool" judge -g "$work/a.grammar" "$a" 2>&1)" on_full "$launcher" "$work/a.grammar" "$a"
 says 'tool: output closed' 2 '' 'judge: standard output is closed' bash -c tool_to_closed
 
 # no arguments: what the sample call gives, after the selftest
