@@ -164,8 +164,10 @@ impl Parse<'_> {
                 Rule::Not(_) => None,
                 Rule::Range(0, 255) => Some(END.into()),
                 Rule::Range(low, high) => name(format!("no {}", shown::range(low, high))),
-                // A helper rule has no name of its own.
-                _ if other < self.grammar.lines().len() => name(format!("no {}", called(self.grammar, other))),
+                // A helper rule of a text has no name of its own.
+                _ if self.grammar.lines().is_empty() || other < self.grammar.lines().len() => {
+                    name(format!("no {}", called(self.grammar, other)))
+                }
                 _ => name("something else".into()),
             },
             _ => None,

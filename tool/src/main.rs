@@ -37,15 +37,28 @@ fn main() -> ExitCode {
     status.into()
 }
 
+/// Leaves with a message on how the tool is used, and status 2.
+fn misused(words: &str) -> ! {
+    Cli::command().error(ErrorKind::ArgumentConflict, words).exit()
+}
+
+/// Record and page in one file: one of the two would be lost.
+fn check_files(output: &cli::Output) {
+    if output.out.is_some() && output.out == output.report {
+        misused("the record and the page cannot go to one file");
+    }
+}
+
 fn judge(given: &cli::Judge) -> Status {
+    check_files(&given.output);
     if given.captures.iter().filter(|name| *name == "-").count() > 1 {
-        let words = "standard input, -, is one capture and can be given once";
-        Cli::command().error(ErrorKind::ArgumentConflict, words).exit();
+        misused("standard input, -, is one capture and can be given once");
     }
     Session::of(given).run(&given.output)
 }
 
 fn shift(given: &cli::Shift) -> Status {
+    check_files(&given.output);
     match plan::session(given) {
         Ok(session) => session.run(&given.output),
         Err(words) => {

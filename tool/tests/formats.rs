@@ -194,8 +194,11 @@ fn json_whole() {
     for capture in record["captures"].as_array_mut().unwrap() {
         is_time(&capture.as_object_mut().unwrap().remove("time").unwrap(), &from, &to);
     }
-    let grammar = |name: &str, kind: &str, bytes: Value, rules: Value| {
-        Value::Object(merged(&[of_machine(name), json!({"kind": kind, "grammar_bytes": bytes, "rules": rules})]))
+    let grammar = |name: &str, kind: &str, bytes: Value, rules: Value, more: Value| {
+        let right =
+            json!({"may_loop": null, "refusal": null, "place": null, "line": null, "column": null, "error": null});
+        let own = json!({"kind": kind, "grammar_bytes": bytes, "rules": rules});
+        Value::Object(merged(&[of_machine(name), own, right, more]))
     };
     let capture = |name: &str, verdict: &str, error: Value, machines: &[&str]| {
         let judgements: Vec<_> = machines.iter().map(|machine| answer(name, machine)).collect();
@@ -210,12 +213,13 @@ fn json_whole() {
             "totals": {"captures": 4, "accepted": 0, "ended": 0, "stuck": 0, "looping": 0, "halted": 0, "refused": 0,
                 "error": 4, "readings": 174 + 105 + 2 * 5},
             "grammars": [
-                grammar("ring.peg", "text", json!(RING.len()), json!(14)),
-                grammar("list.peg", "text", json!(LIST.len()), json!(4)),
-                grammar("bad.peg", "text", json!(7), Value::Null),
-                grammar("no.peg", "text", Value::Null, Value::Null),
-                grammar("ended.image", "image", json!(300), Value::Null),
-                grammar("halted.image", "image", json!(300), Value::Null),
+                grammar("ring.peg", "text", json!(RING.len()), json!(14), json!({"may_loop": false})),
+                grammar("list.peg", "text", json!(LIST.len()), json!(4), json!({"may_loop": true})),
+                grammar("bad.peg", "text", json!(7), Value::Null,
+                    json!({"refusal": 15, "place": 6, "line": 2, "column": 1})),
+                grammar("no.peg", "text", Value::Null, Value::Null, json!({"error": format!("no.peg: {NO_FILE}")})),
+                grammar("ended.image", "image", json!(300), Value::Null, json!({})),
+                grammar("halted.image", "image", json!(300), Value::Null, json!({})),
             ],
             "captures": [
                 capture("formed.capture", "error", Value::Null, &MACHINES),

@@ -73,7 +73,8 @@ fn grouped(number: usize) -> String {
 /// What `check` says of a grammar of so many rules and classes: a capture of n bytes by m rules needs
 /// 5 * (n + 2) * (2 * m + 1) notes and as many work cells, four bytes each.
 fn needs(name: &str, rules: usize, classes: usize, looping: &str) -> String {
-    let mut told = format!("{name}: {rules} of 31 rules, {classes} classes of bytes, {looping}\n");
+    let classes = if classes == 1 { "1 class".into() } else { format!("{classes} classes") };
+    let mut told = format!("{name}: {rules} of 31 rules, {classes} of bytes, {looping}\n");
     for length in [1_000, 10_000, 65_535] {
         let cells = 5 * (length + 2) * (2 * rules + 1);
         // Rounded to tenths of a million.

@@ -216,7 +216,7 @@ fn quiet_tells_only_what_could_not_be_done() {
     folder.words("judge -q -g bad.peg formed.capture").gives(
         2,
         "",
-        "error: bad.peg: line 1, column 2: the text ends early (refusal 15)\n    a\n     ^\nrefused: formed.capture: refused 15 1: the text is wrong at that place, or ends early\n",
+        "error: bad.peg: line 1, column 2: the text ends early (refusal 15)\n    a\n     ^\n",
     );
     folder.file("long.capture", [0; 65_536]);
     folder.words("judge -q -g ring.peg long.capture").gives(

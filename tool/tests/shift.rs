@@ -177,7 +177,7 @@ fn what_was_not_judged_passes_in_no_format() {
     assert_eq!(rows, verdicts.map(|(file, verdict, error)| [shown(file), shown(verdict), shown(error)]));
     let xml = run("junit");
     assert!(xml.contains("<testsuite name=\"sejimakpu\" tests=\"4\" failures=\"1\" errors=\"2\" "), "{xml}");
-    for (class, words) in [("caps/a.capture", unnamed), ("-", unfound)] {
+    for (class, words) in [("caps/a.capture", unnamed), ("(no capture)", unfound)] {
         let case = format!(
             "<testcase classname=\"{class}\" name=\"{class}\">\n    <error message=\"{words}\">{words}</error>"
         );

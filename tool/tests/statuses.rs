@@ -38,7 +38,7 @@ fn looping_is_1() {
         1,
         "looping  formed.capture\n1 capture: 0 accepted, 1 looping; 3 readings\n",
         "warning: list.peg: line 1, column 1: list leads back to itself before anything is consumed: a capture may be judged looping (refusal 19)
-    list = list comma item / item; comma = '…
+    list = list comma item / item; comma = ',-,'; item = 'a-z';
     ^
 hint: formed.capture: line 1, column 1: list goes round in a circle without reading on, at '1'
     1-2 F
@@ -63,7 +63,7 @@ fn ended_halted_stuck_and_looping_of_an_image_are_1() {
         folder.file("machine.image", image(rule));
         folder.words("judge --image machine.image formed.capture").gives(
             1,
-            &format!("{word:<8} formed.capture\n1 capture: 0 accepted, 1 {word}; 1 readings\n"),
+            &format!("{word:<8} formed.capture\n1 capture: 0 accepted, 1 {word}; 1 reading\n"),
             &format!(
                 "hint: formed.capture: line 1, column 1: the machine came this far; {word} at place 0 in state 0 with symbol 0, at '1'\n    1-2 F\n    ^\n"
             ),
