@@ -12,6 +12,12 @@ fn refused(folder: &Folder, option: &str, file: &str, complaint: &str, refusal: 
         "refused  formed.capture\nrefused  broken.capture\n2 captures: 0 accepted, 2 refused; 0 readings\n",
         &format!("error: {file}: {complaint}\n"),
     );
+    // The record has the library's refusal for each capture.
+    let rows = folder.words(&format!("judge {option} {file} --format jsonl formed.capture broken.capture")).stdout;
+    let told = |row: &serde_json::Value| format!("refused {} {}: ", row["refusal"], row["place"]);
+    let rows: Vec<_> = rows.lines().map(|line| told(&serde_json::from_str(line).unwrap())).collect();
+    assert_eq!(rows.len(), 2);
+    assert!(rows.iter().all(|row| refusal.starts_with(row)), "{rows:?} {refusal}");
 }
 
 #[test]
