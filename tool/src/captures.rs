@@ -16,6 +16,14 @@ pub enum Source {
 }
 
 impl Source {
+    /// The file, if it is one.
+    pub fn file(&self) -> Option<&Path> {
+        match self {
+            Source::Input => None,
+            Source::File(file) => Some(file),
+        }
+    }
+
     pub fn name(&self) -> &OsStr {
         match self {
             Source::Input => OsStr::new("-"),

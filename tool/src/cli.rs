@@ -26,7 +26,7 @@ pub enum Command {
     Judge(Judge),
     /// Judges a shift's captures as a plan says, which names the grammars for each
     ///
-    /// Every file below the folder must be named by a row of the plan, and every row must name a file: what is not judged
+    /// Every file below the folder must be named by a row of the plan, and each pattern must find one: what is not judged
     /// makes the status 2.
     Shift(Shift),
     /// Looks at grammars

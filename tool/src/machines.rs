@@ -49,11 +49,7 @@ impl Machine {
         Machine::load(file, kind_of(file), matching)
     }
 
-    pub fn of_image(file: &Path) -> Machine {
-        Machine::load(file, Kind::Image, Matching::default())
-    }
-
-    fn load(file: &Path, kind: Kind, matching: Matching) -> Machine {
+    pub fn load(file: &Path, kind: Kind, matching: Matching) -> Machine {
         let (bytes, error) = match read(file) {
             Ok(bytes) => (bytes, None),
             Err(error) => {

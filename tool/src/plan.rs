@@ -2,7 +2,6 @@
 use crate::captures::{self, Source};
 use crate::cli;
 use crate::judging::Task;
-use crate::machines::Machine;
 use crate::session::Session;
 use globset::{GlobBuilder, GlobMatcher};
 use sejimakpu::Matching;
@@ -110,15 +109,14 @@ fn names(pattern: &GlobMatcher, folder: &Path, source: &Source) -> bool {
 }
 
 impl Session {
-    /// The numbers of a row's machines, each loaded once for all rows.
+    /// The numbers of a row's machines.
     fn load_row(&mut self, base: &Path, row: &Row) -> Vec<usize> {
         let matching = match row.matching {
             RowMatching::Whole => Matching::Whole,
             RowMatching::Leading => Matching::Leading,
         };
-        let grammars = row.grammars.iter().map(|file| Machine::of_grammar(&base.join(file), matching));
-        let images = row.images.iter().map(|file| Machine::of_image(&base.join(file)));
-        grammars.chain(images).map(|machine| self.machine(machine)).collect()
+        let placed = |files: &[PathBuf]| files.iter().map(|file| base.join(file)).collect::<Vec<_>>();
+        self.load(&placed(&row.grammars), &placed(&row.images), matching)
     }
 
     /// Every file below the folder, by all rows that name it. One that no row names is told.

@@ -4,9 +4,9 @@ use crate::cli::{self, Color, Format};
 use crate::descriptors;
 use crate::formats::{self, text};
 use crate::judging::{self, Task};
-use crate::machines::Machine;
+use crate::machines::{self, Machine};
 use crate::output;
-use crate::record::{Capture, Record, Totals};
+use crate::record::{Capture, Kind, Record, Totals};
 use crate::report;
 use crate::shown;
 use crate::status::Status;
@@ -14,8 +14,11 @@ use crate::version::JudgedBy;
 use indicatif::{ProgressBar, ProgressDrawTarget, ProgressState, ProgressStyle};
 use sejimakpu::Matching;
 use std::fmt;
+use std::fs::{self, Metadata};
 use std::io::{self, BufWriter, IsTerminal, Stdout, Write};
 use std::num::NonZeroUsize;
+use std::os::unix::fs::MetadataExt;
+use std::path::{Path, PathBuf};
 use std::thread;
 use std::time::SystemTime;
 
@@ -33,9 +36,7 @@ impl Session {
     pub fn of(given: &cli::Judge) -> Session {
         let mut session = Session::default();
         let matching = if given.leading { Matching::Leading } else { Matching::Whole };
-        let grammars = given.grammar.iter().map(|file| Machine::of_grammar(file, matching));
-        let images = given.image.iter().map(|file| Machine::of_image(file));
-        let mut machines: Vec<usize> = grammars.chain(images).map(|machine| session.machine(machine)).collect();
+        let mut machines = session.load(&given.grammar, &given.image, matching);
         // One that is given twice judges once. Numbers are counted up in the order given.
         machines.sort_unstable();
         machines.dedup();
@@ -44,19 +45,39 @@ impl Session {
         session
     }
 
-    /// The number of a machine among those loaded; the same file for the same matching is one.
-    pub fn machine(&mut self, machine: Machine) -> usize {
-        let same = |other: &Machine| {
-            (&other.file, other.kind, other.matching) == (&machine.file, machine.kind, machine.matching)
-        };
+    /// The numbers of grammars and images, each read once: the same file for the same matching is one machine.
+    pub fn load(&mut self, grammars: &[PathBuf], images: &[PathBuf], matching: Matching) -> Vec<usize> {
+        let grammars = grammars.iter().map(|file| (file, machines::kind_of(file), matching));
+        let images = images.iter().map(|file| (file, Kind::Image, Matching::default()));
+        grammars.chain(images).map(|(file, kind, matching)| self.machine(file, kind, matching)).collect()
+    }
+
+    fn machine(&mut self, file: &Path, kind: Kind, matching: Matching) -> usize {
+        let same = |other: &Machine| (other.file.as_path(), other.kind, other.matching) == (file, kind, matching);
         self.machines.iter().position(same).unwrap_or_else(|| {
-            self.machines.push(machine);
+            self.machines.push(Machine::load(file, kind, matching));
             self.machines.len() - 1
         })
     }
 
+    /// A file that is to be written and is one of those that are judged or judge: it would be lost.
+    fn overwritten<'a>(&self, output: &'a cli::Output) -> Option<&'a Path> {
+        let identity =
+            |file: &Path| fs::metadata(file).ok().filter(Metadata::is_file).map(|what| (what.dev(), what.ino()));
+        let sources = || self.tasks.iter().filter_map(|task| task.capture.as_ref().ok()?.file());
+        let read = || sources().chain(self.machines.iter().map(|machine| machine.file.as_path()));
+        let written = [&output.out, &output.report].into_iter().flatten();
+        written
+            .map(PathBuf::as_path)
+            .find(|file| identity(file).is_some_and(|own| read().any(|other| identity(other) == Some(own))))
+    }
+
     /// Judges, tells and writes all of it.
     pub fn run(self, output: &cli::Output) -> Status {
+        if let Some(file) = self.overwritten(output) {
+            complain(&format!("error: {}: is a file that is read, and is not written", shown::name(file.as_os_str())));
+            return Status::Failed;
+        }
         let started = SystemTime::now();
         let format = output.format.or_else(|| formats::of_ending(output.out.as_deref()?)).unwrap_or(Format::Text);
         let as_text = !output.quiet && (output.out.is_some() || format == Format::Text);
@@ -167,9 +188,7 @@ impl Teller {
     fn capture(&mut self, capture: &Capture, machines: &[crate::record::Machine]) {
         let line = self.as_text.then(|| text::line(capture, machines, self.lines));
         line.iter().for_each(|line| self.line(line));
-        if self.hints || !capture.outcome().is_judged() {
-            self.remark(&text::hints(capture, machines, self.remarks));
-        }
+        self.remark(&text::remarks(capture, machines, self.hints, self.remarks));
         self.progress.inc(1);
     }
 

@@ -41,7 +41,11 @@ fn told(name: &str, dump: &[u8], kind: usize) -> Option<String> {
             let whole: String = dump[start..end].iter().map(|&byte| shown(byte)).collect();
             let carets = if place < end { shown(dump[place]).len() } else { 1 };
             let end_too = if column == 0 && line > 1 { "the end of the capture or " } else { "" };
-            let found = dump.get(place).map_or("the end of the capture".into(), |&byte| format!("'{}'", shown(byte)));
+            let found = match dump.get(place) {
+                None => "the end of the capture".into(),
+                Some(b'\'') => "'\\''".into(),
+                Some(&byte) => format!("'{}'", shown(byte)),
+            };
             let lines = [format!("    {whole}"), format!("    {}{}", " ".repeat(column), "^".repeat(carets))];
             return Some(format!(
                 "hint: {name}: line {line}, column {}: expected {end_too}{}, found {found}\n{}\n{}\n",
@@ -93,6 +97,14 @@ fn every_byte_replaced() {
                 assert!(hint.starts_with(&words) && hint.contains(", found '?'\n"), "{hint}");
             }
         }
+    }
+}
+
+#[test]
+fn every_value_of_a_byte() {
+    for place in [0, 9, 22] {
+        let replaced = |byte: u8| [&FORMED[..place], &[byte], &FORMED[place + 1..]].concat();
+        judged(&(0..=255).map(replaced).collect::<Vec<_>>());
     }
 }
 

@@ -207,3 +207,19 @@ fn names_and_bytes_survive() {
         }
     }
 }
+
+/// A reader of such files may know a test case by its two names only: a failure must not be covered by another that passed.
+#[test]
+fn no_two_cases_have_the_same_names() {
+    let folder = Folder::ring();
+    let row =
+        |matching: &str| format!("[[row]]\ncaptures = \"*\"\ngrammars = [\"ring.peg\"]\nmatching = \"{matching}\"\n");
+    folder.file("plan.toml", row("whole") + &row("leading"));
+    folder.file("caps/broken", BROKEN);
+    let ran = folder.words("shift plan.toml caps --format junit");
+    assert_eq!(ran.status, Some(1));
+    let suite = read(&ran.stdout);
+    assert_eq!(suite.cases.iter().map(|case| case.told.is_some()).collect::<Vec<_>>(), [true, false]);
+    let names = |case: &Case| (case.class.clone(), case.name.clone());
+    assert_ne!(names(&suite.cases[0]), names(&suite.cases[1]));
+}

@@ -230,6 +230,18 @@ fn quiet_tells_only_what_could_not_be_done() {
     assert_eq!(folder.words("judge -q -f jsonl -g ring.peg formed.capture").stdout.lines().count(), 1);
 }
 
+/// Also where another grammar could not judge.
+#[test]
+fn quiet_has_no_hint_beside_a_refusal() {
+    let folder = Folder::ring();
+    folder.file("bad.peg", "a");
+    folder.words("judge -q -g ring.peg -g bad.peg broken.capture").gives(
+        2,
+        "",
+        "error: bad.peg: line 1, column 2: the text ends early (refusal 15)\n    a\n     ^\nrefused: broken.capture: refused 15 1: the text is wrong at that place, or ends early (by bad.peg)\n",
+    );
+}
+
 #[test]
 fn colours() {
     let folder = Folder::ring();
@@ -281,4 +293,18 @@ fn standard_output_has_lines_and_totals_or_the_record() {
         assert_eq!(record.stdout.lines().count(), lines);
         assert_eq!((record.status, &record.stderr), (ran.status, &ran.stderr));
     }
+}
+
+/// A file that is judged, or that judges, is not written over.
+#[test]
+fn what_is_read_is_not_written() {
+    let folder = Folder::ring();
+    folder.link("formed.capture", "link.json");
+    for (option, file) in
+        [("--out", "formed.capture"), ("--out", "ring.peg"), ("--report", "formed.capture"), ("--out", "link.json")]
+    {
+        let told = format!("error: {file}: is a file that is read, and is not written\n");
+        folder.words(&format!("judge -g ring.peg {option} {file} formed.capture")).gives(2, "", &told);
+    }
+    assert_eq!((folder.text("formed.capture").as_bytes(), folder.text("ring.peg").as_bytes()), (FORMED, RING));
 }

@@ -256,6 +256,17 @@ fn a_plan_or_folder_that_cannot_be_read() {
     );
 }
 
+#[test]
+fn what_is_no_file_in_the_folder_is_an_error() {
+    let folder = folder();
+    folder.pipe("caps/pipe");
+    folder.link("nowhere", "caps/sub/link");
+    shift(&folder, &row("\"**\"", BY_RING)).writes(
+        2,
+        "accepted caps/a.capture\nerror    caps/pipe\naccepted caps/sub/b.capture\nstuck    caps/sub/deep/c.capture\nerror    caps/sub/link\n5 captures: 2 accepted, 1 stuck, 2 error; 453 readings\n",
+    );
+}
+
 /// A grammar that is refused or missing fails the captures of its row, and no others.
 #[test]
 fn a_bad_grammar_fails_its_rows_captures() {

@@ -1,5 +1,5 @@
 //! JUnit's XML: a test case for each capture and grammar. A verdict that is not accepted is a failure; what was not judged is an error.
-use crate::record::{self, Answer, Capture, Outcome, Record};
+use crate::record::{self, Answer, Capture, Machine, Outcome, Record};
 use quick_xml::events::{BytesDecl, BytesEnd, BytesStart, BytesText, Event};
 use quick_xml::Writer;
 use std::io::{self, Write};
@@ -33,6 +33,14 @@ fn told(answer: &Answer) -> Told {
     }
 }
 
+/// The grammar's name. One grammar may judge by both matchings, and no two cases may have one name.
+fn name(machine: &Machine) -> String {
+    match machine.matching {
+        Some("leading") => format!("{} (leading)", machine.grammar),
+        _ => machine.grammar.clone(),
+    }
+}
+
 fn cases(record: &Record, capture: &Capture) -> Vec<Case> {
     let class = capture.name().to_string();
     if capture.judgements.is_empty() {
@@ -41,7 +49,7 @@ fn cases(record: &Record, capture: &Capture) -> Vec<Case> {
     }
     let case = |judgement: &record::Judgement| Case {
         class: class.clone(),
-        name: record.machines[judgement.machine].grammar.clone(),
+        name: name(&record.machines[judgement.machine]),
         told: told(&judgement.answer),
     };
     capture.judgements.iter().map(case).collect()

@@ -61,8 +61,9 @@ pub fn totals(totals: &Totals) -> String {
     line + "; " + &shown::count(totals.readings as usize, "reading")
 }
 
-/// Why a capture is not accepted, for a person: lines for each grammar that does not accept it.
-pub fn hints(capture: &Capture, machines: &[Machine], style: Style) -> Vec<String> {
+/// What a person is told of a capture beside its line, for each grammar that does not accept it: what could not be done, and
+/// with hints why it is not accepted.
+pub fn remarks(capture: &Capture, machines: &[Machine], hints: bool, style: Style) -> Vec<String> {
     let file = capture.name();
     let mut lines = Vec::new();
     if let Some(error) = &capture.error {
@@ -75,7 +76,7 @@ pub fn hints(capture: &Capture, machines: &[Machine], style: Style) -> Vec<Strin
             _ => format!(" (by {})", machines[judgement.machine].grammar),
         };
         match &judgement.answer {
-            Answer::Judged { hint: Some(hint), .. } => {
+            Answer::Judged { hint: Some(hint), .. } if hints => {
                 let Place { line, column, .. } = hint.place;
                 let words = hint.words();
                 lines.push(format!("{} {file}: line {line}, column {column}: {words}{by}", style.bold("hint:")));
