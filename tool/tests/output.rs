@@ -238,7 +238,7 @@ fn quiet_has_no_hint_beside_a_refusal() {
     folder.words("judge -q -g ring.peg -g bad.peg broken.capture").gives(
         2,
         "",
-        "error: bad.peg: line 1, column 2: the text ends early (refusal 15)\n    a\n     ^\nrefused: broken.capture: refused 15 1: the text is wrong at that place, or ends early (by bad.peg)\n",
+        "error: bad.peg: line 1, column 2: the text ends early (refusal 15)\n    a\n     ^\n",
     );
 }
 
