@@ -1,8 +1,7 @@
 //! `grammar check` and `grammar show`.
 use crate::formats::text;
 use crate::machines::Machine;
-use crate::output;
-use crate::session::complain;
+use crate::output::{self, complain};
 use crate::shown::grouped;
 use crate::status::Status;
 use sejimakpu::{Error, Image, Matching, MAX_CAPTURE};

@@ -21,7 +21,8 @@ mod version;
 use clap::error::ErrorKind;
 use clap::{CommandFactory, Parser};
 use cli::{Cli, Command, Grammar};
-use session::{complain, Session};
+use output::complain;
+use session::Session;
 use status::Status;
 use std::process::ExitCode;
 

@@ -1,6 +1,5 @@
 //! Where records go: standard output, and files that appear when they are whole.
 use crate::descriptors;
-use crate::session::complain;
 use crate::status::Status;
 use std::ffi::OsString;
 use std::fs::{self, File};
@@ -8,6 +7,11 @@ use std::io::{self, BufWriter, Write};
 use std::path::{Path, PathBuf};
 use std::process;
 use std::sync::atomic::{AtomicUsize, Ordering};
+
+/// A line on standard error. Where that cannot be written nothing else changes.
+pub fn complain(line: &str) {
+    let _ = writeln!(io::stderr(), "{line}");
+}
 
 /// Writes to standard output, and says what could not be written.
 pub fn print(bytes: &[u8]) -> Status {

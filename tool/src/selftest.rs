@@ -1,6 +1,5 @@
 //! The worked examples C1 to C10 and the samples, judged on site: that this build of the tool does on this machine what it must.
-use crate::output;
-use crate::session::complain;
+use crate::output::{self, complain};
 use crate::status::Status;
 use sejimakpu::{Config, Error, Grammar, Image, Judged, Matching, Verdict, Workspace};
 

@@ -5,7 +5,7 @@ use crate::descriptors;
 use crate::formats::{self, text};
 use crate::judging::{self, Task};
 use crate::machines::{self, Machine};
-use crate::output;
+use crate::output::{self, complain};
 use crate::record::{Capture, Kind, Record, Totals};
 use crate::report;
 use crate::shown;
@@ -140,11 +140,6 @@ fn write_record(record: &Record, format: Format, output: &cli::Output, status: S
             output::written("standard output", result.and_then(|()| out.flush()))
         }
     }
-}
-
-/// A line on standard error. Where that cannot be written nothing else changes.
-pub fn complain(line: &str) {
-    let _ = writeln!(io::stderr(), "{line}");
 }
 
 /// Tells what comes, for a person: lines on standard output, hints and progress on standard error.

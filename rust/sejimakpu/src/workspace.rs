@@ -1,5 +1,5 @@
 //! Cells that are lent to one judging after another.
-use crate::{Error, Image, Judged, Notes, Reason};
+use crate::{ffi, Error, Image, Judged, Notes, Reason};
 use std::collections::TryReserveError;
 
 /// Notes and work cells, as many as were needed so far: for judging many captures, by one image or by several.
@@ -74,8 +74,10 @@ impl Workspace {
         let cells = needed.max(self.notes.len() + self.notes.len() / 2);
         (self.notes, self.work) = (Vec::new(), Vec::new());
         // Both are had before one is written.
-        self.notes.try_reserve_exact(cells)?;
-        self.work.try_reserve_exact(cells)?;
+        for lent in [&mut self.notes, &mut self.work] {
+            lent.try_reserve_exact(cells)?;
+            ffi::advise_large(lent);
+        }
         self.notes.resize(cells, 0);
         self.work.resize(cells, 0);
         Ok(())

@@ -1,10 +1,11 @@
 //! The archive's functions, as `include/sejimakpu.h` declares them. All `unsafe` of the crate is here, in [`bundle`],
-//! [`recursion`] and [`mod@version`].
+//! [`pages`], [`recursion`] and [`mod@version`].
 //!
 //! What makes each call sound: a slice's pointer is never null, is aligned, and is good for the slice's length, also
 //! where that is 0; what the archive may write is borrowed by `&mut`, so that it overlaps nothing else; and the archive
 //! keeps no pointer after the call and does not unwind.
 mod bundle;
+mod pages;
 mod recursion;
 #[cfg(test)]
 mod tests;
@@ -13,6 +14,7 @@ mod version;
 use crate::{Config, Error, Judged, Matching, Reason, Refusal, Verdict, MAX_GRAMMAR};
 
 pub(crate) use bundle::{judge_bundle, Line};
+pub(crate) use pages::advise_large;
 pub(crate) use recursion::{check_recursion, check_text_recursion};
 pub(crate) use version::version;
 
