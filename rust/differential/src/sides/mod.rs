@@ -2,6 +2,7 @@
 //! lent cells, and notes a difference.
 
 mod bundle;
+mod owned;
 pub mod raw;
 mod recursion;
 
@@ -82,6 +83,7 @@ pub fn judge(
     let got = judged_by_library(image, capture, notes.clone(), work.clone());
     let expected = judged_by_model(found, image, capture, notes, work);
     found.note(compare::judging(&expected, &got), &[("image", image), ("capture", capture)]);
+    owned::judge(found, image, capture, &expected);
     got.answer
 }
 
@@ -202,6 +204,9 @@ pub fn read_grammar(found: &mut Findings, old: &OldGrammar, text: &[u8]) -> Resu
         let expected = Building { answer, buffer: expected.to_vec() };
         let got = Building { answer: got_answer, buffer: got.to_vec() };
         found.note(compare::building("read grammar", &expected, &got), &[("text", text)]);
+    }
+    if got_answer.is_ok() {
+        owned::grammar_of_text(found, text);
     }
     got_answer.map(|length| got[FENCE..FENCE + length].to_vec())
 }
