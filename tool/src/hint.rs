@@ -1,9 +1,9 @@
 //! Why a capture is not accepted: a hint from the notes, never a verdict.
 //!
 //! The notes say of each rule that was tried at a place how that came out, so that the parse can be gone through again
-//! without parsing: a rule's entry that it removed itself as a range did not match, and what removed another's says where its
-//! match ended. Of the ranges that failed those at the furthest place are what was expected there. What was tried under
-//! an odd count of nots is left out: that it fails is what the grammar asks for.
+//! without parsing: a range that failed has removed its own entry, and of any other rule the configuration that removed its
+//! entry says whether it matched, and up to where. Of the ranges that failed those at the furthest place are what was
+//! expected there. What was tried under an odd count of nots is left out: that it fails is what the grammar asks for.
 use crate::shown::{self, Place};
 use sejimakpu::{Config, Grammar, Judged, Note, Notes, Rule, Verdict};
 

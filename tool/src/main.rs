@@ -6,6 +6,7 @@ mod descriptors;
 mod formats;
 mod grammar_command;
 mod hint;
+mod inspection;
 mod judging;
 mod machines;
 mod output;
@@ -13,16 +14,16 @@ mod plan;
 mod record;
 mod report;
 mod selftest;
-mod session;
 mod shown;
 mod status;
+mod teller;
 mod version;
 
 use clap::error::ErrorKind;
 use clap::{CommandFactory, Parser};
 use cli::{Cli, Command, Grammar};
+use inspection::Inspection;
 use output::complain;
-use session::Session;
 use status::Status;
 use std::process::ExitCode;
 
@@ -55,13 +56,13 @@ fn judge(given: &cli::Judge) -> Status {
     if given.captures.iter().filter(|name| *name == "-").count() > 1 {
         misused("standard input, -, is one capture and can be given once");
     }
-    Session::of(given).run(&given.output)
+    Inspection::of(given).run(&given.output)
 }
 
 fn shift(given: &cli::Shift) -> Status {
     check_files(&given.output);
-    match plan::session(given) {
-        Ok(session) => session.run(&given.output),
+    match plan::inspection(given) {
+        Ok(inspection) => inspection.run(&given.output),
         Err(words) => {
             complain(&format!("error: {words}"));
             Status::Failed

@@ -1,8 +1,8 @@
 //! A shift's plan: which captures are judged by which grammars.
 use crate::captures::{self, Source};
 use crate::cli;
+use crate::inspection::Inspection;
 use crate::judging::Task;
-use crate::session::Session;
 use globset::{GlobBuilder, GlobMatcher};
 use sejimakpu::Matching;
 use serde::Deserialize;
@@ -66,7 +66,7 @@ struct Ready {
 }
 
 /// What a plan asks to judge in a folder; words where the plan is not as it must be.
-pub fn session(given: &cli::Shift) -> Result<Session, String> {
+pub fn inspection(given: &cli::Shift) -> Result<Inspection, String> {
     let shown = |path: &Path| crate::shown::name(path.as_os_str());
     let text =
         fs::read_to_string(&given.plan).map_err(|error| format!("{}: cannot be read: {error}", shown(&given.plan)))?;
@@ -79,7 +79,7 @@ pub fn session(given: &cli::Shift) -> Result<Session, String> {
     if !given.folder.is_dir() {
         return Err(format!("{}: is no folder", shown(&given.folder)));
     }
-    let mut session = Session::default();
+    let mut inspection = Inspection::default();
     let base = given.plan.parent().unwrap_or(Path::new(""));
     let mut rows = Vec::new();
     for (number, row) in (1..).zip(&plan.row) {
@@ -87,13 +87,13 @@ pub fn session(given: &cli::Shift) -> Result<Session, String> {
         if row.captures.each().is_empty() || row.grammars.is_empty() && row.images.is_empty() {
             return Err(wrong(format!("row {number} needs a pattern of captures, and a grammar or an image")));
         }
-        rows.push(Ready { patterns, machines: session.load_row(base, row) });
+        rows.push(Ready { patterns, machines: inspection.load_row(base, row) });
     }
-    session.add_tasks(&given.folder, &rows);
+    inspection.add_tasks(&given.folder, &rows);
     for (number, row) in (1..).zip(&rows) {
-        session.tell_unfound(&given.folder, number, row);
+        inspection.tell_unfound(&given.folder, number, row);
     }
-    Ok(session)
+    Ok(inspection)
 }
 
 /// A capture's path below the folder, which patterns are matched against.
@@ -108,7 +108,7 @@ fn names(pattern: &GlobMatcher, folder: &Path, source: &Source) -> bool {
     below(folder, source).is_some_and(|path| pattern.is_match(path))
 }
 
-impl Session {
+impl Inspection {
     /// The numbers of a row's machines.
     fn load_row(&mut self, base: &Path, row: &Row) -> Vec<usize> {
         let matching = match row.matching {

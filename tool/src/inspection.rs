@@ -1,8 +1,8 @@
-//! One call of the tool: captures judged, told as they come, and the record written.
+//! One call of the tool: which captures are judged by which machines, telling them as they come, and the record at the end.
 use crate::captures;
-use crate::cli::{self, Color, Format};
+use crate::cli::{self, Format};
 use crate::descriptors;
-use crate::formats::{self, text};
+use crate::formats;
 use crate::judging::{self, Task};
 use crate::machines::{self, Machine};
 use crate::output::{self, complain};
@@ -10,12 +10,11 @@ use crate::record::{Capture, Kind, Record, Totals};
 use crate::report;
 use crate::shown;
 use crate::status::Status;
+use crate::teller::Teller;
 use crate::version::JudgedBy;
-use indicatif::{ProgressBar, ProgressDrawTarget, ProgressState, ProgressStyle};
 use sejimakpu::Matching;
-use std::fmt;
 use std::fs::{self, Metadata};
-use std::io::{self, BufWriter, IsTerminal, Stdout, Write};
+use std::io::{self, BufWriter, Write};
 use std::num::NonZeroUsize;
 use std::os::unix::fs::MetadataExt;
 use std::path::{Path, PathBuf};
@@ -24,25 +23,25 @@ use std::time::SystemTime;
 
 /// What is to be judged.
 #[derive(Default)]
-pub struct Session {
+pub struct Inspection {
     pub machines: Vec<Machine>,
     pub tasks: Vec<Task>,
     /// What is wrong and of no capture.
     pub problems: Vec<String>,
 }
 
-impl Session {
+impl Inspection {
     /// Every capture that is given, by every grammar and image.
-    pub fn of(given: &cli::Judge) -> Session {
-        let mut session = Session::default();
+    pub fn of(given: &cli::Judge) -> Inspection {
+        let mut inspection = Inspection::default();
         let matching = if given.leading { Matching::Leading } else { Matching::Whole };
-        let mut machines = session.load(&given.grammar, &given.image, matching);
+        let mut machines = inspection.load(&given.grammar, &given.image, matching);
         // One that is given twice judges once. Numbers are counted up in the order given.
         machines.sort_unstable();
         machines.dedup();
         let task = |capture| Task { capture, machines: machines.clone(), error: None };
-        session.tasks = captures::find(&given.captures).into_iter().map(task).collect();
-        session
+        inspection.tasks = captures::find(&given.captures).into_iter().map(task).collect();
+        inspection
     }
 
     /// The numbers of grammars and images, each read once: the same file for the same matching is one machine.
@@ -139,107 +138,5 @@ fn write_record(record: &Record, format: Format, output: &cli::Output, status: S
             let result = descriptors::output_open().and_then(|()| formats::write(format, record, status, &mut out));
             output::written("standard output", result.and_then(|()| out.flush()))
         }
-    }
-}
-
-/// Tells what comes, for a person: lines on standard output, hints and progress on standard error.
-struct Teller {
-    as_text: bool,
-    hints: bool,
-    lines: text::Style,
-    remarks: text::Style,
-    progress: ProgressBar,
-    /// Standard output: by lines on a terminal, else by blocks, written out before anything goes to standard error.
-    out: BufWriter<Stdout>,
-    by_lines: bool,
-    /// What telling itself came to.
-    status: Status,
-}
-
-impl Teller {
-    fn new(output: &cli::Output, as_text: bool, tasks: usize) -> Teller {
-        let style = |terminal| text::Style { coloured: coloured(output.color, terminal) };
-        let progress = if output.quiet || !io::stderr().is_terminal() { ProgressBar::hidden() } else { bar(tasks) };
-        Teller {
-            as_text,
-            hints: !output.quiet,
-            lines: style(io::stdout().is_terminal()),
-            remarks: style(io::stderr().is_terminal()),
-            progress,
-            out: BufWriter::new(io::stdout()),
-            by_lines: io::stdout().is_terminal(),
-            status: Status::Accepted,
-        }
-    }
-
-    /// What is wrong with a grammar, and a warning where a capture may loop by it.
-    fn machine(&mut self, machine: &Machine) {
-        let wrong = machine.complaint().map(|complaint| text::complaint("error:", &complaint, self.remarks));
-        let warning = machine.warning().filter(|_| self.hints);
-        let warning = warning.map(|complaint| text::complaint("warning:", &complaint, self.remarks));
-        self.remark(&wrong.or(warning).unwrap_or_default());
-    }
-
-    fn capture(&mut self, capture: &Capture, machines: &[crate::record::Machine]) {
-        let line = self.as_text.then(|| text::line(capture, machines, self.lines));
-        line.iter().for_each(|line| self.line(line));
-        self.remark(&text::remarks(capture, machines, self.hints, self.remarks));
-        self.progress.inc(1);
-    }
-
-    fn totals(&mut self, totals: &Totals) {
-        self.progress.finish_and_clear();
-        if self.as_text {
-            self.line(&text::totals(totals));
-            self.written(|out| out.flush());
-        }
-    }
-
-    /// A line on standard output.
-    fn line(&mut self, line: &str) {
-        let by_lines = self.by_lines;
-        self.written(|out| writeln!(out, "{line}").and_then(|()| if by_lines { out.flush() } else { Ok(()) }));
-    }
-
-    /// Writes to standard output. The first failure is told, and makes the status 2; judging goes on.
-    fn written(&mut self, write: impl FnOnce(&mut BufWriter<Stdout>) -> io::Result<()>) {
-        if self.status == Status::Accepted {
-            let out = &mut self.out;
-            let open = descriptors::output_open();
-            if let Err(error) = open.and_then(|()| self.progress.suspend(|| write(out))) {
-                self.status = output::written("standard output", Err(error));
-            }
-        }
-    }
-
-    fn remark(&mut self, lines: &[String]) {
-        if !lines.is_empty() {
-            self.written(|out| out.flush());
-            self.progress.suspend(|| complain(&lines.join("\n")));
-        }
-    }
-}
-
-/// A bar with count and rate.
-fn bar(tasks: usize) -> ProgressBar {
-    let bar = ProgressBar::with_draw_target(Some(tasks as u64), ProgressDrawTarget::stderr());
-    let rate = |state: &ProgressState, out: &mut dyn fmt::Write| {
-        // Where it cannot be written there is no bar.
-        let _ = write!(out, "{:.0}/s", state.per_sec());
-    };
-    let style = ProgressStyle::with_template("{wide_bar} {pos}/{len} captures, {rate}, {eta} left");
-    bar.set_style(style.unwrap_or_else(|_| ProgressStyle::default_bar()).with_key("rate", rate));
-    bar
-}
-
-/// The usual conventions: never with NO_COLOR, always with CLICOLOR_FORCE, else on a terminal.
-fn coloured(color: Color, terminal: bool) -> bool {
-    let set = |name| std::env::var_os(name).is_some_and(|value| !value.is_empty());
-    let forced = set("CLICOLOR_FORCE") && std::env::var_os("CLICOLOR_FORCE").is_some_and(|value| value != "0");
-    match color {
-        Color::Always => true,
-        Color::Never => false,
-        Color::Auto if set("NO_COLOR") => false,
-        Color::Auto => terminal && std::env::var_os("TERM").is_none_or(|term| term != "dumb") || forced,
     }
 }

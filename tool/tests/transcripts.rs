@@ -1,8 +1,8 @@
-//! The sessions that README.md and the pages of docs/ print: each command is run, and must print what stands below it.
+//! The transcripts that README.md and the pages of docs/ print: each command is run, and must print what stands below it.
 //!
-//! A session is an indented block in which lines begin with `$ `. Its commands run one after another in a folder that has the
+//! A transcript is an indented block in which lines begin with `$ `. Its commands run one after another in a folder that has the
 //! repository's examples and a link to `judge`, with `sejimakpu` on the path, standard error with standard output. With
-//! SESSIONS=write in the environment the pages get what the commands print.
+//! TRANSCRIPTS=write in the environment the pages get what the commands print.
 use std::fs;
 use std::path::{Path, PathBuf};
 use std::process::Command;
@@ -13,12 +13,12 @@ fn top() -> PathBuf {
     Path::new(env!("CARGO_MANIFEST_DIR")).join("..").canonicalize().unwrap()
 }
 
-/// A folder for one page's sessions, removed with what they left there.
+/// A folder for one page's transcripts, removed with what their commands left there.
 struct Folder(PathBuf);
 
 impl Folder {
     fn new(page: &str) -> Folder {
-        let name = format!("sejimakpu-sessions-{}-{}", page.replace('/', "-"), std::process::id());
+        let name = format!("sejimakpu-transcripts-{}-{}", page.replace('/', "-"), std::process::id());
         let path = std::env::temp_dir().join(name);
         fs::create_dir(&path).unwrap();
         let copied = Command::new("cp").arg("-R").arg(top().join("examples")).arg(&path).status().unwrap();
@@ -66,7 +66,7 @@ fn steady(line: &str) -> String {
     line.split_inclusive([' ', ',']).map(words).collect()
 }
 
-/// The page with what its sessions print in the place of what stands there, and how many commands were run.
+/// The page with what its commands print in the place of what stands there, and how many commands were run.
 fn run(page: &str) -> (String, usize) {
     let text = fs::read_to_string(top().join(page)).unwrap();
     let folder = Folder::new(page);
@@ -105,10 +105,10 @@ fn is_inside(text: &str, line: &str) -> bool {
 fn pages_print_what_the_tool_prints() {
     for page in PAGES {
         let (made, commands) = run(page);
-        assert!(commands > 0, "{page} has no session");
+        assert!(commands > 0, "{page} has no transcript");
         let file = top().join(page);
         let text = fs::read_to_string(&file).unwrap();
-        if std::env::var_os("SESSIONS").is_some_and(|value| value == "write") {
+        if std::env::var_os("TRANSCRIPTS").is_some_and(|value| value == "write") {
             fs::write(&file, &made).unwrap();
             continue;
         }
