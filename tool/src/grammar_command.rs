@@ -1,6 +1,6 @@
 //! `grammar check` and `grammar show`.
 use crate::formats::text;
-use crate::machines::Machine;
+use crate::machines::{Complaint, Machine};
 use crate::output::{self, complain};
 use crate::shown::grouped;
 use crate::status::Status;
@@ -17,13 +17,12 @@ pub fn check(files: &[impl AsRef<Path>]) -> Status {
 
 fn check_one(file: &Path) -> Status {
     let machine = Machine::of_grammar(file, Matching::Whole);
-    let style = text::Style { coloured: false };
     if let Some(complaint) = machine.complaint() {
-        text::complaint("error:", &complaint, style).iter().for_each(|line| complain(line));
+        tell("error:", &complaint);
         return Status::Failed;
     }
     let warning = machine.warning();
-    warning.iter().flat_map(|warning| text::complaint("warning:", warning, style)).for_each(|line| complain(&line));
+    warning.iter().for_each(|warning| tell("warning:", warning));
     let told = match (&machine.grammar, &machine.image) {
         (Some(grammar), Ok(image)) => needs(image).map(|needs| {
             let (rules, classes) = (grammar.rule_count(), image.classes());
@@ -42,6 +41,12 @@ fn check_one(file: &Path) -> Status {
             Status::Failed
         }
     }
+}
+
+/// What is wrong with a grammar, or may be.
+fn tell(kind: &str, complaint: &Complaint) {
+    let style = text::Style { coloured: false };
+    text::complaint(kind, complaint, style).iter().for_each(|line| complain(line));
 }
 
 /// Cells and memory for captures of some lengths: notes and work cells, four bytes each.
@@ -63,12 +68,7 @@ fn needs(image: &Image) -> Result<String, Error> {
 pub fn show(file: &Path) -> Status {
     let machine = Machine::of_grammar(file, Matching::Whole);
     let Some(grammar) = &machine.grammar else {
-        let complaint = machine.complaint();
-        let style = text::Style { coloured: false };
-        complaint
-            .iter()
-            .flat_map(|complaint| text::complaint("error:", complaint, style))
-            .for_each(|line| complain(&line));
+        machine.complaint().iter().for_each(|complaint| tell("error:", complaint));
         return Status::Failed;
     };
     output::print(&grammar.to_text())

@@ -26,6 +26,8 @@ use std::time::SystemTime;
 pub struct Inspection {
     pub machines: Vec<Machine>,
     pub tasks: Vec<Task>,
+    /// The plan, if there is one.
+    pub plan: Option<PathBuf>,
     /// What is wrong and of no capture.
     pub problems: Vec<String>,
 }
@@ -35,11 +37,8 @@ impl Inspection {
     pub fn of(given: &cli::Judge) -> Inspection {
         let mut inspection = Inspection::default();
         let matching = if given.leading { Matching::Leading } else { Matching::Whole };
-        let mut machines = inspection.load(&given.grammar, &given.image, matching);
-        // One that is given twice judges once. Numbers are counted up in the order given.
-        machines.sort_unstable();
-        machines.dedup();
-        let task = |capture| Task { capture, machines: machines.clone(), error: None };
+        let machines = inspection.load(&given.grammar, &given.image, matching);
+        let task = |capture| Task::new(capture, machines.iter().copied());
         inspection.tasks = captures::find(&given.captures).into_iter().map(task).collect();
         inspection
     }
@@ -64,7 +63,8 @@ impl Inspection {
         let identity =
             |file: &Path| fs::metadata(file).ok().filter(Metadata::is_file).map(|what| (what.dev(), what.ino()));
         let sources = || self.tasks.iter().filter_map(|task| task.capture.as_ref().ok()?.file());
-        let read = || sources().chain(self.machines.iter().map(|machine| machine.file.as_path()));
+        let machines = || self.machines.iter().map(|machine| machine.file.as_path());
+        let read = || sources().chain(machines()).chain(self.plan.as_deref());
         let written = [&output.out, &output.report].into_iter().flatten();
         written
             .map(PathBuf::as_path)

@@ -21,12 +21,25 @@ pub struct Task {
     pub error: Option<String>,
 }
 
+impl Task {
+    /// A capture by these machines. One that is named twice judges once.
+    pub fn new(capture: Found, named: impl IntoIterator<Item = usize>) -> Task {
+        let mut machines = Vec::new();
+        for machine in named {
+            if !machines.contains(&machine) {
+                machines.push(machine);
+            }
+        }
+        Task { capture, machines, error: None }
+    }
+}
+
 /// Judges every task, and hands on each capture in the order of the tasks.
 pub fn judge_all(machines: &[Machine], tasks: &[Task], jobs: NonZeroUsize, mut told: impl FnMut(Capture)) {
     let jobs = jobs.get().min(tasks.len());
     if jobs <= 1 {
-        let mut bench = Bench::default();
-        return tasks.iter().for_each(|task| told(bench.judge(machines, task)));
+        let mut worker = Worker::default();
+        return tasks.iter().for_each(|task| told(worker.judge(machines, task)));
     }
     let next = &AtomicUsize::new(0);
     let (sender, receiver) = mpsc::channel();
@@ -61,10 +74,10 @@ const BATCH: Duration = Duration::from_millis(2);
 
 /// One thread: takes the next task until there is none.
 fn judge_next(machines: &[Machine], tasks: &[Task], next: &AtomicUsize, sender: &Sender<Batch>) {
-    let mut bench = Bench::default();
+    let mut worker = Worker::default();
     let (mut batch, mut since) = (Batch::new(), Instant::now());
     while let Some((number, task)) = take_next(next, tasks) {
-        batch.push((number, bench.judge(machines, task)));
+        batch.push((number, worker.judge(machines, task)));
         if since.elapsed() >= BATCH {
             // The receiver stays until every thread has ended.
             let _ = sender.send(std::mem::take(&mut batch));
@@ -81,12 +94,12 @@ fn take_next<'a>(next: &AtomicUsize, tasks: &'a [Task]) -> Option<(usize, &'a Ta
 
 /// What one thread keeps from capture to capture.
 #[derive(Default)]
-struct Bench {
+struct Worker {
     workspace: Workspace,
     bytes: Vec<u8>,
 }
 
-impl Bench {
+impl Worker {
     fn judge(&mut self, machines: &[Machine], task: &Task) -> Capture {
         let mut capture = Capture {
             file: None,

@@ -79,7 +79,7 @@ pub fn inspection(given: &cli::Shift) -> Result<Inspection, String> {
     if !given.folder.is_dir() {
         return Err(format!("{}: is no folder", shown(&given.folder)));
     }
-    let mut inspection = Inspection::default();
+    let mut inspection = Inspection { plan: Some(given.plan.clone()), ..Inspection::default() };
     let base = given.plan.parent().unwrap_or(Path::new(""));
     let mut rows = Vec::new();
     for (number, row) in (1..).zip(&plan.row) {
@@ -96,16 +96,9 @@ pub fn inspection(given: &cli::Shift) -> Result<Inspection, String> {
     Ok(inspection)
 }
 
-/// A capture's path below the folder, which patterns are matched against.
-fn below<'a>(folder: &Path, source: &'a Source) -> Option<&'a Path> {
-    match source {
-        Source::File(file) => file.strip_prefix(folder).ok(),
-        Source::Input => None,
-    }
-}
-
+/// Whether a pattern names a capture: by its path below the folder.
 fn names(pattern: &GlobMatcher, folder: &Path, source: &Source) -> bool {
-    below(folder, source).is_some_and(|path| pattern.is_match(path))
+    source.file().and_then(|file| file.strip_prefix(folder).ok()).is_some_and(|path| pattern.is_match(path))
 }
 
 impl Inspection {
@@ -122,16 +115,14 @@ impl Inspection {
     /// Every file below the folder, by all rows that name it. One that no row names is told.
     fn add_tasks(&mut self, folder: &Path, rows: &[Ready]) {
         for capture in captures::below(folder) {
-            let mut machines: Vec<usize> = Vec::new();
-            let mut error = None;
-            if let Ok(source) = &capture {
-                for row in rows.iter().filter(|row| row.patterns.iter().any(|pattern| names(pattern, folder, source))) {
-                    machines
-                        .extend(row.machines.iter().filter(|machine| !machines.contains(machine)).collect::<Vec<_>>());
-                }
-                error = machines.is_empty().then(|| "no row of the plan names it".to_string());
-            }
-            self.tasks.push(Task { capture, machines, error });
+            let named = |row: &&Ready| {
+                let source = capture.as_ref().ok();
+                source.is_some_and(|source| row.patterns.iter().any(|pattern| names(pattern, folder, source)))
+            };
+            let machines: Vec<usize> = rows.iter().filter(named).flat_map(|row| row.machines.iter().copied()).collect();
+            let unnamed = capture.is_ok() && machines.is_empty();
+            let error = unnamed.then(|| "no row of the plan names it".to_string());
+            self.tasks.push(Task { error, ..Task::new(capture, machines) });
         }
     }
 

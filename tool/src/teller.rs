@@ -7,6 +7,7 @@ use crate::output::{self, complain};
 use crate::record::{self, Capture, Totals};
 use crate::status::Status;
 use indicatif::{ProgressBar, ProgressDrawTarget, ProgressState, ProgressStyle};
+use std::env;
 use std::fmt;
 use std::io::{self, BufWriter, IsTerminal, Stdout, Write};
 
@@ -101,12 +102,12 @@ fn bar(tasks: usize) -> ProgressBar {
 
 /// The usual conventions: never with NO_COLOR, always with CLICOLOR_FORCE, else on a terminal.
 fn coloured(color: Color, terminal: bool) -> bool {
-    let set = |name| std::env::var_os(name).is_some_and(|value| !value.is_empty());
-    let forced = set("CLICOLOR_FORCE") && std::env::var_os("CLICOLOR_FORCE").is_some_and(|value| value != "0");
+    let value = |name| env::var_os(name).filter(|value| !value.is_empty());
     match color {
         Color::Always => true,
         Color::Never => false,
-        Color::Auto if set("NO_COLOR") => false,
-        Color::Auto => terminal && std::env::var_os("TERM").is_none_or(|term| term != "dumb") || forced,
+        Color::Auto if value("NO_COLOR").is_some() => false,
+        Color::Auto if value("CLICOLOR_FORCE").is_some_and(|value| value != "0") => true,
+        Color::Auto => terminal && value("TERM").is_none_or(|term| term != "dumb"),
     }
 }

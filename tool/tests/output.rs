@@ -294,17 +294,3 @@ fn standard_output_has_lines_and_totals_or_the_record() {
         assert_eq!((record.status, &record.stderr), (ran.status, &ran.stderr));
     }
 }
-
-/// A file that is judged, or that judges, is not written over.
-#[test]
-fn what_is_read_is_not_written() {
-    let folder = Folder::ring();
-    folder.link("formed.capture", "link.json");
-    for (option, file) in
-        [("--out", "formed.capture"), ("--out", "ring.peg"), ("--report", "formed.capture"), ("--out", "link.json")]
-    {
-        let told = format!("error: {file}: is a file that is read, and is not written\n");
-        folder.words(&format!("judge -g ring.peg {option} {file} formed.capture")).gives(2, "", &told);
-    }
-    assert_eq!((folder.text("formed.capture").as_bytes(), folder.text("ring.peg").as_bytes()), (FORMED, RING));
-}

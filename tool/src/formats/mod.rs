@@ -1,4 +1,5 @@
 //! The forms of a record. docs/RECORD.md has the names of their fields.
+mod fields;
 mod junit;
 mod rows;
 pub mod text;

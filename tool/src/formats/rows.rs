@@ -1,5 +1,6 @@
 //! CSV and JSON lines: a row for each capture and grammar, with the same fields.
-use crate::record::{self, Answer, Capture, Judgement, Record};
+use super::fields::Fields;
+use crate::record::{self, Capture, Judgement, Record};
 use crate::shown;
 use serde::Serialize;
 use std::io::{self, Write};
@@ -63,28 +64,26 @@ impl<'a> Row<'a> {
     }
 
     fn of_judgement(record: &'a Record, capture: &'a Capture, judgement: &'a Judgement) -> Row<'a> {
-        let machine = &record.machines[judgement.machine];
-        let row = Row {
-            grammar: Some(&machine.grammar),
-            grammar_sha256: machine.grammar_sha256.as_deref(),
-            matching: machine.matching,
-            verdict: judgement.answer.outcome(),
+        let fields = Fields::of(record, judgement);
+        // A row has text where the object has a list, or a remark in its place.
+        let expected = |expected: &'a [String]| fields.remark.map_or_else(|| shown::list(expected), String::from);
+        Row {
+            grammar: Some(fields.grammar),
+            grammar_sha256: fields.grammar_sha256,
+            matching: fields.matching,
+            verdict: fields.verdict,
+            readings: fields.readings,
+            end_state: fields.end_state,
+            end_head: fields.end_head,
+            end_symbol: fields.end_symbol,
+            line: fields.line,
+            column: fields.column,
+            expected: fields.expected.map(expected),
+            found: fields.found,
+            refusal: fields.refusal,
+            place: fields.place,
+            error: fields.error,
             ..Row::of_capture(record, capture)
-        };
-        match &judgement.answer {
-            Answer::Judged { readings, end, hint, .. } => Row {
-                readings: Some(*readings),
-                end_state: Some(end.state),
-                end_head: Some(end.head),
-                end_symbol: Some(end.symbol),
-                line: hint.as_ref().map(|hint| hint.place.line),
-                column: hint.as_ref().map(|hint| hint.place.column),
-                expected: hint.as_ref().map(|hint| hint.remark.clone().unwrap_or_else(|| shown::list(&hint.expected))),
-                found: hint.as_ref().map(|hint| hint.found.as_str()),
-                ..row
-            },
-            Answer::Refused(refusal) => Row { refusal: Some(refusal.number()), place: Some(refusal.place()), ..row },
-            Answer::Error(error) => Row { error: Some(error), ..row },
         }
     }
 }

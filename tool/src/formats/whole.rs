@@ -1,5 +1,6 @@
 //! JSON: one object with what judged, the grammars, the captures and the totals.
-use crate::record::{self, Answer, Capture, Judgement, Machine, Outcome, Record, Totals};
+use super::fields::Fields;
+use crate::record::{self, Capture, Machine, Outcome, Record, Totals};
 use crate::status::Status;
 use crate::version::JudgedBy;
 use serde::Serialize;
@@ -27,27 +28,7 @@ struct WholeCapture<'a> {
     verdict: Outcome,
     error: Option<&'a str>,
     time: String,
-    judgements: Vec<WholeJudgement<'a>>,
-}
-
-#[derive(Serialize)]
-struct WholeJudgement<'a> {
-    grammar: &'a str,
-    grammar_sha256: Option<&'a str>,
-    matching: Option<&'a str>,
-    verdict: Outcome,
-    readings: Option<u32>,
-    end_state: Option<u32>,
-    end_head: Option<u32>,
-    end_symbol: Option<u32>,
-    line: Option<usize>,
-    column: Option<usize>,
-    expected: Option<&'a [String]>,
-    found: Option<&'a str>,
-    remark: Option<&'a str>,
-    refusal: Option<u32>,
-    place: Option<usize>,
-    error: Option<&'a str>,
+    judgements: Vec<Fields<'a>>,
 }
 
 impl<'a> WholeCapture<'a> {
@@ -59,44 +40,7 @@ impl<'a> WholeCapture<'a> {
             verdict: capture.outcome(),
             error: capture.error.as_deref(),
             time: record::time(capture.time),
-            judgements: capture.judgements.iter().map(|judgement| WholeJudgement::of(record, judgement)).collect(),
-        }
-    }
-}
-
-impl<'a> WholeJudgement<'a> {
-    fn of(record: &'a Record, judgement: &'a Judgement) -> WholeJudgement<'a> {
-        let machine = &record.machines[judgement.machine];
-        let (readings, end) = match &judgement.answer {
-            Answer::Judged { readings, end, .. } => (Some(*readings), Some(*end)),
-            _ => (None, None),
-        };
-        let refusal = match &judgement.answer {
-            Answer::Refused(refusal) => Some(*refusal),
-            _ => None,
-        };
-        let error = match &judgement.answer {
-            Answer::Error(error) => Some(error.as_str()),
-            _ => None,
-        };
-        let hint = judgement.answer.hint();
-        WholeJudgement {
-            grammar: &machine.grammar,
-            grammar_sha256: machine.grammar_sha256.as_deref(),
-            matching: machine.matching,
-            verdict: judgement.answer.outcome(),
-            readings,
-            end_state: end.map(|end| end.state),
-            end_head: end.map(|end| end.head),
-            end_symbol: end.map(|end| end.symbol),
-            line: hint.map(|hint| hint.place.line),
-            column: hint.map(|hint| hint.place.column),
-            expected: hint.map(|hint| hint.expected.as_slice()),
-            found: hint.map(|hint| hint.found.as_str()),
-            remark: hint.and_then(|hint| hint.remark.as_deref()),
-            refusal: refusal.map(|refusal| refusal.number()),
-            place: refusal.map(|refusal| refusal.place()),
-            error,
+            judgements: capture.judgements.iter().map(|judgement| Fields::of(record, judgement)).collect(),
         }
     }
 }
