@@ -24,7 +24,7 @@ use Rattle.grammar_judge.specs.TwoCalls.{Gets}
 use Rattle.grammar_judge.proofs.Refusing.{parts-fine}
 use Rattle.grammar_judge.proofs.TwoCallsHold.{gets}
 use Rattle.grammar_judge.proofs.Determined.{judged-independent}
-use Rattle.text.specs.Line.{refusal-line, answer-line, written, Lined}
+use Rattle.answer_line.specs.Line.{refusal-line, answer-line, written, Lined}
 use Rattle.answer.specs.Input.{input-refusal, input-grammar, input-capture, capture-offset}
 use Rattle.answer.specs.Calls.{judged-line, Refuses, Built-and-judged, Parts-as, Parts-say, answer-refusal, Input-as, Input-says, Answer-says}
 use Rattle.answer.specs.LineParsed.{Line-parsed}

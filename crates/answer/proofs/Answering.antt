@@ -8,7 +8,7 @@ use Rattle.simulator.specs.declared.Judgement.{Judgement}
 use Rattle.simulator.specs.declared.Judged.the-variants.{Answer}
 use Rattle.grammar_judge.specs.Calls.{Lent, lent-refusal}
 use Rattle.grammar_judge.specs.code.Steps.{Builds}
-use Rattle.text.specs.Line.{refusal-line, Lined}
+use Rattle.answer_line.specs.Line.{refusal-line, Lined}
 use Rattle.answer.specs.Input.{input-refusal, input-grammar, input-capture}
 use Rattle.answer.specs.Calls.{judged-line, Built-and-judged, Parts-as, Parts-say, Input-as, Input-says, Told, Answer-says}
 

@@ -7,8 +7,8 @@ use native.Mathlib.Nat.{le-trans}
 use Rattle.refusal.specs.declared.Refusal.{Refusal}
 use Rattle.grammar_judge.specs.Calls.{Lent}
 use Rattle.grammar_judge.proofs.Determined.{judged-determined}
-use Rattle.text.specs.Line.{line-feed, field, refused-word, refusal-line, written, max-line, Lined}
-use Rattle.text.proofs.Writing.{written-whole}
+use Rattle.answer_line.specs.Line.{line-feed, field, refused-word, refusal-line, written, max-line, Lined}
+use Rattle.answer_line.proofs.Writing.{written-whole}
 use Rattle.answer.specs.Input.{input-refusal}
 use Rattle.answer.specs.Calls.{judged-line, Built-and-judged, Parts-as, Parts-say, Input-as, Input-says, Answer-says}
 

@@ -11,7 +11,7 @@ use Rattle.simulator.specs.Calls.{Judge-says}
 use Rattle.builder.specs.declared.Matching.the-variants.{Whole}
 use Rattle.builder.specs.Image.{built, built-length}
 use Rattle.grammar_judge.specs.Calls.{Lent, lent-refusal}
-use Rattle.text.specs.Line.{refusal-line, answer-line, Lined}
+use Rattle.answer_line.specs.Line.{refusal-line, answer-line, Lined}
 use Rattle.answer.specs.Input.{input-refusal, input-grammar, input-capture}
 
 -- the line of what judging says

@@ -8,7 +8,7 @@ use Rattle.machine.specs.declared.Verdict.{Verdict}
 use Rattle.grammar.specs.Grammar.{rules}
 use Rattle.builder.specs.declared.Matching.the-variants.{Whole}
 use Rattle.grammar_judge.specs.TwoCalls.{As-parsed}
-use Rattle.text.specs.Line.{answer-line}
+use Rattle.answer_line.specs.Line.{answer-line}
 
 -- the line is that of a verdict as parsing says, with few readings
 pub record Line-parsed (gs cs line : List ℕ) : Type 0 where

@@ -1,6 +1,8 @@
 // The program's answer: the line that it prints for an input, written into a lent buffer.
 pub mod input;
 
+use answer_line::put_answer;
+use answer_line::put_refusal;
 use builder::Plan;
 use builder::planning::plan_of;
 use grammar::check::refusal_of;
@@ -10,11 +12,9 @@ use input::PAIRS_LENGTH;
 use input::capture_offset;
 use input::input_refusal;
 use simulator::Judgement;
-use text::put_answer;
-use text::put_refusal;
 ghost use Rattle.simulator.specs.declared.Judged.the-variants.{Answer};
 ghost use Rattle.builder.specs.code.Building.{Planned};
-ghost use Rattle.text.specs.Line.{Lined};
+ghost use Rattle.answer_line.specs.Line.{Lined};
 ghost use Rattle.grammar_judge.specs.Calls.{lent};
 ghost use Rattle.answer.specs.Calls.{judged-line, Parts-told, Answer-says};
 

@@ -6,7 +6,7 @@ use native.Mathlib.Nat.{le-of-eq}
 use native.Mathlib.Omega.{arith}
 use lib.ListN.{length, take}
 use lib.Seq.{take-at}
-use Rattle.text.specs.Line.{max-line}
+use Rattle.answer_line.specs.Line.{max-line}
 use Rattle.grammar_judge.specs.Calls.{Lent}
 use Rattle.answer.specs.Calls.{Input-says, Answer-says}
 use Rattle.answer.proofs.LineWhole.{line-whole}

@@ -3,7 +3,7 @@ use mathlib.Core.Path.{_≡_}
 use mathlib.Core.List.{List}
 use Prim.Native.Nat.{ℕ, _+_, _≤_}
 use lib.ListN.{length, take}
-use Rattle.text.specs.Line.{max-line}
+use Rattle.answer_line.specs.Line.{max-line}
 use Rattle.answer.specs.Input.{max-input}
 use Rattle.grammar_judge.specs.Calls.{Lent}
 use Rattle.answer.specs.Calls.{Input-says}

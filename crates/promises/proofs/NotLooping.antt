@@ -38,7 +38,7 @@ use Rattle.recursion_theory.proofs.ParsesAll.{results}
 use Rattle.recursion_theory.proofs.NeverLoops.{never-loops}
 use Rattle.grammar_judge.specs.Calls.{Lent}
 use Rattle.grammar_judge.specs.TwoCalls.{As-parsed}
-use Rattle.text.specs.Line.{answer-line}
+use Rattle.answer_line.specs.Line.{answer-line}
 use Rattle.answer.specs.Input.{input-grammar, input-capture}
 use Rattle.answer.specs.Calls.{answer-refusal, Input-says}
 use Rattle.answer.proofs.Answered.{line-parsed}

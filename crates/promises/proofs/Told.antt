@@ -33,7 +33,7 @@ use Rattle.interpreter.specs.Replies.{of-ran}
 use Rattle.interpreter.proofs.Answered.{run-refused, run-answered, run-holds}
 use Rattle.builder.specs.Replies.{of-built}
 use Rattle.builder.proofs.Answered.{build-refused}
-use Rattle.text.specs.Line.{Lined}
+use Rattle.answer_line.specs.Line.{Lined}
 use Rattle.answer.specs.Calls.{Answer-says}
 use Rattle.answer.proofs.Answered.{input-refused}
 use Rattle.typed.proofs.Determined.{build-text-refused, judge-text-refused}

@@ -27,7 +27,7 @@ use Rattle.builder.specs.Conditions.{Building-row}
 use Rattle.builder.specs.Image.{built-length}
 use Rattle.builder.specs.Calls.{build-refusal, Build-says}
 use Rattle.builder.specs.Replies.{of-built}
-use Rattle.text.specs.Line.{refusal-line, Lined}
+use Rattle.answer_line.specs.Line.{refusal-line, Lined}
 use Rattle.answer.specs.Input.{input-refusal, input-grammar, input-capture}
 use Rattle.answer.specs.Conditions.{Input-row, Answering-row}
 use Rattle.grammar_judge.specs.Calls.{Lent, Same-room, Same-cells}

@@ -34,7 +34,7 @@ use Rattle.typed.specs.declared.left_recursion.TextRecursion.{TextRecursion}
 use Rattle.typed.specs.declared.left_recursion.TextRecursion.the-variants.{Passes, Recursive}
 use Rattle.typed.specs.Calls.{Judge-text-says}
 use Rattle.typed.specs.Recursion.{Text-recursion-says}
-use Rattle.text.specs.Line.{answer-line}
+use Rattle.answer_line.specs.Line.{answer-line}
 use Rattle.answer.specs.Input.{input-grammar}
 use Rattle.answer.specs.Calls.{answer-refusal, Input-says}
 use Rattle.worked_examples.specs.Examples.{Each}

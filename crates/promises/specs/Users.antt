@@ -16,7 +16,7 @@ use Rattle.grammar.specs.Grammar.{grammar-refusal}
 use Rattle.builder.specs.declared.Matching.{Matching}
 use Rattle.builder.specs.declared.Matching.the-variants.{Whole}
 use Rattle.builder.specs.Image.{built}
-use Rattle.text.specs.Line.{line-feed, field, refused-word, max-line, Lined}
+use Rattle.answer_line.specs.Line.{line-feed, field, refused-word, max-line, Lined}
 use Rattle.answer.specs.Input.{input-grammar, input-capture}
 use Rattle.answer.specs.Conditions.{Input-right, Input-parts}
 use Rattle.grammar_judge.specs.Calls.{Lent}

@@ -7,8 +7,8 @@ use native.Mathlib.Nat.{le-trans}
 use native.Mathlib.Omega.{arith}
 use lib.ListN.{length, take}
 use lib.Seq.{take-at, length-take-le}
-use Rattle.text.specs.Line.{max-line, Lined}
-use Rattle.text.proofs.Writing.{written-whole, count-within}
+use Rattle.answer_line.specs.Line.{max-line, Lined}
+use Rattle.answer_line.proofs.Writing.{written-whole, count-within}
 use Rattle.transfer.specs.declared.Stop.{Stop}
 use Rattle.transfer.proofs.Outcomes.{stops-within}
 use Rattle.read_text.specs.declared.Output.{Output}

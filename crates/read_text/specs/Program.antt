@@ -6,7 +6,7 @@ use Prim.Native.Nat.{ℕ, _+_, _≤_, _<_}
 use lib.ListN.{length, take}
 use Rattle.refusal.specs.declared.Refusal.{Refusal}
 use Rattle.refusal.specs.First.{refusal}
-use Rattle.text.specs.Line.{refusal-line, recursion-line, passes-line}
+use Rattle.answer_line.specs.Line.{refusal-line, recursion-line, passes-line}
 use Rattle.syntax.specs.Reading.{Refused, Grammar, Read-says}
 use Rattle.typed.specs.declared.left_recursion.TextRecursion.{TextRecursion}
 use Rattle.typed.specs.declared.left_recursion.TextRecursion.the-variants.{Passes, Refused as Unread, Recursive}

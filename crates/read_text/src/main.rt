@@ -1,9 +1,9 @@
 // The program: reads a typed grammar from standard input, and writes the grammar's bytes, or the line of a refusal. With an argument it writes the line of what the check for left recursion says.
+use answer_line::put_passes;
+use answer_line::put_recursion;
+use answer_line::put_refusal;
 use reader::reading::read;
 use refusal::Refusal;
-use text::put_passes;
-use text::put_recursion;
-use text::put_refusal;
 use transfer::Stop;
 use transfer::cut_short;
 use transfer::failed;
@@ -13,7 +13,7 @@ use typed::left_recursion::TextRecursion;
 use typed::left_recursion::check_text_recursion;
 ghost use mathlib.Core.Bool.{true, false};
 ghost use lib.ListN.{take};
-ghost use Rattle.text.specs.Line.{refusal-line, Lined};
+ghost use Rattle.answer_line.specs.Line.{refusal-line, Lined};
 ghost use Rattle.refusal.specs.First.{refusal};
 ghost use Rattle.read_text.specs.Program.{check-line, Holds, Buffer, Text-says, Writes};
 

@@ -23,7 +23,7 @@ use Rattle.builder.specs.Classes.{cuts-at, cut-from, cut, class-of, class-count
 use Rattle.builder.specs.Table.{rows, by-state, select, on-byte, row-zero, class-inside, rows-at, made}
 use Rattle.builder.specs.Image.{symbols-of, built-rules, rules-made, map-made, built, built-length, parts as parts-of}
 use Rattle.builder.specs.Calls.{build-refusal}
-use Rattle.text.specs.Line.{digits, decimal, field, verdict-word, answer-line}
+use Rattle.answer_line.specs.Line.{digits, decimal, field, verdict-word, answer-line}
 use Rattle.answer.specs.Input.{capture-offset, first-pair-right, second-pair-right, input-refusal, input-grammar, input-capture}
 use Rattle.grammar_judge.specs.Calls.{Lent, parts-refusal}
 use Rattle.answer.specs.Calls.{judged-line, answer-refusal, Input-says, Answer-says}

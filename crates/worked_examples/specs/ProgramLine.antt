@@ -5,7 +5,7 @@ use Prim.Native.Nat.{ℕ, _+_, _≤_}
 use lib.ListN.{length}
 use Rattle.codec.specs.Numbers.{pair, pair-bytes}
 use Rattle.answer.specs.Input.{pairs-length}
-use Rattle.text.specs.Line.{max-line}
+use Rattle.answer_line.specs.Line.{max-line}
 use Rattle.grammar_judge.specs.Calls.{Lent}
 use Rattle.worked_examples.specs.Examples.{endless-grammar}
 
