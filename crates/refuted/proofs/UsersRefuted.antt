@@ -1,0 +1,2 @@
+-- The wrong neighbours of Users.antt refuted: each by a closed example beside the promise. Assumes nothing.
+use mathlib.Core.Path.{_≡_}
