@@ -1,6 +1,8 @@
 -- The refutations, and the calls and examples by which they are made.
 pub mod Witnesses
 pub mod Rows
+pub mod SmallCalls
+pub mod AnswerCalls
 pub mod FirstDemandRefuted
 pub mod SecondDemandRefuted
 pub mod ThirdDemandRefuted

@@ -1,0 +1,84 @@
+-- Calls of the program's function and what they say: no input, an input with no grammar, and C5's. Assumes nothing.
+use mathlib.Core.Path.{_≡_, refl}
+use mathlib.Core.List.{List, [], _∷_}
+use Prim.Native.Nat.{ℕ, zero, suc, _≤_, min}
+use native.Mathlib.Omega.{arith}
+use lib.Dec.{ltb}
+use lib.ListN.{length}
+use Rattle.refusal.specs.declared.Refusal.{Refusal}
+use Rattle.refusal.specs.First.{refusal, or-else, refuse-if}
+use Rattle.codec.specs.Numbers.{number-at, little-endian, pair-bytes}
+use Rattle.machine.specs.Run.{how-many}
+use Rattle.image.specs.Image.{machine, states, classes, symbols, rule-from}
+use Rattle.image.specs.Encoding.{header, rule-bytes, rules-bytes, encode}
+use Rattle.image.specs.Refusals.{pair-is, directory, counts, count-wrong, map-from, move-off, rule-bad, index-class, rule-count, image-refusal, capture-refusal, rules-refusal-from}
+use Rattle.simulator.specs.Calls.{judge-refusal}
+use Rattle.grammar.specs.Grammar as Grammar
+use Rattle.builder.specs.declared.Matching.the-variants.{Whole}
+use Rattle.builder.specs.Classes.{cuts-at, cut-from, cut, class-of, class-count, class-in}
+use Rattle.builder.specs.Table.{rows, by-state, select, on-byte, row-zero, class-inside, rows-at, made}
+use Rattle.builder.specs.Image.{symbols-of, built-rules, rules-made, map-made, built, built-length, parts}
+use Rattle.builder.specs.Calls.{build-refusal}
+use Rattle.answer_line.specs.Line.{refusal-line, written, max-line}
+use Rattle.answer.specs.Input.{capture-offset, first-pair-right, second-pair-right, input-refusal, input-grammar, input-capture}
+use Rattle.grammar_judge.specs.Calls.{Lent, parts-refusal}
+use Rattle.answer.specs.Calls.{answer-refusal, Parts-as, Parts-say, Input-as, Input-says, Answer-says}
+use Rattle.worked_examples.specs.Examples.{endless-grammar}
+use Rattle.worked_examples.specs.ProgramLine.{endless-input}
+
+-- a right line that is short, written into any out buffer
+pub told :
+    (xs : List ℕ) (x y : Lent) (line out : List ℕ) → Input-says xs x y line → length line ≤ max-line →
+    Answer-says xs x y out (written line out) (min (length line) (length out))
+unfolding Answer-says
+told xs x y line out right short =
+    record { line = line; right = right; lined = record { holds = record { bytes = refl; counted = refl }; short = short } }
+
+-- NO INPUT: refused by 14 at 0
+pub unread : (x : Lent) → Input-says [] x x (refusal-line (refusal 14 0))
+unfolding Input-says Input-as input-refusal
+unread x = record { says = refl; kept = refl }
+
+-- AN INPUT WITH NO GRAMMAR AND NO CAPTURE: it is right, and its grammar is refused by 11 at 0
+abbrev pub bare-input : List ℕ
+bare-input = 16 ∷ 0 ∷ 0 ∷ 0 ∷ 0 ∷ 0 ∷ 0 ∷ 0 ∷ 16 ∷ 0 ∷ 0 ∷ 0 ∷ 0 ∷ 0 ∷ 0 ∷ 0 ∷ []
+
+pub bare-answering : (x : Lent) → answer-refusal bare-input x ≡ refusal 11 0
+unfolding answer-refusal input-refusal first-pair-right second-pair-right capture-offset input-grammar number-at
+    or-else parts-refusal build-refusal Grammar.grammar-refusal
+bare-answering x = refl
+
+pub bare-fine : input-refusal bare-input ≡ refusal 0 0
+unfolding input-refusal first-pair-right second-pair-right capture-offset number-at
+bare-fine = refl
+
+pub bare-read : (x : Lent) → Input-says bare-input x x (refusal-line (refusal 11 0))
+unfolding Input-says Input-as Parts-say Parts-as input-refusal first-pair-right second-pair-right capture-offset input-grammar number-at
+    or-else parts-refusal build-refusal Grammar.grammar-refusal
+bare-read x = record { says = refl; kept = refl }
+
+-- C5'S INPUT: it is right, and its image has 468 bytes and needs 30 cells
+endless-computed :
+    (input-refusal endless-input ≡ refusal 0 0) × (input-grammar endless-input ≡ endless-grammar) × (input-capture endless-input ≡ [])
+    × ((m a b : ℕ) → parts-refusal endless-grammar [] m a b
+    ≡ or-else (refuse-if (ltb m 468) (refusal 13 468)) (or-else (refuse-if (ltb a 30) (refusal 8 30)) (refuse-if (ltb b 30) (refusal 9 30))))
+    × (how-many (machine (built Whole endless-grammar) []) ≡ 30)
+unfolding endless-input input-refusal first-pair-right second-pair-right input-grammar input-capture capture-offset
+    parts-refusal build-refusal judge-refusal capture-refusal how-many
+    machine number-at little-endian pair-bytes header rule-bytes rules-bytes encode states classes symbols rule-from
+    or-else refuse-if pair-is directory counts count-wrong map-from move-off rule-bad index-class rules-refusal-from rule-count image-refusal
+    Grammar.rules Grammar.kind-of Grammar.b-of Grammar.c-of Grammar.expression-by Grammar.expression Grammar.range-of Grammar.rule-right Grammar.grammar-rules-from Grammar.grammar-refusal
+    cuts-at cut-from cut class-of class-count class-in
+    rows by-state select on-byte row-zero class-inside rows-at made
+    symbols-of built-rules rules-made map-made parts built built-length
+endless-computed = (refl, refl, refl, λ m a b. refl, refl)
+
+pub endless-fine : input-refusal endless-input ≡ refusal 0 0
+endless-fine = endless-computed .0
+
+pub endless-answering :
+    (x : Lent) → answer-refusal endless-input x
+    ≡ or-else (refuse-if (ltb (length (x .image)) 468) (refusal 13 468))
+    (or-else (refuse-if (ltb (length (x .notes)) 30) (refusal 8 30)) (refuse-if (ltb (length (x .work)) 30) (refusal 9 30)))
+unfolding answer-refusal or-else
+endless-answering x = rw (endless-computed .0, endless-computed .1, endless-computed .2, endless-computed .3)
