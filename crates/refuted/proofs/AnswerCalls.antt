@@ -19,7 +19,7 @@ use Rattle.builder.specs.Classes.{cuts-at, cut-from, cut, class-of, class-count
 use Rattle.builder.specs.Table.{rows, by-state, select, on-byte, row-zero, class-inside, rows-at, made}
 use Rattle.builder.specs.Image.{symbols-of, built-rules, rules-made, map-made, built, built-length, parts}
 use Rattle.builder.specs.Calls.{build-refusal}
-use Rattle.answer_line.specs.Line.{refusal-line, written, max-line}
+use Rattle.answer_line.specs.Line.{digits, decimal, field, refused-word, refusal-line, written, max-line}
 use Rattle.answer.specs.Input.{capture-offset, first-pair-right, second-pair-right, input-refusal, input-grammar, input-capture}
 use Rattle.grammar_judge.specs.Calls.{Lent, parts-refusal}
 use Rattle.answer.specs.Calls.{answer-refusal, Parts-as, Parts-say, Input-as, Input-says, Answer-says}
@@ -38,6 +38,10 @@ told xs x y line out right short =
 pub unread : (x : Lent) → Input-says [] x x (refusal-line (refusal 14 0))
 unfolding Input-says Input-as input-refusal
 unread x = record { says = refl; kept = refl }
+
+pub unread-told : (x : Lent) (out : List ℕ) → Answer-says [] x x out (written (refusal-line (refusal 14 0)) out) (min 13 (length out))
+unfolding refusal-line refused-word field decimal digits
+unread-told x out = told [] x x (refusal-line (refusal 14 0)) out (unread x) (omega arith)
 
 -- AN INPUT WITH NO GRAMMAR AND NO CAPTURE: it is right, and its grammar is refused by 11 at 0
 abbrev pub bare-input : List ℕ

@@ -1,14 +1,17 @@
 -- Small calls and what they say: with no image, on C1's image, and building it. Assumes nothing.
-use mathlib.Core.Path.{_≡_, refl, sym, ap}
+use mathlib.Core.Path.{_≡_, refl, sym, ap, _∙_}
+use mathlib.Core.Bool.{true}
 use mathlib.Core.List.{List, [], _∷_, _++_}
-use Prim.Native.Nat.{ℕ, _≤_}
+use Prim.Native.Nat.{ℕ, _<_, _≤_}
 use native.Mathlib.Omega.{arith}
 use lib.Dec.{ltb}
-use lib.ListN.{length, drop}
+use lib.ListN.{length, take, drop, replicate, List·getD-append}
+use lib.Seq.{getD-take, getD-drop, getD-append-add}
 use Rattle.refusal.specs.First.{refusal, or-else, refuse-if}
 use Rattle.codec.specs.Bytes.{byte}
 use Rattle.codec.specs.Numbers.{little-endian, pair-bytes}
-use Rattle.machine.specs.Run.{how-many, start}
+use Rattle.machine.specs.declared.Termination.the-variants.{Over}
+use Rattle.machine.specs.Run.{config, start}
 use Rattle.image.specs.Format.{max-capture}
 use Rattle.image.specs.Image.{machine}
 use Rattle.image.specs.Encoding.{header, rule-bytes, rules-bytes, encode}
@@ -17,7 +20,8 @@ use Rattle.image.proofs.CaptureRefused.{then-length}
 use Rattle.simulator.specs.declared.Judged.the-variants.{Refused}
 use Rattle.simulator.specs.Calls.{judge-refusal, Judge-as, Judge-says}
 use Rattle.interpreter.specs.declared.Ran.the-variants.{Refused as Not-run}
-use Rattle.interpreter.specs.PlainRun.{Run-end, run-on}
+use Rattle.interpreter.specs.declared.Exit.the-variants.{Terminated, Spent}
+use Rattle.interpreter.specs.PlainRun.{Run-end, run-end, run-on}
 use Rattle.interpreter.specs.Calls.{run-refusal, answer, Run-as, Run-says}
 use Rattle.grammar.specs.Grammar as Grammar
 use Rattle.builder.specs.declared.Matching.{Matching}
@@ -27,10 +31,14 @@ use Rattle.builder.specs.Classes.{cuts-at, cut-from, cut, class-of, class-count
 use Rattle.builder.specs.Table.{rows, by-state, select, on-byte, row-zero, class-inside, rows-at, made}
 use Rattle.builder.specs.Image.{symbols-of, built-rules, rules-made, map-made, built, built-length, parts}
 use Rattle.builder.specs.Calls.{build-refusal, Build-as, Build-says}
-use Rattle.worked_examples.specs.Examples.{image-of, empty-grammar}
+use Rattle.worked_examples.specs.Examples.{image-of, empty-grammar, plain-table}
 use Rattle.promises.proofs.Proved.{promises}
-use Rattle.refuted.proofs.Rows.{c1-holds}
+use Rattle.refuted.proofs.Rows.{first, others, c1-holds}
 use Rattle.refuted.proofs.Witnesses.{Judged-there, judged-there}
+
+-- a byte that two lists have in common with the bytes before it
+pub same-byte : (n i : ℕ) → i < n → (x y : List ℕ) → take n x ≡ take n y → byte x i ≡ byte y i
+same-byte n i h x y e = sym (getD-take n x i 0 h) ∙ ap (λ (l : List ℕ). byte l i) e ∙ getD-take n y i 0 h
 
 -- NO IMAGE: the refusal is 1 at 0, and every cell stays
 pub none-refused : image-refusal [] ≡ refusal 1 0
@@ -76,6 +84,17 @@ c1-judging a b = rw (c1-capture 0, promises .c1-cells)
 pub c1-judged-on : (a b : List ℕ) → 30 ≤ length a → 30 ≤ length b → Judged-there c1-bytes [] a b
 c1-judged-on a b h k = judged-there c1-bytes [] a b c1-unrefused (omega (arith, promises .c1-cells)) (omega (arith, promises .c1-cells))
 
+-- which leaves the work cell after the 30 as it was, and sets the last of the 30 to 0,
+pub c1-later : {a b : List ℕ} (j : Judged-there c1-bytes [] a b) → byte (j .b-now) 30 ≡ byte b 30
+c1-later {a} {b} j =
+    let kept = promises .judge-later c1-bytes [] _ a (j .a-now) b (j .b-now) (j .says) .1 in
+    sym (getD-drop 30 (j .b-now) 0 0) ∙ ap (λ (l : List ℕ). byte l 0) (rw (promises .c1-cells) at kept) ∙ getD-drop 30 b 0 0
+
+pub c1-cleared : {a b : List ℕ} (j : Judged-there c1-bytes [] a b) → byte (j .b-now) 29 ≡ 0
+c1-cleared {a} {b} j =
+    let zero = promises .work-cleared c1-bytes [] a (j .a-now) b (j .b-now) _ _ _ (c1-unrefused .bytes) (j .says) in
+    same-byte 30 29 (omega arith) (j .b-now) (replicate 30 0) (rw (promises .c1-cells) at zero)
+
 -- and running it: any cell will do
 pub c1-running : run-refusal c1-bytes [] 1 ≡ refusal 0 0
 unfolding run-refusal or-else refuse-if
@@ -90,6 +109,15 @@ pub c1-ran :
     Run-says c1-bytes [] budget (answer e) (0 ∷ 0 ∷ []) (0 ∷ 0 ∷ [])
 unfolding Run-says Run-as run-refusal or-else refuse-if
 c1-ran n q = rw (c1-capture 0) (ap answer (sym q), refl)
+
+-- its plain runs with budgets 3 and 2
+pub c1-accepted : run-on 3 (machine c1-bytes []) 0 2 start ≡ run-end (Terminated (Over true)) 3 (config 2 1 0)
+unfolding plain-table
+c1-accepted = first (promises .c1-plain-runs)
+
+pub c1-spent : run-on 2 (machine c1-bytes []) 0 2 start ≡ run-end Spent 2 (config 2 1 0)
+unfolding plain-table
+c1-spent = first (others (promises .c1-plain-runs))
 
 -- BUILDING IT: 468 bytes, of which the first is 24, and the choice of a match shows in the one with offset 360
 c1-computed :
@@ -112,19 +140,26 @@ c1-length = c1-computed .1
 pub c1-first : byte (built Whole empty-grammar) 0 ≡ 24
 c1-first = c1-computed .2
 
-pub c1-whole : byte (built Whole empty-grammar) 360 ≡ 0
-c1-whole = c1-computed .3
-
-pub c1-leading : byte (built Leading empty-grammar) 360 ≡ 1
-c1-leading = c1-computed .4
-
 -- with one byte of room; and with one byte more than needed, whatever stood there
 pub c1-unbuilt : (b : ℕ) → Build-says Whole empty-grammar (Not-built (refusal 13 468)) (b ∷ []) (b ∷ [])
 unfolding Build-says Build-as refuse-if
 c1-unbuilt b = rw (c1-building 1) (refl, refl)
 
-pub c1-built :
-    (how : Matching) (a : List ℕ) → length a ≡ 469 →
-    Build-says how empty-grammar (Image (built-length empty-grammar)) a (built how empty-grammar ++ drop (built-length empty-grammar) a)
+abbrev pub c1-left : Matching → (a : List ℕ) → List ℕ
+c1-left how a = built how empty-grammar ++ drop 468 a
+
+pub c1-built : (how : Matching) (a : List ℕ) → length a ≡ 469 → Build-says how empty-grammar (Image 468) a (c1-left how a)
 unfolding Build-says Build-as refuse-if
-c1-built how a h = rw (h, c1-building 469) (refl, refl)
+c1-built how a h = rw (h, c1-building 469, c1-length) (refl, refl)
+
+c1-long : (how : Matching) → length (built how empty-grammar) ≡ 468
+c1-long how = promises .image-length how empty-grammar ∙ c1-length
+
+pub c1-whole : (a : List ℕ) → byte (c1-left Whole a) 360 ≡ 0
+c1-whole a = List·getD-append (built Whole empty-grammar) (drop 468 a) 0 360 (omega (arith, c1-long Whole)) ∙ c1-computed .3
+
+pub c1-leading : (a : List ℕ) → byte (c1-left Leading a) 360 ≡ 1
+c1-leading a = List·getD-append (built Leading empty-grammar) (drop 468 a) 0 360 (omega (arith, c1-long Leading)) ∙ c1-computed .4
+
+pub c1-after : (how : Matching) (a : List ℕ) → byte (c1-left how a) 468 ≡ byte a 468
+c1-after how a = rw (c1-long how) at (getD-append-add (built how empty-grammar) (drop 468 a) 0 0) ∙ getD-drop 468 a 0 0
