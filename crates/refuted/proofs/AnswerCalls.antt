@@ -1,30 +1,35 @@
 -- Calls of the program's function and what they say: no input, an input with no grammar, and C5's. Assumes nothing.
 use mathlib.Core.Path.{_≡_, refl}
-use mathlib.Core.List.{List, [], _∷_}
+use mathlib.Core.List.{List, [], _∷_, _++_}
 use Prim.Native.Nat.{ℕ, zero, suc, _≤_, min}
 use native.Mathlib.Omega.{arith}
 use lib.Dec.{ltb}
-use lib.ListN.{length}
+use lib.ListN.{length, drop}
 use Rattle.refusal.specs.declared.Refusal.{Refusal}
 use Rattle.refusal.specs.First.{refusal, or-else, refuse-if}
 use Rattle.codec.specs.Numbers.{number-at, little-endian, pair-bytes}
-use Rattle.machine.specs.Run.{how-many}
+use Rattle.machine.specs.declared.Verdict.the-variants.{Looping}
+use Rattle.machine.specs.Run.{config, how-many}
 use Rattle.image.specs.Image.{machine, states, classes, symbols, rule-from}
 use Rattle.image.specs.Encoding.{header, rule-bytes, rules-bytes, encode}
 use Rattle.image.specs.Refusals.{pair-is, directory, counts, count-wrong, map-from, move-off, rule-bad, index-class, rule-count, image-refusal, capture-refusal, rules-refusal-from}
-use Rattle.simulator.specs.Calls.{judge-refusal}
+use Rattle.simulator.specs.declared.Judged.the-variants.{Answer}
+use Rattle.simulator.specs.Calls.{judgement, judge-refusal, Judge-says}
 use Rattle.grammar.specs.Grammar as Grammar
 use Rattle.builder.specs.declared.Matching.the-variants.{Whole}
 use Rattle.builder.specs.Classes.{cuts-at, cut-from, cut, class-of, class-count, class-in}
 use Rattle.builder.specs.Table.{rows, by-state, select, on-byte, row-zero, class-inside, rows-at, made}
 use Rattle.builder.specs.Image.{symbols-of, built-rules, rules-made, map-made, built, built-length, parts}
 use Rattle.builder.specs.Calls.{build-refusal}
-use Rattle.answer_line.specs.Line.{digits, decimal, field, refused-word, refusal-line, written, max-line}
+use Rattle.answer_line.specs.Line.{digits, decimal, field, verdict-word, refused-word, refusal-line, answer-line, written, max-line}
 use Rattle.answer.specs.Input.{capture-offset, first-pair-right, second-pair-right, input-refusal, input-grammar, input-capture}
-use Rattle.grammar_judge.specs.Calls.{Lent, parts-refusal}
-use Rattle.answer.specs.Calls.{answer-refusal, Parts-as, Parts-say, Input-as, Input-says, Answer-says}
-use Rattle.worked_examples.specs.Examples.{endless-grammar}
-use Rattle.worked_examples.specs.ProgramLine.{endless-input}
+use Rattle.grammar_judge.specs.Calls.{Lent, lent, parts-refusal}
+use Rattle.answer.specs.Calls.{judged-line, Built-and-judged, answer-refusal, Parts-as, Parts-say, Input-as, Input-says, Answer-says}
+use Rattle.worked_examples.specs.Examples.{Row, Row-holds, image-of, row-machine, endless-grammar}
+use Rattle.worked_examples.specs.ProgramLine.{endless-input, Program-room}
+use Rattle.promises.proofs.Proved.{promises}
+use Rattle.refuted.proofs.Witnesses.{judged-there}
+use Rattle.refuted.proofs.Rows.{c5, c5-holds}
 
 -- a right line that is short, written into any out buffer
 pub told :
@@ -86,3 +91,41 @@ pub endless-answering :
     (or-else (refuse-if (ltb (length (x .notes)) 30) (refusal 8 30)) (refuse-if (ltb (length (x .work)) 30) (refusal 9 30)))
 unfolding answer-refusal or-else
 endless-answering x = rw (endless-computed .0, endless-computed .1, endless-computed .2, endless-computed .3)
+
+-- judging an example that holds on any cells that are enough answers as its row says
+row-judged-on :
+    (r : Row) → Row-holds r → (a b : List ℕ) → how-many (row-machine r) ≤ length a → how-many (row-machine r) ≤ length b →
+    (x : List ℕ) × (y : List ℕ) × Judge-says (image-of (r .source)) (r .capture) (Answer (judgement (r .verdict) (r .readings) (r .end))) a x b y
+unfolding row-machine
+row-judged-on r h a b p q =
+    let bs : List ℕ = image-of (r .source) in
+    let cs : List ℕ = r .capture in
+    let j = judged-there bs cs a b (h .unrefused) p q in
+    let (same-verdict, same-end) =
+    promises .judge-exact bs cs a (j .a-now) b (j .b-now) (j .verdict) (j .readings) (j .end) (h .unrefused .bytes) (j .says) (r .verdict) (r .end) .0 (h .says) in
+    let entered = promises .readings-entered bs cs a (j .a-now) b (j .b-now) (j .verdict) (j .readings) (j .end) (h .unrefused .bytes) (j .says) in
+    let same-readings = promises .one-count bs cs (j .readings) (r .readings) (h .unrefused) entered (h .entered) in
+    (j .a-now, j .b-now, rw (same-verdict, same-end, ← same-readings) (j .says))
+
+c5-judged-on :
+    (a b : List ℕ) → 30 ≤ length a → 30 ≤ length b →
+    (x : List ℕ) × (y : List ℕ) × Judge-says (built Whole endless-grammar) [] (Answer (judgement Looping 2 (config 1 1 1))) a x b y
+unfolding row-machine image-of
+c5-judged-on a b p q = row-judged-on c5 c5-holds a b (omega (arith, endless-computed .4)) (omega (arith, endless-computed .4))
+
+-- so in the program's buffers C5's line is told
+endless-read :
+    (x y : Lent) (line out : List ℕ) → Program-room x out → Built-and-judged endless-grammar [] x y line → Input-says endless-input x y line
+unfolding Input-says Input-as Parts-say Parts-as or-else refuse-if
+endless-read x y line out room says =
+    rw (endless-computed .0, endless-computed .1, endless-computed .2, endless-computed .3, room .image, room .notes, room .work) says
+
+pub endless-told :
+    (x : Lent) (out : List ℕ) → Program-room x out → (y : Lent) × (out-now : List ℕ) × (count : ℕ) × Answer-says endless-input x y out out-now count
+unfolding answer-line verdict-word field decimal digits judged-line
+endless-told x out room =
+    let (a, b, judges) = c5-judged-on (x .notes) (x .work) (omega (arith, room .notes)) (omega (arith, room .work)) in
+    let y : Lent = lent (built Whole endless-grammar ++ drop (built-length endless-grammar) (x .image)) a b in
+    let line : List ℕ = answer-line Looping 2 (config 1 1 1) in
+    let read = endless-read x y line out room (record { judged = _; image-now = refl; judges = judges; says = refl }) in
+    (y, _, _, told endless-input x y line out read (omega arith))
