@@ -1,11 +1,10 @@
 -- Calls of the program's function and what they say: no input, an input with no grammar, and C5's. Assumes nothing.
 use mathlib.Core.Path.{_≡_, refl}
 use mathlib.Core.List.{List, [], _∷_, _++_}
-use Prim.Native.Nat.{ℕ, zero, suc, _≤_, min}
+use Prim.Native.Nat.{ℕ, _≤_, min}
 use native.Mathlib.Omega.{arith}
 use lib.Dec.{ltb}
 use lib.ListN.{length, drop}
-use Rattle.refusal.specs.declared.Refusal.{Refusal}
 use Rattle.refusal.specs.First.{refusal, or-else, refuse-if}
 use Rattle.codec.specs.Numbers.{number-at, little-endian, pair-bytes}
 use Rattle.machine.specs.declared.Verdict.the-variants.{Looping}

@@ -72,10 +72,6 @@ c1-unrefused = c1-holds .unrefused
 pub c1-capture : (n : ℕ) → capture-refusal c1-bytes n ≡ refuse-if (ltb max-capture n) (refusal 7 n)
 c1-capture n = sym (then-length c1-bytes n (image-refusal c1-bytes) refl (c1-unrefused .good) refl)
 
-pub c1-fine : capture-refusal c1-bytes 0 .number ≡ 0
-unfolding refuse-if
-c1-fine = rw (c1-capture 0)
-
 -- judging the empty one on any cells,
 pub c1-judging : (a b : ℕ) → judge-refusal c1-bytes [] a b ≡ or-else (refuse-if (ltb a 30) (refusal 8 30)) (refuse-if (ltb b 30) (refusal 9 30))
 unfolding judge-refusal or-else refuse-if

@@ -4,7 +4,7 @@ use mathlib.Core.List.{List, [], _∷_}
 use mathlib.Core.Option.{some}
 use Prim.Native.Nat.{ℕ}
 use native.Mathlib.Omega.{arith}
-use lib.ListN.{length, getD, replicate, length-replicate}
+use lib.ListN.{getD, replicate, length-replicate}
 use Rattle.refusal.specs.declared.Refusal.{Refusal}
 use Rattle.refusal.specs.First.{refusal, or-else, refuse-if}
 use Rattle.codec.specs.Numbers.{number-at, little-endian, pair-bytes}
@@ -24,7 +24,7 @@ use Rattle.answer_line.specs.Line.{digits, decimal, field, verdict-word, refuse
 use Rattle.answer.specs.Input.{input-grammar}
 use Rattle.answer.specs.Conditions.{Input-right}
 use Rattle.grammar_judge.specs.Calls.{Lent, lent}
-use Rattle.worked_examples.specs.Examples.{Row, row, from-grammar, Row-holds, table, grammar-rows, second-row, source-refusal, row-machine, empty-grammar, plain-table}
+use Rattle.worked_examples.specs.Examples.{row, from-grammar, Row-holds, table, grammar-rows, second-row, source-refusal, row-machine, empty-grammar, plain-table}
 use Rattle.worked_examples.specs.ProgramLine.{endless-input, endless-line, Program-room}
 use Rattle.sejimakpu.specs.Cells.{cells}
 use Rattle.sejimakpu.specs.Calls.{Judge-tells}

@@ -48,7 +48,7 @@ Capture-refused = (bs : List ℕ) (long n p : ℕ) → (capture-refusal bs long 
 abbrev pub Judging-refused : Type 0
 Judging-refused = (bs cs : List ℕ) (notes work n p : ℕ) → (judge-refusal bs cs notes work ≡ refusal n p) ↔ Judging-row bs cs work notes n p
 
--- one cell is too few
+-- one cell is refused, as none is
 abbrev pub Running-refused : Type 0
 Running-refused = (bs cs : List ℕ) (cells n p : ℕ) → (run-refusal bs cs (cells + 1) ≡ refusal n p) ↔ Running-row bs cs cells n p
 
