@@ -1,6 +1,7 @@
 -- The proofs of the promises: each cites the crate that proves it.
 pub mod Told
 pub mod MatchingTold
+pub mod CallsTold
 pub mod NotLooping
 pub mod TextNotLooping
 pub mod Proved

@@ -1,16 +1,22 @@
--- The choice of a match: a capture accepted whole is accepted leading, by the machines and by the calls; and what a C caller is told who builds and then judges. Assumes nothing.
+-- The choice of a match: a capture accepted whole is accepted leading, by the machines and by the calls; and what a C caller is told who builds and then judges: a verdict as parsing says. Assumes nothing.
 use mathlib.Core.Path.{_≡_, refl, sym, ap, subst, _∙_}
+use mathlib.Core.Bool.{cond}
 use mathlib.Core.List.{List}
 use Prim.Native.Nat.{ℕ}
 use native.Mathlib.Decide.{ℕ-discrete}
+use native.Mathlib.Omega.{arith}
+use lib.Dec.{eqb}
 use lib.ListN.{length, getD, take, drop}
 use lib.Seq.{take-at}
 use Rattle.codec.specs.Bytes.{Bytes}
-use Rattle.machine.specs.declared.Config.{Config}
-use Rattle.machine.specs.declared.Verdict.the-variants.{Accepted}
-use Rattle.machine.specs.Run.{config}
-use Rattle.machine.specs.Verdicts.{Says}
-use Rattle.image.specs.Image.{machine}
+use Rattle.machine.specs.declared.Verdict.{Verdict}
+use Rattle.machine.specs.declared.Verdict.the-variants.{Accepted, Ended, Stuck, Looping, Halted}
+use Rattle.machine.specs.Replies.{verdict-number}
+use Rattle.simulator.specs.declared.Judged.{Judged}
+use Rattle.simulator.specs.declared.Judged.the-variants.{Answer, Refused}
+use Rattle.simulator.specs.Calls.{Judge-says}
+use Rattle.simulator.specs.Replies.{of-judged}
+use Rattle.simulator.proofs.Answered.{judged-right, answered-fine}
 use Rattle.simulator.proofs.JudgingRight.{verdict-exact}
 use Rattle.grammar.specs.Grammar.{grammar-refusal}
 use Rattle.builder.specs.declared.Matching.{Matching}
@@ -23,11 +29,10 @@ use Rattle.builder.specs.Replies.{of-built}
 use Rattle.builder.proofs.Answered.{build-refused, build-answered, build-fine}
 use Rattle.builder.proofs.BuiltImage.{built-length-is}
 use Rattle.grammar_judge.specs.TwoCalls.{As-parsed}
-use Rattle.grammar_judge.proofs.TwoCallsHold.{accepts-exact}
+use Rattle.grammar_judge.proofs.TwoCallsHold.{accepts-exact, gets}
 use Rattle.sejimakpu.specs.Cells.{cells}
 use Rattle.sejimakpu.specs.Calls.{Judge-tells, Build-tells}
 use Rattle.promises.specs.Matching.{Default-leading, Whole-then-leading, Judged-whole-leading, Built-accepted-told}
-use Rattle.promises.proofs.Told.{accepted-told}
 
 pub default-leading : Default-leading
 unfolding default-matching
@@ -44,12 +49,49 @@ judged-whole-leading gs cs a a-now b b-now x x-now y y-now v n m d e good bytes 
     let (f, also) = whole-then-leading gs cs good bytes (d, said) in
     sym (verdict-exact (built Leading gs) cs x x-now y y-now v m e bytes leading Accepted f .0 also .0)
 
--- A CALL OF BUILDING THAT RETURNS 0 has built the image, and counts its bytes
-record Built-there (how : Matching) (grammar image-now counted : List ℕ) : Type 0 where
-  good : grammar-refusal grammar .number ≡ 0
-  there : take (getD counted 2 0) image-now ≡ built how grammar
+-- A VERDICT BY ITS NUMBER
+of-number : ℕ → Verdict
+of-number n = cond (eqb n 1) Accepted (cond (eqb n 2) Ended (cond (eqb n 3) Stuck (cond (eqb n 4) Looping Halted)))
 
-built-there :
+of-its-number : (v : Verdict) → of-number (verdict-number v) ≡ v
+unfolding verdict-number of-number
+of-its-number Accepted = refl
+of-its-number Ended = refl
+of-its-number Stuck = refl
+of-its-number Looping = refl
+of-its-number Halted = refl
+
+one-number : (v w : Verdict) → verdict-number v ≡ verdict-number w → v ≡ w
+one-number v w e = sym (of-its-number v) ∙ ap of-number e ∙ of-its-number w
+
+pub some-verdict : (v : Verdict) → 0 ≡ verdict-number v → ⊥
+unfolding verdict-number
+some-verdict Accepted e = omega arith
+some-verdict Ended e = omega arith
+some-verdict Stuck e = omega arith
+some-verdict Looping e = omega arith
+some-verdict Halted e = omega arith
+
+-- a call of judging by a built image that tells a verdict's number says what parsing does
+pub verdict-parsed :
+    (how : Matching) (gs cs a a-now b b-now : List ℕ) (r : Judged) (v : Verdict) → grammar-refusal gs .number ≡ 0 → Bytes cs →
+    Judge-says (built how gs) cs r a a-now b b-now → of-judged r .verdict ≡ verdict-number v →
+    (of-judged r .refusal ≡ 0) × As-parsed how gs cs v
+unfolding of-judged
+verdict-parsed how gs cs a a-now b b-now (Refused f) v good bytes says e = absurd (some-verdict v e)
+verdict-parsed how gs cs a a-now b b-now (Answer j) v good bytes says e =
+    let bs : List ℕ = built how gs in
+    let fine = answered-fine bs cs a a-now b b-now (j .verdict) (j .readings) (j .end) says in
+    let g = gets how gs cs a a-now b b-now (Answer j) good bytes (judged-right bs cs (Answer j) a a-now b b-now fine says) in
+    let same : g .verdict ≡ j .verdict = cc in
+    (refl, subst (As-parsed how gs cs) (same ∙ one-number (j .verdict) v e) (g .parsed))
+
+-- A CALL OF BUILDING THAT RETURNS 0 has built the image, and counts its bytes
+pub record Built-there (how : Matching) (grammar image-now counted : List ℕ) : Type 0 where
+  pub good : grammar-refusal grammar .number ≡ 0
+  pub there : take (getD counted 2 0) image-now ≡ built how grammar
+
+pub built-there :
     {how : Matching} {grammar image image-now counted : List ℕ} → Build-tells how grammar image image-now 0 counted →
     Built-there how grammar image-now counted
 unfolding of-built cells
@@ -71,19 +113,20 @@ built-there {how} {grammar} {image} {image-now} {counted} t = go (ℕ-discrete (
               ∙ take-at (built how grammar) (drop (built-length grammar) image) (built-length grammar) (built-length-is how grammar);
         }
 
--- and where judging by it tells 1 the capture is accepted as parsing says
-told-parsed :
-    {how : Matching} {grammar capture image-now notes notes-now work work-now : List ℕ} {returned : ℕ} {counted answer : List ℕ} → Bytes capture →
-    Built-there how grammar image-now counted →
-    Judge-tells (take (getD counted 2 0) image-now) capture notes notes-now work work-now returned answer → getD answer 1 0 ≡ 1 →
-    As-parsed how grammar capture Accepted
-told-parsed {how} {grammar} {capture} {answer = answer} bytes b judged one =
-    let (none, says) = accepted-told _ capture _ _ _ _ _ answer judged one in
-    let end : Config = config (getD answer 3 0) (getD answer 4 0) (getD answer 5 0) in
-    accepts-exact how grammar capture (b .good) bytes .0
-    (end, subst (λ (bs : List ℕ). Says (machine bs capture) Accepted end) (b .there) says)
+-- and where judging by it tells a verdict, it is as parsing says
+pub told-parsed :
+    {how : Matching} {grammar capture image-now notes notes-now work work-now : List ℕ} {returned : ℕ} {counted answer : List ℕ} (v : Verdict) →
+    Bytes capture → Built-there how grammar image-now counted →
+    Judge-tells (take (getD counted 2 0) image-now) capture notes notes-now work work-now returned answer → getD answer 1 0 ≡ verdict-number v →
+    (returned ≡ 0) × As-parsed how grammar capture v
+unfolding cells
+told-parsed {how} {grammar} {capture} {notes = a} {notes-now = a-now} {work = b} {work-now = b-now} v bytes at t is =
+    let says = subst (λ (bs : List ℕ). Judge-says bs capture (t .judged) a a-now b b-now) (at .there) (t .says) in
+    let told = ap (λ (l : List ℕ). getD l 1 0) (sym (t .tells .written)) ∙ is in
+    let (none, parsed) = verdict-parsed how grammar capture a a-now b b-now (t .judged) v (at .good) bytes says told in
+    (t .tells .number ∙ none, parsed)
 
 pub built-accepted-told : Built-accepted-told
-unfolding default-matching
+unfolding default-matching verdict-number
 built-accepted-told grammar capture image image-now notes notes-now work work-now returned counted answer bytes judged one =
-    (λ t. told-parsed bytes (built-there t) judged one, λ t. told-parsed bytes (built-there t) judged one)
+    (λ t. told-parsed Accepted bytes (built-there t) judged one .1, λ t. told-parsed Accepted bytes (built-there t) judged one .1)

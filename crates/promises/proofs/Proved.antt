@@ -71,6 +71,7 @@ use Rattle.recursion_theory.proofs.FirstParts.{no-result, met-loops}
 use Rattle.recursion_theory.proofs.Harmless.{fails-first-harmless, never-reached-harmless}
 use Rattle.promises.specs.Promises.{Promises}
 use Rattle.promises.proofs.MatchingTold.{default-leading, whole-then-leading, judged-whole-leading, built-accepted-told}
+use Rattle.promises.proofs.CallsTold.{read-right, typed-told, built-text-told, text-told}
 use Rattle.promises.proofs.NotLooping.{never-looping, judged-not-looping, line-not-looping, bundle-not-looping}
 use Rattle.promises.proofs.TextNotLooping.{recursion-named, typed-results, text-not-looping}
 use Rattle.promises.proofs.Told.{judge-refuses, run-refuses, build-refuses, answer-refuses, build-text-refuses, judge-text-refuses, judge-answers, run-answers, accepted-told, line-accepted}
@@ -161,6 +162,7 @@ promises =
       typed-right = typed-right;
       read-determined = λ text r s t u. (read-determined text r s t u, nothing-read text r t);
       read-good = good-read;
+      read-right = read-right;
       build-text-refuses = build-text-refuses;
       judge-text-refuses = judge-text-refuses;
       build-text-determined = build-text-determined;
@@ -229,4 +231,7 @@ promises =
       few-readings-leading = few-readings-leading;
       built-accepted-told = built-accepted-told;
       leading-rows = leading-rows;
+      typed-told = typed-told;
+      built-text-told = built-text-told;
+      text-told = text-told;
     }

@@ -1,4 +1,4 @@
--- What is promised, and nothing else: the claims of the three demands and of what users get, in the scope's order. An auditor reads these first; what they speak of is defined in the specs/ of the crates that they name.
+-- What is promised, and nothing else: the claims of the three demands, of what users get and of each request, and those that join the calls of the library, in the scope's order. An auditor reads these first; what they speak of is defined in the specs/ of the crates that they name.
 pub mod FirstDemand
 pub mod SecondDemand
 pub mod ThirdDemand
@@ -8,4 +8,5 @@ pub mod Bundles
 pub mod Recursion
 pub mod Halting
 pub mod Matching
+pub mod Calls
 pub mod Promises

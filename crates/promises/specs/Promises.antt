@@ -8,6 +8,7 @@ use Rattle.promises.specs.Bundles as Bundles
 use Rattle.promises.specs.Recursion as Recursion
 use Rattle.promises.specs.Halting as Halting
 use Rattle.promises.specs.Matching as Matching
+use Rattle.promises.specs.Calls as Calls
 
 pub record Promises : Type 0 where
   -- the first demand: refusals, and what follows from the input alone
@@ -98,6 +99,7 @@ pub record Promises : Type 0 where
   pub typed-right : Typed.Typed-parses
   pub read-determined : Typed.Read-determined
   pub read-good : Typed.Read-good
+  pub read-right : Typed.Read-right
   pub build-text-refuses : Typed.Build-text-refuses
   pub judge-text-refuses : Typed.Judge-text-refuses
   pub build-text-determined : Typed.Build-text-determined
@@ -170,3 +172,7 @@ pub record Promises : Type 0 where
   pub few-readings-leading : Matching.Few-readings-leading
   pub built-accepted-told : Matching.Built-accepted-told
   pub leading-rows : Matching.Leading-rows
+  -- from what a person types to what the C calls tell
+  pub typed-told : Calls.Typed-told
+  pub built-text-told : Calls.Built-text-told
+  pub text-told : Calls.Text-told

@@ -66,6 +66,12 @@ abbrev pub Read-good : Type 0
 Read-good =
     (text : List ℕ) (r : ReadGrammar) → Read-tells text r → r .refusal .number ≡ 0 → Typed-grammar text (take (r .length) (r .bytes))
 
+-- it is that of the text: every line's rule parses as the line's tree means
+abbrev pub Read-right : Type 0
+Read-right =
+    (text : List ℕ) (r : ReadGrammar) → Read-tells text r → r .refusal .number ≡ 0 →
+    (ds : List Definition) × Legal-text text ds × Typed-right ds (take (r .length) (r .bytes))
+
 -- A REFUSED CALL TELLS NUMBER AND PLACE AND NO VERDICT, AND CHANGES NO LENT CELL
 abbrev pub Build-text-refuses : Type 0
 Build-text-refuses =

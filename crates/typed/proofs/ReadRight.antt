@@ -1,19 +1,25 @@
 -- What reading a text gives: one answer, and a grammar that is right. Assumes nothing.
 use mathlib.Core.Path.{_≡_, refl, sym, ap, subst, _∙_}
+use mathlib.Core.Bool.{Bool, true, false, cond}
 use mathlib.Core.List.{List, [], _∷_}
 use Prim.Native.Nat.{ℕ, _*_, _-_, _≤_}
 use native.Mathlib.Omega.{arith}
+use lib.Dec.{eqb, ltb}
 use lib.ListN.{length, take, replicate, length-append}
 use lib.Seq.{take-at}
 use Rattle.refusal.specs.declared.Refusal.{Refusal}
+use Rattle.refusal.specs.First.{or-else, refuse-if}
 use Rattle.grammar.specs.Grammar.{max-rules, rules}
 use Rattle.grammar.proofs.ConditionsMet.{grammar-right}
-use Rattle.syntax.specs.Tokens.{Token}
-use Rattle.syntax.specs.Trees.{Definition, Reads, last-line, more-lines, Legal-text}
+use Rattle.syntax.specs.Tokens.{Token, Lexeme, lexemes}
+use Rattle.syntax.specs.Trees.{Definition, names, Reads, last-line, more-lines, Legal-text}
+use Rattle.syntax.specs.Faults.{fault, undefined-in, first-undefined}
+use Rattle.syntax.specs.FaultMeaning.{Wrong-at, misplaced, too-deep, ends-early}
 use Rattle.syntax.specs.Needs.{needs, later-refusal}
 use Rattle.syntax.specs.Compile.{grammar-of}
 use Rattle.syntax.specs.RuleOf.{Typed-right}
 use Rattle.syntax.specs.Reading.{Reading, Refused, Grammar, Read-says, at-fault, refused, read}
+use Rattle.syntax.proofs.FaultsRight.{faults-right}
 use Rattle.syntax.proofs.ReadingExact.{reading-exact}
 use Rattle.syntax_theory.proofs.TypedRight.{typed-right}
 use Rattle.reader.specs.declared.ReadGrammar.{ReadGrammar}
@@ -36,11 +42,43 @@ not-both text gs f p q =
     let z : _≡_ {A = ℕ} 0 1 = cc in
     omega arith
 
--- a refusal has a number
-some-number : {text : List ℕ} {a : Reading} → Read-says text a → (f : Refusal) → a ≡ Refused f → f .number ≡ 0 → ⊥
-some-number (at-fault h) f e z = h (cc)
-some-number (refused l h) f e z = h (cc)
-some-number (read l h) f e z = let n : _≡_ {A = ℕ} 0 1 = cc in omega arith
+-- A TEXT'S REFUSAL is 15, 16 or 17
+abbrev Of-text : Refusal → Type 0
+Of-text f = (f .number ≡ 0 → ⊥) → (15 ≤ f .number) × (f .number ≤ 17)
+
+either-of : (b : Bool) (f g : Refusal) → Of-text f → Of-text g → Of-text (cond b f g)
+either-of true f g p q = p
+either-of false f g p q = q
+
+fault-of-text : {text : List ℕ} {f : Refusal} → Wrong-at text f → Of-text f
+fault-of-text (misplaced before later l at viable not-on) some = (omega arith, omega arith)
+fault-of-text (too-deep before later l d at viable not-on deeper) some = (omega arith, omega arith)
+fault-of-text (ends-early viable not-legal) some = (omega arith, omega arith)
+
+undefined-of-text : (ms : List (List ℕ)) (ls : List Lexeme) → Of-text (first-undefined ms ls)
+unfolding first-undefined
+undefined-of-text ms [] = λ some. absurd (some refl)
+undefined-of-text ms (l ∷ ls) = either-of (undefined-in ms (l .token)) _ _ (λ some. (omega arith, omega arith)) (undefined-of-text ms ls)
+
+later-of-text : (text : List ℕ) (ds : List Definition) → Of-text (later-refusal text ds)
+unfolding later-refusal or-else refuse-if
+later-of-text text ds =
+    let undefined = first-undefined (names ds) (lexemes text) in
+    either-of (eqb (undefined .number) 0) _ undefined
+    (either-of (ltb max-rules (needs ds)) _ _ (λ some. (omega arith, omega arith)) (λ some. absurd (some refl)))
+    (undefined-of-text (names ds) (lexemes text))
+
+pub text-number : {text : List ℕ} {f : Refusal} → Read-says text (Refused f) → (15 ≤ f .number) × (f .number ≤ 17)
+text-number s = go s _ refl
+  where
+    go : {text : List ℕ} {a : Reading} → Read-says text a → (f : Refusal) → a ≡ Refused f → (15 ≤ f .number) × (f .number ≤ 17)
+    go {text} (at-fault h) f e =
+        let same : fault text ≡ f = cc in
+        subst (λ (g : Refusal). (15 ≤ g .number) × (g .number ≤ 17)) same (fault-of-text (faults-right text .0 (fault text) .1 (refl, h)) h)
+    go {text} (refused {ds = ds} l h) f e =
+        let same : later-refusal text ds ≡ f = cc in
+        subst (λ (g : Refusal). (15 ≤ g .number) × (g .number ≤ 17)) same (later-of-text text ds h)
+    go (read l h) f e = absurd (let n : _≡_ {A = ℕ} 0 1 = cc in omega arith)
 
 -- a text that is read has a line
 some-line : {d : ℕ} {ts : List Token} {ds : List Definition} → Reads d ts ds → ds ≡ [] → ⊥
@@ -108,7 +146,7 @@ told-refused text r (Grammar gs) s e h = absurd (h (ap (λ (x : ReadGrammar). x 
 told-grammar :
     (text : List ℕ) (r : ReadGrammar) (a : Reading) → Read-says text a → r ≡ grammar-answer a → r .refusal .number ≡ 0 → Grammar-there text r
 unfolding grammar-answer
-told-grammar text r (Refused f) s e z = absurd (some-number s f refl (sym (ap (λ (x : ReadGrammar). x .refusal .number) e) ∙ z))
+told-grammar text r (Refused f) s e z = absurd (omega (arith, text-number s, ap (λ (x : ReadGrammar). x .refusal .number) e, z))
 told-grammar text r (Grammar gs) s e z =
     grammar-there text gs r s (ap (λ (x : ReadGrammar). x .length) e) (ap (λ (x : ReadGrammar). x .bytes) e)
 

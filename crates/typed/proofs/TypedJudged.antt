@@ -17,7 +17,8 @@ use Rattle.simulator.specs.Calls.{Judged-right}
 use Rattle.simulator.proofs.Answered.{judged-right}
 use Rattle.grammar.specs.Grammar.{expression}
 use Rattle.grammar.specs.Parsing.{Parses}
-use Rattle.builder.specs.declared.Matching.the-variants.{Whole}
+use Rattle.builder.specs.declared.Matching.{Matching}
+use Rattle.builder.specs.declared.Matching.the-variants.{Whole, Leading}
 use Rattle.builder.specs.Image.{built}
 use Rattle.syntax.specs.Trees.{Definition, here, Legal-text}
 use Rattle.syntax.specs.Meaning.{Means}
@@ -42,14 +43,16 @@ module _ {d : Definition} {ds : List Definition} {gs : List ℕ} (t : Typed-righ
   parses : {o : Option ℕ} → Means (d ∷ ds) cs (d .body) 0 o → Parses (expression gs) cs 0 0 o
   parses {o} m = t .parses 0 (d .letters) (d .body) here cs 0 o .1 m
 
-  typed-as : (v : Verdict) → As-parsed Whole gs cs v → As-typed d ds cs v
-  typed-as Accepted p = means p
-  typed-as Ended p = p
-  typed-as Stuck (o, p, other) = (o, means p, other)
-  typed-as Looping p = λ o m. p o (parses m)
-  typed-as Halted p = p
+  pub typed-as : (how : Matching) (v : Verdict) → As-parsed how gs cs v → As-typed how d ds cs v
+  typed-as Whole Accepted p = means p
+  typed-as Leading Accepted (j, p) = (j, means p)
+  typed-as how Ended p = p
+  typed-as Whole Stuck (o, p, other) = (o, means p, other)
+  typed-as Leading Stuck p = means p
+  typed-as how Looping p = λ o m. p o (parses m)
+  typed-as how Halted p = p
 
-  parsed-as : (v : Verdict) → As-typed d ds cs v → As-parsed Whole gs cs v
+  parsed-as : (v : Verdict) → As-typed Whole d ds cs v → As-parsed Whole gs cs v
   parsed-as Accepted m = parses m
   parsed-as Ended m = m
   parsed-as Stuck (o, m, other) = (o, parses m, other)
@@ -68,21 +71,21 @@ module _
         ((c : Config) × Says (machine (built Whole (grammar-of (d ∷ ds))) cs) Accepted c) ↔ Means (d ∷ ds) cs (d .body) 0 (some (length cs))
     typed-accepts =
         let exact = accepts-exact Whole (grammar-of (d ∷ ds)) cs (right .good) bytes in
-        (λ s. typed-as right cs Accepted (exact .0 s), λ m. exact .1 (parsed-as right cs Accepted m))
+        (λ s. typed-as right cs Whole Accepted (exact .0 s), λ m. exact .1 (parsed-as right cs Accepted m))
 
     pub typed-stuck :
         ((c : Config) × Says (machine (built Whole (grammar-of (d ∷ ds))) cs) Stuck c)
         ↔ ((o : Option ℕ) × Means (d ∷ ds) cs (d .body) 0 o × (o ≡ some (length cs) → ⊥))
     typed-stuck =
         let exact = sticks-exact Whole (grammar-of (d ∷ ds)) cs (right .good) bytes in
-        (λ s. typed-as right cs Stuck (exact .0 s), λ m. exact .1 (parsed-as right cs Stuck m))
+        (λ s. typed-as right cs Whole Stuck (exact .0 s), λ m. exact .1 (parsed-as right cs Stuck m))
 
     pub typed-loops :
         length cs ≤ Format.max-capture →
         ((c : Config) × Says (machine (built Whole (grammar-of (d ∷ ds))) cs) Looping c) ↔ ((o : Option ℕ) → Means (d ∷ ds) cs (d .body) 0 o → ⊥)
     typed-loops short =
         let exact = loops-exact Whole (grammar-of (d ∷ ds)) cs (right .good) bytes short in
-        (λ s. typed-as right cs Looping (exact .0 s), λ none-meant. exact .1 (parsed-as right cs Looping none-meant))
+        (λ s. typed-as right cs Whole Looping (exact .0 s), λ none-meant. exact .1 (parsed-as right cs Looping none-meant))
 
 -- THE CALL
 typed-gets : {text gs cs : List ℕ} {r : Judged} → Lines-read text gs → Gets Whole gs cs r → Typed-gets text cs r
@@ -96,7 +99,7 @@ typed-gets {cs = cs} l g =
       readings = g .readings;
       end = g .end;
       answers = g .answers;
-      meant = typed-as t cs (g .verdict) (g .parsed);
+      meant = typed-as t cs Whole (g .verdict) (g .parsed);
       only = λ v m. g .only v (parsed-as t cs v m);
       few = subst (λ (n : ℕ). g .readings ≤ 6 * n * (length cs + 1) + 2) (rules-needed t) (g .few);
     }

@@ -1,7 +1,7 @@
 -- What a user gets who judges a capture by a grammar as text. Assumes nothing: these are definitions.
 use mathlib.Core.Path.{_≡_}
 use mathlib.Core.List.{List, _∷_}
-use mathlib.Core.Option.{Option, some}
+use mathlib.Core.Option.{Option, none, some}
 use Prim.Native.Nat.{ℕ, _+_, _*_, _≤_}
 use lib.ListN.{length}
 use Rattle.codec.specs.Bytes.{Bytes}
@@ -15,7 +15,8 @@ use Rattle.simulator.specs.declared.Judged.{Judged}
 use Rattle.simulator.specs.declared.Judged.the-variants.{Answer}
 use Rattle.simulator.specs.Calls.{judgement}
 use Rattle.grammar.specs.Grammar.{rules, grammar-refusal}
-use Rattle.builder.specs.declared.Matching.the-variants.{Whole}
+use Rattle.builder.specs.declared.Matching.{Matching}
+use Rattle.builder.specs.declared.Matching.the-variants.{Whole, Leading}
 use Rattle.builder.specs.Image.{built, built-length}
 use Rattle.syntax.specs.Trees.{Definition, Legal-text}
 use Rattle.syntax.specs.Meaning.{Means}
@@ -30,13 +31,22 @@ pub record Typed-grammar (text gs : List ℕ) : Type 0 where
   pub good : grammar-refusal gs .number ≡ 0
   pub counted : rules gs ≡ needs lines
 
--- accepted: the first line's expression consumes all; stuck: it has another result; looping: it has none; nothing else is said
-abbrev pub As-typed : (first : Definition) → (rest : List Definition) → (capture : List ℕ) → Verdict → Type 0
-As-typed d ds cs Accepted = Means (d ∷ ds) cs (d .body) 0 (some (length cs))
-As-typed d ds cs Ended = ⊥
-As-typed d ds cs Stuck = (o : Option ℕ) × Means (d ∷ ds) cs (d .body) 0 o × (o ≡ some (length cs) → ⊥)
-As-typed d ds cs Looping = (o : Option ℕ) → Means (d ∷ ds) cs (d .body) 0 o → ⊥
-As-typed d ds cs Halted = ⊥
+-- accepted: the first line's expression consumes all, or by a leading match succeeds at all; stuck: it has another result, which by a leading match is failure; looping: it has none; nothing else is said
+abbrev pub As-typed : Matching → (first : Definition) → (rest : List Definition) → (capture : List ℕ) → Verdict → Type 0
+As-typed Whole d ds cs Accepted = Means (d ∷ ds) cs (d .body) 0 (some (length cs))
+As-typed Leading d ds cs Accepted = (j : ℕ) × Means (d ∷ ds) cs (d .body) 0 (some j)
+As-typed how d ds cs Ended = ⊥
+As-typed Whole d ds cs Stuck = (o : Option ℕ) × Means (d ∷ ds) cs (d .body) 0 o × (o ≡ some (length cs) → ⊥)
+As-typed Leading d ds cs Stuck = Means (d ∷ ds) cs (d .body) 0 none
+As-typed how d ds cs Looping = (o : Option ℕ) → Means (d ∷ ds) cs (d .body) 0 o → ⊥
+As-typed how d ds cs Halted = ⊥
+
+-- a text is legal, and its lines give a capture this verdict
+pub record Text-says (how : Matching) (text cs : List ℕ) (v : Verdict) : Type 0 where
+  pub first : Definition
+  pub rest : List Definition
+  pub legal : Legal-text text (first ∷ rest)
+  pub meant : As-typed how first rest cs v
 
 -- an answer, the verdict as the typed grammar says and no other, and few readings
 pub record Typed-gets (text cs : List ℕ) (r : Judged) : Type 0 where
@@ -47,8 +57,8 @@ pub record Typed-gets (text cs : List ℕ) (r : Judged) : Type 0 where
   pub readings : ℕ
   pub end : Config
   pub answers : r ≡ Answer (judgement verdict readings end)
-  pub meant : As-typed first rest cs verdict
-  pub only : (v : Verdict) → As-typed first rest cs v → v ≡ verdict
+  pub meant : As-typed Whole first rest cs verdict
+  pub only : (v : Verdict) → As-typed Whole first rest cs v → v ≡ verdict
   pub few : readings ≤ 6 * needs (first ∷ rest) * (length cs + 1) + 2
 
 -- a text that is read, a capture of bytes that is not too long, and enough room
