@@ -2,6 +2,8 @@
 pub mod Told
 pub mod MatchingTold
 pub mod CallsTold
+pub mod ChecksTold
+pub mod CallsDetermined
 pub mod NotLooping
 pub mod TextNotLooping
 pub mod Proved

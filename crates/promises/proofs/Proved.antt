@@ -72,8 +72,10 @@ use Rattle.recursion_theory.proofs.Harmless.{fails-first-harmless, never-reache
 use Rattle.promises.specs.Promises.{Promises}
 use Rattle.promises.proofs.MatchingTold.{default-leading, whole-then-leading, judged-whole-leading, built-accepted-told}
 use Rattle.promises.proofs.CallsTold.{read-right, typed-told, built-text-told, text-told}
+use Rattle.promises.proofs.ChecksTold.{check-told, cells-told, recursion-told}
+use Rattle.promises.proofs.CallsDetermined.{calls-determined}
 use Rattle.promises.proofs.NotLooping.{never-looping, judged-not-looping, line-not-looping, bundle-not-looping}
-use Rattle.promises.proofs.TextNotLooping.{recursion-named, typed-results, text-not-looping}
+use Rattle.promises.proofs.TextNotLooping.{recursion-named, typed-results, text-not-looping, text-recursion-told}
 use Rattle.promises.proofs.Told.{judge-refuses, run-refuses, build-refuses, answer-refuses, build-text-refuses, judge-text-refuses, judge-answers, run-answers, accepted-told, line-accepted}
 
 pub promises : Promises
@@ -234,4 +236,9 @@ promises =
       typed-told = typed-told;
       built-text-told = built-text-told;
       text-told = text-told;
+      check-told = check-told;
+      cells-told = cells-told;
+      recursion-told = recursion-told;
+      text-recursion-told = text-recursion-told;
+      calls-determined = calls-determined;
     }

@@ -1,12 +1,14 @@
--- A typed grammar that passes the check for left recursion has a result for every line, and judging by it never says looping; and one that does not pass is named. Assumes nothing.
+-- A typed grammar that passes the check for left recursion has a result for every line, and judging by it never says looping; one that does not pass is named; and the numbers that a C caller is told. Assumes nothing.
 use mathlib.Core.Path.{_≡_, refl, sym, ap, subst}
 use mathlib.Core.List.{List, _∷_}
+use mathlib.Core.Logic.{_↔_}
 use mathlib.Core.Option.{Option}
 use Prim.Native.Nat.{ℕ, _<_}
 use native.Mathlib.Omega.{arith}
-use lib.ListN.{length}
-use Rattle.codec.specs.Bytes.{Bytes, section}
+use lib.ListN.{length, getD}
+use Rattle.codec.specs.Bytes.{Bytes}
 use Rattle.refusal.specs.declared.Refusal.{Refusal}
+use Rattle.refusal.specs.First.{refusal}
 use Rattle.machine.specs.declared.Config.{Config}
 use Rattle.machine.specs.declared.Verdict.{Verdict}
 use Rattle.machine.specs.declared.Verdict.the-variants.{Looping}
@@ -19,17 +21,22 @@ use Rattle.builder.specs.Image.{built}
 use Rattle.recursion.specs.Computed.{recursion-refusal}
 use Rattle.syntax.specs.Trees.{Tree, Definition, Defines, Legal-text}
 use Rattle.syntax.specs.Meaning.{Means}
-use Rattle.syntax.specs.RuleLines.{first-helper, Line-of-rule, own, helper}
-use Rattle.syntax.specs.Reading.{Grammar, Read-says}
+use Rattle.syntax.specs.RuleLines.{first-helper, Line-of-rule, own, helper, Name-at}
+use Rattle.syntax.specs.Reading.{Refused as Unread, Grammar, Read-says}
 use Rattle.syntax.proofs.Counting.{lines-needed}
 use Rattle.syntax.proofs.ReadingExact.{unambiguous}
 use Rattle.syntax_theory.proofs.Named.{defines-below}
 use Rattle.grammar_judge.specs.Calls.{Lent}
 use Rattle.typed.specs.declared.left_recursion.TextRecursion.{TextRecursion}
-use Rattle.typed.specs.declared.left_recursion.TextRecursion.the-variants.{Passes, Recursive}
+use Rattle.typed.specs.declared.left_recursion.TextRecursion.the-variants.{Passes, Refused, Recursive}
 use Rattle.typed.specs.Calls.{Judge-text-says, refused, judged}
 use Rattle.typed.specs.Recursion.{Text-recursion-says, passes, recursive}
-use Rattle.typed.proofs.ReadRight.{lines-read, lines-right, rules-needed, one-grammar}
+use Rattle.typed.specs.Replies.{of-text-recursion}
+use Rattle.typed.proofs.ReadRight.{lines-read, lines-right, rules-needed, one-grammar, text-number}
+use Rattle.typed.proofs.RecursionDetermined.{text-recursion-determined}
+use Rattle.sejimakpu.specs.Cells.{cells, Reply-written}
+use Rattle.promises.specs.Recursion.{Recursion-named}
+use Rattle.promises.specs.Calls.{Text-recursion-told}
 use Rattle.promises.proofs.NotLooping.{all-results, judged-not-looping}
 
 clash : {A : Type 0} → _≡_ {A = ℕ} 0 1 → A
@@ -80,21 +87,54 @@ unfolding first-helper
 own-line (own h) below = refl
 own-line (helper h least most) below = absurd (omega arith)
 
-pub recursion-named :
-    (text : List ℕ) (ds : List Definition) (k o : ℕ) → Text-recursion-says text (Recursive k o) → Legal-text text ds → k < length ds →
-    (n : List ℕ) × (e : Tree) × Defines ds k n e × (section text o (length n) ≡ n)
+pub recursion-named : Recursion-named
 recursion-named text ds k o says legal below = go says refl
   where
-    go : {r : TextRecursion} → Text-recursion-says text r → r ≡ Recursive k o → (n : List ℕ) × (e : Tree) × Defines ds k n e × (section text o (length n) ≡ n)
+    go : {r : TextRecursion} → Text-recursion-says text r → r ≡ Recursive k o → Name-at text ds k o
     go (Text-recursion-says.unread s) e = clash cc
     go (passes s e) is = clash cc
     go (recursive {ds = es} {k = j} {line = line} {offset = a} l s e p x) is =
         let rule : j ≡ k = cc in
         let offset : a ≡ o = cc in
         let same : es ≡ ds = unambiguous _ _ es ds (l .reads) (legal .reads) in
-        let of-it : Line-of-rule ds k line = subst (λ (fs : List Definition). Line-of-rule fs k line) same (subst (λ (m : ℕ). Line-of-rule es m line) rule p) in
-        let its : line ≡ k = own-line of-it below in
-        let defined : Defines ds k (x .name) (x .body) =
-        subst (λ (fs : List Definition). Defines fs k (x .name) (x .body)) same (subst (λ (m : ℕ). Defines es m (x .name) (x .body)) its (x .defined))
-        in
-        (x .name, x .body, defined, subst (λ (m : ℕ). section text m (length (x .name)) ≡ x .name) offset (x .there))
+        let of-it : Line-of-rule ds k line = rw (sym same, sym rule) p in
+        let named : Name-at text ds line o = rw (sym same, sym offset) x in
+        subst (λ (m : ℕ). Name-at text ds m o) (own-line of-it below) named
+
+-- WHAT A C CALLER IS TOLD: 0, 19, or the text's own number, which is neither
+unread-so : {text : List ℕ} {r : TextRecursion} {f : Refusal} → Text-recursion-says text r → r ≡ Refused f → Read-says text (Unread f)
+unread-so {text} {f = f} (Text-recursion-says.unread {f = g} s) e = let same : g ≡ f = cc in subst (λ (h : Refusal). Read-says text (Unread h)) same s
+unread-so (passes s h) e = clash cc
+unread-so (recursive l s h p x) e = clash cc
+
+pub text-recursion-told : Text-recursion-told
+unfolding of-text-recursion cells
+text-recursion-told text returned answer t = go (t .checked) (t .says) (t .tells)
+  where
+    only : {q r : TextRecursion} → Text-recursion-says text q → Text-recursion-says text r → q ≡ r
+    only s u = text-recursion-determined text _ _ s u
+
+    go :
+        (r : TextRecursion) → Text-recursion-says text r → Reply-written (of-text-recursion r) returned answer →
+        ((returned ≡ 0) ↔ Text-recursion-says text Passes)
+        × ((returned ≡ 19) ↔ Text-recursion-says text (Recursive (getD answer 0 0) (getD answer 2 0)))
+        × ((returned ≡ 0 → ⊥) → (returned ≡ 19 → ⊥) → Read-says text (Unread (refusal returned (getD answer 0 0))))
+    go Passes s w = (
+      (λ z. s, λ p. w .number),
+      (λ e. absurd (omega (arith, w .number, e)), λ q. let same = only s q in clash cc),
+      λ some other. absurd (some (w .number)),
+    )
+    go (Refused f) s w =
+        let read = unread-so s refl in
+        let place : getD answer 0 0 ≡ f .place = ap (λ (l : List ℕ). getD l 0 0) (w .written) in (
+          (λ z. absurd (omega (arith, text-number read, w .number, z)), λ p. let same = only s p in clash cc),
+          (λ e. absurd (omega (arith, text-number read, w .number, e)), λ q. let same = only s q in clash cc),
+          λ some other. rw (w .number, place) read,
+        )
+    go (Recursive k o) s w =
+        let place : getD answer 0 0 ≡ k = ap (λ (l : List ℕ). getD l 0 0) (w .written) in
+        let count : getD answer 2 0 ≡ o = ap (λ (l : List ℕ). getD l 2 0) (w .written) in (
+          (λ z. absurd (omega (arith, w .number, z)), λ p. let same = only s p in clash cc),
+          (λ e. rw (place, count) s, λ q. w .number),
+          λ some other. absurd (other (w .number)),
+        )

@@ -176,3 +176,8 @@ pub record Promises : Type 0 where
   pub typed-told : Calls.Typed-told
   pub built-text-told : Calls.Built-text-told
   pub text-told : Calls.Text-told
+  pub check-told : Calls.Check-told
+  pub cells-told : Calls.Cells-told
+  pub recursion-told : Calls.Recursion-told
+  pub text-recursion-told : Calls.Text-recursion-told
+  pub calls-determined : Calls.Calls-determined

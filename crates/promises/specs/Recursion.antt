@@ -6,7 +6,7 @@ use mathlib.Core.Logic.{_↔_}
 use mathlib.Core.Option.{Option, some}
 use Prim.Native.Nat.{ℕ, _<_}
 use lib.ListN.{length}
-use Rattle.codec.specs.Bytes.{Bytes, section}
+use Rattle.codec.specs.Bytes.{Bytes}
 use Rattle.refusal.specs.First.{refusal}
 use Rattle.machine.specs.declared.Config.{Config}
 use Rattle.machine.specs.declared.Verdict.{Verdict}
@@ -30,6 +30,7 @@ use Rattle.recursion_theory.specs.Harmless.{Harmless, fails-first, never-reache
 use Rattle.grammar_judge.specs.Calls.{Lent}
 use Rattle.syntax.specs.Trees.{Tree, Definition, Defines, Legal-text}
 use Rattle.syntax.specs.Meaning.{Means}
+use Rattle.syntax.specs.RuleLines.{Name-at}
 use Rattle.typed.specs.declared.left_recursion.TextRecursion.{TextRecursion}
 use Rattle.typed.specs.declared.left_recursion.TextRecursion.the-variants.{Passes, Recursive}
 use Rattle.typed.specs.Calls.{Judge-text-says}
@@ -89,11 +90,11 @@ abbrev pub Text-recursion-determined : Type 0
 Text-recursion-determined =
     (text : List ℕ) (r s : TextRecursion) → Text-recursion-says text r → Text-recursion-says text s → r ≡ s
 
--- a rule that has a name is named by it: at the offset stands the name of the rule's own line,
+-- a rule that has a name is named by it: at the offset the rule's own line begins, and the line's name stands there,
 abbrev pub Recursion-named : Type 0
 Recursion-named =
     (text : List ℕ) (ds : List Definition) (k o : ℕ) → Text-recursion-says text (Recursive k o) → Legal-text text ds → k < length ds →
-    (n : List ℕ) × (e : Tree) × Defines ds k n e × (section text o (length n) ≡ n)
+    Name-at text ds k o
 
 -- in a text that passes the expression of every line has a result, at every place of every capture,
 abbrev pub Typed-results : Type 0
