@@ -1,8 +1,10 @@
 -- The plain run's answer is true of the run itself. Assumes nothing.
-use mathlib.Core.Path.{_≡_, refl}
+use mathlib.Core.Path.{_≡_, refl, sym}
 use mathlib.Core.Bool.{Bool, true, false, cond}
 use mathlib.Core.Option.{some}
 use Prim.Native.Nat.{ℕ, zero, suc, _+_, _≤_, _<_}
+use native.Mathlib.Decide.{decLe}
+use native.Mathlib.Nat.{le-refl}
 use native.Mathlib.Omega.{arith}
 use lib.Dec.{ltb}
 use lib.ListN.{length}
@@ -13,15 +15,36 @@ use Rattle.machine.specs.Run.{Machine, Description, Outcome, stopped, over, nex
 use Rattle.interpreter.specs.declared.Exit.{Exit}
 use Rattle.interpreter.specs.declared.Exit.the-variants.{Terminated, Spent, Deep}
 use Rattle.interpreter.specs.PlainRun.{Run-end, run-end, spent-or, run-step, run-on, Exits-as, last-pop, True-end}
-use Rattle.machine.proofs.Runs.{after-next}
+use Rattle.machine.proofs.Runs.{after-next, some-same}
 use Rattle.machine.proofs.Terminates.{termination-stopped, termination-over}
 use Rattle.interpreter.proofs.Heights.{pushes}
 
--- the run is at x after n steps, and x has no more entries than cells
+-- the run is at x after n steps, and so far it has had no more entries than cells
 record Comes (M : Machine) (b k n : ℕ) (x : Description) : Type 0 where
   comes : after n M start ≡ some x
-  low : length (x .stack) ≤ k
+  fits : (m : ℕ) (y : Description) → m ≤ n → after m M start ≡ some y → length (y .stack) ≤ k
   within : n ≤ b
+
+low : {M : Machine} {b k n : ℕ} {x : Description} → Comes M b k n x → length (x .stack) ≤ k
+low {n = n} {x} h = h .fits n x (le-refl n) (h .comes)
+
+-- one step more
+comes-on :
+    {M : Machine} {b k n : ℕ} {x y : Description} → Comes M b k n x → n < b → step M x ≡ next y → length (y .stack) ≤ k → Comes M b k (suc n) y
+comes-on {M} {b} {k} {n} {x} {y} h l f few = record { comes = there; fits = fits-on; within = omega arith }
+  where
+    there : after (suc n) M start ≡ some y
+    there = after-next M n start (h .comes) f
+
+    fits-on : (m : ℕ) (z : Description) → m ≤ suc n → after m M start ≡ some z → length (z .stack) ≤ k
+    fits-on m z most e = go (decLe m n)
+      where
+        go : Dec (m ≤ n) → length (z .stack) ≤ k
+        go (yes before) = h .fits m z before e
+        go (no past) =
+            let last : m ≡ suc n = omega arith in
+            let same : z ≡ y = some-same (after (suc n) M start) (rw last at e) there in
+            rw same few
 
 over-not-stopped : (o : Outcome) (p i : ℕ) → o ≡ over p i → (r : Reason) → o ≡ stopped r → ⊥
 over-not-stopped o p i e r f = let z : _≡_ {A = ℕ} 0 1 = cc in omega arith
@@ -40,6 +63,7 @@ module _ (M : Machine) (b k : ℕ) where
         counted = omega (arith, none-more);
         comes = h .comes;
         is = refl;
+        fits = h .fits;
         exits = exits;
       }
 
@@ -58,10 +82,9 @@ module _ (M : Machine) (b k : ℕ) where
   unfolding Exits-as last-pop
   goes n x y rest h l f go true g =
       let m : k < length (y .stack) = ltb-true _ _ g in
-      let w = pushes M x y k f (h .low) m in
+      let w = pushes M x y k f (low h) m in
       left n x Deep h refl (l, w .full, w .pushed, w .by)
-  goes n x y rest h l f go false g =
-      go (record { comes = after-next M n start (h .comes) f; low = ltb-false _ _ g; within = omega arith })
+  goes n x y rest h l f go false g = go (comes-on h l f (ltb-false _ _ g))
 
   stepped :
       (n : ℕ) (x : Description) (go : Description → Run-end) → Comes M b k n x → n < b →
@@ -77,6 +100,7 @@ module _ (M : Machine) (b k : ℕ) where
         counted = omega arith;
         comes = h .comes;
         is = refl;
+        fits = h .fits;
         exits = termination-over M x f refl;
       }
   stepped n x go h l more (next y) f = goes n x y (go y) h l f (more y) (ltb k (length (y .stack))) refl
@@ -87,6 +111,16 @@ module _ (M : Machine) (b k : ℕ) where
   run-true (suc f) n x h e =
       stepped n x (λ y. run-on f M (suc n) k y) h (omega arith) (λ y g. run-true f (suc n) y g (omega arith)) (step M x) refl
 
-pub plain-run-true : (M : Machine) (budget cells : ℕ) → 0 < cells → True-end M budget cells (run-on budget M 0 cells start)
+-- the start has one entry
+starts : (M : Machine) (b k : ℕ) → 0 < k → Comes M b k 0 start
 unfolding after start
-plain-run-true M b k h = run-true M b k b 0 start (record { comes = refl; low = omega arith; within = omega arith }) (omega arith)
+starts M b k h = record { comes = refl; fits = only; within = omega arith }
+  where
+    only : (m : ℕ) (y : Description) → m ≤ 0 → after m M start ≡ some y → length (y .stack) ≤ k
+    only m y most e =
+        let none-yet : m ≡ 0 = omega arith in
+        let same : start ≡ y = some-same (after 0 M start) refl (rw none-yet at e) in
+        rw (sym same) (omega arith)
+
+pub plain-run-true : (M : Machine) (budget cells : ℕ) → 0 < cells → True-end M budget cells (run-on budget M 0 cells start)
+plain-run-true M b k h = run-true M b k b 0 start (starts M b k h) (omega arith)

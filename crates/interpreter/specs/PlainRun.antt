@@ -52,7 +52,7 @@ last-pop (Terminated (Stopped r)) = 0
 last-pop Spent = 0
 last-pop Deep = 0
 
--- the steps are within the budget, and so many steps of the run lead to the configuration reached, where the run is as the exit says
+-- the steps are within the budget, and so many steps of the run lead to the configuration reached, where the run is as the exit says; all the way there the stack fits the cells
 pub record True-end (M : Machine) (budget cells : ℕ) (r : Run-end) : Type 0 where
   pub before : ℕ
   pub place : Description
@@ -60,4 +60,5 @@ pub record True-end (M : Machine) (budget cells : ℕ) (r : Run-end) : Type 0 wh
   pub counted : r .steps ≡ before + last-pop (r .exit)
   pub comes : after before M start ≡ some place
   pub is : config-of place ≡ r .reached
+  pub fits : (m : ℕ) (y : Description) → m ≤ before → after m M start ≡ some y → length (y .stack) ≤ cells
   pub exits : Exits-as (r .exit) M budget cells (r .steps) place

@@ -134,7 +134,7 @@ Build-then-judge =
     Build-says how gs b image image-now → Judge-says (take (built-length gs) image-now) cs r notes notes-now work work-now →
     (b ≡ Image (built-length gs)) × Gets how gs cs r
 
--- THE PLAIN RUN'S answer is true of the run: within its budget, by the run's own steps, at the configuration reached; and all lent cells are 0
+-- THE PLAIN RUN'S answer is true of the run: within its budget and all the way within its cells, by the run's own steps, at the configuration reached; and all lent cells are 0
 abbrev pub Plain-run-true : Type 0
 Plain-run-true = (M : Machine) (budget cells : ℕ) → 0 < cells → True-end M budget cells (run-on budget M 0 cells start)
 
