@@ -10,6 +10,7 @@ pub mod Terminates
 pub mod SameRuns
 pub mod HaltsLikeStuck
 pub mod OneVerdict
+pub mod VerdictRows
 pub mod RightNotes
 pub mod NotesOfRun
 pub mod Reach

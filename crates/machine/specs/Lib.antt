@@ -6,3 +6,4 @@ pub mod LikeStuck
 pub mod Removal
 pub mod Replies
 pub mod Implications
+pub mod VerdictRows

@@ -7,6 +7,7 @@ use Rattle.image.proofs.HaltingRules.{halting-right, lookup-apart, rule-as-befo
 use Rattle.machine.proofs.Reach.{entered-there}
 use Rattle.machine.proofs.Listing.{one-count}
 use Rattle.machine.proofs.OneVerdict.{one-verdict}
+use Rattle.machine.proofs.VerdictRows.{says-by-row}
 use Rattle.machine.proofs.HaltsLikeStuck.{halts-like-stuck}
 use Rattle.machine.proofs.Terminators.{one-end, terminators-of-run}
 use Rattle.machine.proofs.NotesOfRun.{same-each-time, notes-of-run}
@@ -105,6 +106,7 @@ promises =
       judge-later = later-kept;
       verdict-there = verdict-there;
       one-verdict = one-verdict;
+      verdict-rows = says-by-row;
       judge-answers = judge-answers;
       judge-exact = verdict-exact;
       looping-endless = looping-exact;

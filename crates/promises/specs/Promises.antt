@@ -37,6 +37,7 @@ pub record Promises : Type 0 where
   -- the second demand: verdicts
   pub verdict-there : Second.Verdict-there
   pub one-verdict : Second.One-verdict
+  pub verdict-rows : Second.Verdict-rows
   pub judge-answers : Second.Judge-answers
   pub judge-exact : Second.Judge-exact
   pub looping-endless : Second.Looping-endless

@@ -15,6 +15,7 @@ use Rattle.machine.specs.Run.{Machine, config, start, how-many}
 use Rattle.codec.specs.Bytes.{Bytes}
 use Rattle.image.specs.Image.{machine}
 use Rattle.machine.specs.Verdicts.{Says, Goes-on}
+use Rattle.machine.specs.VerdictRows.{Says-by-row}
 use Rattle.image.specs.Refusals.{Unrefused, image-refusal}
 use Rattle.machine.specs.Replies.{verdict-number, answer-reply}
 use Rattle.simulator.specs.declared.Judged.{Judged}
@@ -45,6 +46,10 @@ Verdict-there = (bs cs : List ℕ) → Unrefused bs cs → (v : Verdict) × (d :
 
 abbrev pub One-verdict : Type 0
 One-verdict = (M : Machine) (v w : Verdict) (d e : Config) → Says M v d → Says M w e → (v ≡ w) × (d ≡ e)
+
+-- it is document 03's: a row for each verdict, and document 04's for halted
+abbrev pub Verdict-rows : Type 0
+Verdict-rows = (M : Machine) (v : Verdict) (d : Config) → Says M v d ↔ Says-by-row M v d
 
 -- A CALL THAT IS NOT REFUSED ANSWERS, and tells refusal 0 and the verdict's number
 abbrev pub Judge-answers : Type 0
