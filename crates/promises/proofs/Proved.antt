@@ -48,6 +48,7 @@ use Rattle.grammar_judge.proofs.TwoCallsHold.{accepts-exact, sticks-exact, loop
 use Rattle.syntax.proofs.FaultsRight.{faults-right}
 use Rattle.syntax.proofs.ReadingExact.{unambiguous, reading-exact}
 use Rattle.syntax_theory.proofs.TypedRight.{typed-right}
+use Rattle.syntax_theory.proofs.LineRules.{rules-of-lines}
 use Rattle.typed.proofs.ReadRight.{nothing-read, good-read, read-determined}
 use Rattle.typed.proofs.Determined.{build-text-determined, build-text-independent, judge-text-determined, judge-text-independent}
 use Rattle.typed.proofs.RecursionDetermined.{text-recursion-determined}
@@ -76,7 +77,7 @@ use Rattle.promises.proofs.CallsTold.{read-right, typed-told, built-tex
 use Rattle.promises.proofs.ChecksTold.{check-told, cells-told, recursion-told}
 use Rattle.promises.proofs.CallsDetermined.{calls-determined}
 use Rattle.promises.proofs.NotLooping.{never-looping, judged-not-looping, line-not-looping, bundle-not-looping}
-use Rattle.promises.proofs.TextNotLooping.{recursion-named, typed-results, text-not-looping, text-recursion-told}
+use Rattle.promises.proofs.TextNotLooping.{recursion-named, recursion-line, typed-results, text-not-looping, text-recursion-told}
 use Rattle.promises.proofs.Told.{judge-refuses, run-refuses, build-refuses, answer-refuses, build-text-refuses, judge-text-refuses, judge-answers, run-answers, accepted-told, line-accepted}
 
 pub promises : Promises
@@ -164,6 +165,7 @@ promises =
       unambiguous = unambiguous;
       reading-exact = reading-exact;
       typed-right = typed-right;
+      rules-of-lines = rules-of-lines;
       read-determined = λ text r s t u. (read-determined text r s t u, nothing-read text r t);
       read-good = good-read;
       read-right = read-right;
@@ -206,6 +208,7 @@ promises =
       bundle-not-looping = bundle-not-looping;
       text-recursion-determined = text-recursion-determined;
       recursion-named = recursion-named;
+      recursion-line = recursion-line;
       typed-results = typed-results;
       text-not-looping = text-not-looping;
       tried-first-fails = λ E k back cs i o. no-result back cs i o;

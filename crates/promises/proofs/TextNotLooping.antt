@@ -20,12 +20,14 @@ use Rattle.builder.specs.declared.Matching.the-variants.{Whole}
 use Rattle.builder.specs.Image.{built}
 use Rattle.recursion.specs.Computed.{recursion-refusal}
 use Rattle.syntax.specs.Trees.{Tree, Definition, Defines, Legal-text}
-use Rattle.syntax.specs.Meaning.{Means}
+use Rattle.syntax_theory.specs.Meaning.{Means}
+use Rattle.syntax.specs.Needs.{later-refusal}
 use Rattle.syntax.specs.RuleLines.{first-helper, Line-of-rule, own, helper, Name-at}
 use Rattle.syntax.specs.Reading.{Refused as Unread, Grammar, Read-says}
 use Rattle.syntax.proofs.Counting.{lines-needed}
 use Rattle.syntax.proofs.ReadingExact.{unambiguous}
 use Rattle.syntax_theory.proofs.Named.{defines-below}
+use Rattle.syntax_theory.proofs.LineRules.{rules-of-lines}
 use Rattle.grammar_judge.specs.Calls.{Lent}
 use Rattle.typed.specs.declared.left_recursion.TextRecursion.{TextRecursion}
 use Rattle.typed.specs.declared.left_recursion.TextRecursion.the-variants.{Passes, Refused, Recursive}
@@ -35,7 +37,7 @@ use Rattle.typed.specs.Replies.{of-text-recursion}
 use Rattle.typed.proofs.ReadRight.{lines-read, lines-right, rules-needed, one-grammar, text-number}
 use Rattle.typed.proofs.RecursionDetermined.{text-recursion-determined}
 use Rattle.sejimakpu.specs.Cells.{cells, Reply-written}
-use Rattle.promises.specs.Recursion.{Recursion-named}
+use Rattle.promises.specs.Recursion.{Recursion-named, Recursion-line}
 use Rattle.promises.specs.Calls.{Text-recursion-told}
 use Rattle.promises.proofs.NotLooping.{all-results, judged-not-looping}
 
@@ -87,19 +89,42 @@ unfolding first-helper
 own-line (own h) below = refl
 own-line (helper h least most) below = absurd (omega arith)
 
-pub recursion-named : Recursion-named
-recursion-named text ds k o says legal below = go says refl
+-- THE LINE THAT 19 NAMES, of a text that is read
+record Named (text : List ℕ) (ds : List Definition) (k o : ℕ) : Type 0 where
+  line : ℕ
+  of-rule : Line-of-rule ds k line
+  at : Name-at text ds line o
+  unrefused : later-refusal text ds .number ≡ 0
+
+named : {text : List ℕ} {ds : List Definition} {k o : ℕ} → Text-recursion-says text (Recursive k o) → Legal-text text ds → Named text ds k o
+named {text} {ds} {k} {o} says legal = go says refl
   where
-    go : {r : TextRecursion} → Text-recursion-says text r → r ≡ Recursive k o → Name-at text ds k o
+    go : {r : TextRecursion} → Text-recursion-says text r → r ≡ Recursive k o → Named text ds k o
     go (Text-recursion-says.unread s) e = clash cc
     go (passes s e) is = clash cc
     go (recursive {ds = es} {k = j} {line = line} {offset = a} l s e p x) is =
         let rule : j ≡ k = cc in
         let offset : a ≡ o = cc in
         let same : es ≡ ds = unambiguous _ _ es ds (l .reads) (legal .reads) in
-        let of-it : Line-of-rule ds k line = rw (sym same, sym rule) p in
-        let named : Name-at text ds line o = rw (sym same, sym offset) x in
-        subst (λ (m : ℕ). Name-at text ds m o) (own-line of-it below) named
+        let r = lines-read s in
+        let its : r .first ∷ r .rest ≡ ds = unambiguous _ _ _ ds (r .legal .reads) (legal .reads) in
+        record {
+          line = line;
+          of-rule = rw (sym same, sym rule) p;
+          at = rw (sym same, sym offset) x;
+          unrefused = rw (sym its) (r .unrefused);
+        }
+
+pub recursion-named : Recursion-named
+recursion-named text ds k o says legal below =
+    let n = named says legal in
+    subst (λ (m : ℕ). Name-at text ds m o) (own-line (n .of-rule) below) (n .at)
+
+pub recursion-line : Recursion-line
+recursion-line text ds k o says legal =
+    let n = named says legal in
+    let (helpers, are, exactly) = rules-of-lines text ds (n .line) (n .at .name) (n .at .body) legal (n .unrefused) (n .at .defined) in
+    (n .line, n .at, helpers, are, exactly k .0 (n .of-rule))
 
 -- WHAT A C CALLER IS TOLD: 0, 19, or the text's own number, which is neither
 unread-so : {text : List ℕ} {r : TextRecursion} {f : Refusal} → Text-recursion-says text r → r ≡ Refused f → Read-says text (Unread f)

@@ -98,6 +98,7 @@ pub record Promises : Type 0 where
   pub unambiguous : Typed.Unambiguous
   pub reading-exact : Typed.Reading-exact
   pub typed-right : Typed.Typed-parses
+  pub rules-of-lines : Typed.Rules-of-lines
   pub read-determined : Typed.Read-determined
   pub read-good : Typed.Read-good
   pub read-right : Typed.Read-right
@@ -142,6 +143,7 @@ pub record Promises : Type 0 where
   pub bundle-not-looping : Recursion.Bundle-not-looping
   pub text-recursion-determined : Recursion.Text-recursion-determined
   pub recursion-named : Recursion.Recursion-named
+  pub recursion-line : Recursion.Recursion-line
   pub typed-results : Recursion.Typed-results
   pub text-not-looping : Recursion.Text-not-looping
   pub tried-first-fails : Recursion.Tried-first-fails

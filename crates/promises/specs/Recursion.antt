@@ -1,7 +1,7 @@
 -- LEFT RECURSION FOUND BEFORE THE SHIFT: the check answers 19 with the lowest rule that leads back to itself, after 11 and 12, and a user whose grammar passes never meets the verdict looping, on any capture. Assumes nothing: each claim is a type, and proofs/ has its proof.
 use mathlib.Core.Path.{_≡_}
 use mathlib.Core.Bool.{Bool, true}
-use mathlib.Core.List.{List}
+use mathlib.Core.List.{List, _∷_, List·Memᴰ}
 use mathlib.Core.Logic.{_↔_}
 use mathlib.Core.Option.{Option, some}
 use Prim.Native.Nat.{ℕ, _<_}
@@ -29,7 +29,9 @@ use Rattle.recursion_theory.specs.FirstParts.{Tries-on}
 use Rattle.recursion_theory.specs.Harmless.{Harmless, fails-first, never-reached}
 use Rattle.grammar_judge.specs.Calls.{Lent}
 use Rattle.syntax.specs.Trees.{Tree, Definition, Defines, Legal-text}
-use Rattle.syntax.specs.Meaning.{Means}
+use Rattle.syntax_theory.specs.Meaning.{Means}
+use Rattle.syntax_theory.specs.RuleOf.{Line-rules}
+use Rattle.syntax.specs.Compile.{grammar-of}
 use Rattle.syntax.specs.RuleLines.{Name-at}
 use Rattle.typed.specs.declared.left_recursion.TextRecursion.{TextRecursion}
 use Rattle.typed.specs.declared.left_recursion.TextRecursion.the-variants.{Passes, Recursive}
@@ -95,6 +97,13 @@ abbrev pub Recursion-named : Type 0
 Recursion-named =
     (text : List ℕ) (ds : List Definition) (k o : ℕ) → Text-recursion-says text (Recursive k o) → Legal-text text ds → k < length ds →
     Name-at text ds k o
+
+-- any rule by the line that it was made for, itself or as a helper,
+abbrev pub Recursion-line : Type 0
+Recursion-line =
+    (text : List ℕ) (ds : List Definition) (k o : ℕ) → Text-recursion-says text (Recursive k o) → Legal-text text ds →
+    (line : ℕ) × (at : Name-at text ds line o) × (helpers : List ℕ) × Line-rules (expression (grammar-of ds)) ds (at .body) line helpers
+    × List·Memᴰ k (line ∷ helpers)
 
 -- in a text that passes the expression of every line has a result, at every place of every capture,
 abbrev pub Typed-results : Type 0

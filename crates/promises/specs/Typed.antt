@@ -1,6 +1,6 @@
 -- GRAMMARS AS TEXT: the earliest fault is computed, a text has one reading, the grammar read is right, and a capture judged by it is judged as the typed grammar says. Assumes nothing: each claim is a type, and proofs/ has its proof.
 use mathlib.Core.Path.{_≡_}
-use mathlib.Core.List.{List, _∷_}
+use mathlib.Core.List.{List, _∷_, List·Memᴰ}
 use mathlib.Core.Logic.{_↔_}
 use mathlib.Core.Option.{Option, some}
 use Prim.Native.Nat.{ℕ, _*_, _≤_}
@@ -15,20 +15,21 @@ use Rattle.image.specs.Format.{max-capture}
 use Rattle.image.specs.Image.{machine}
 use Rattle.simulator.specs.declared.Judged.{Judged}
 use Rattle.simulator.specs.Replies.{of-judged}
-use Rattle.grammar.specs.Grammar.{max-rules}
+use Rattle.grammar.specs.Grammar.{max-rules, expression}
 use Rattle.builder.specs.declared.Matching.the-variants.{Whole}
 use Rattle.builder.specs.declared.Built.{Built}
 use Rattle.builder.specs.Image.{built, built-length}
 use Rattle.builder.specs.Calls.{build-refusal}
 use Rattle.builder.specs.Replies.{of-built}
 use Rattle.syntax.specs.Tokens.{Token}
-use Rattle.syntax.specs.Trees.{Definition, Reads, Legal-text}
+use Rattle.syntax.specs.Trees.{Tree, Definition, Defines, Reads, Legal-text}
 use Rattle.syntax.specs.Faults.{fault}
 use Rattle.syntax.specs.FaultMeaning.{Wrong-at}
-use Rattle.syntax.specs.Meaning.{Means}
+use Rattle.syntax_theory.specs.Meaning.{Means}
 use Rattle.syntax.specs.Needs.{later-refusal}
 use Rattle.syntax.specs.Compile.{grammar-of}
-use Rattle.syntax.specs.RuleOf.{Typed-right}
+use Rattle.syntax.specs.RuleLines.{Line-of-rule}
+use Rattle.syntax_theory.specs.RuleOf.{Line-rules, Typed-right}
 use Rattle.syntax.specs.Reading.{Reading, Grammar, Read-says}
 use Rattle.reader.specs.declared.ReadGrammar.{ReadGrammar}
 use Rattle.reader.specs.Calls.{Read-tells}
@@ -54,6 +55,13 @@ Reading-exact = (text : List ℕ) → (r : Reading) × Read-says text r × ((s :
 -- THE GRAMMAR OF A LEGAL TEXT: never refused, as many rules as the table says, lines first and in order, helpers after them and none shared, and every line's rule parses as its tree means
 abbrev pub Typed-parses : Type 0
 Typed-parses = (text : List ℕ) (ds : List Definition) → Legal-text text ds → later-refusal text ds .number ≡ 0 → Typed-right ds (grammar-of ds)
+
+-- THE RULES OF A LINE, own and helpers: those whose numbers are the line's, all of them and no others
+abbrev pub Rules-of-lines : Type 0
+Rules-of-lines =
+    (text : List ℕ) (ds : List Definition) (line : ℕ) (n : List ℕ) (e : Tree) → Legal-text text ds → later-refusal text ds .number ≡ 0 →
+    Defines ds line n e →
+    (helpers : List ℕ) × Line-rules (expression (grammar-of ds)) ds e line helpers × ((k : ℕ) → Line-of-rule ds k line ↔ List·Memᴰ k (line ∷ helpers))
 
 -- THE CALL `read`: what it answers follows from the text, and a refused text has no grammar
 abbrev pub Read-determined : Type 0

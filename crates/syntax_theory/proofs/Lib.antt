@@ -8,3 +8,4 @@ pub mod PartsBelow
 pub mod MeansParses
 pub mod ParsesMeans
 pub mod TypedRight
+pub mod LineRules

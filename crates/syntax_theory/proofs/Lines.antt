@@ -9,19 +9,14 @@ use Rattle.grammar.specs.Parsing.{Rules}
 use Rattle.syntax.specs.declared.Node.{Node}
 use Rattle.syntax.specs.Trees.{Tree, Definition, names, Defines}
 use Rattle.syntax.specs.Compile.{compile, top-rule, top-helpers, line-rule, line-helpers, named-from, helpers-from}
-use Rattle.syntax.specs.RuleOf.{Rule-of, Lines-from}
+use Rattle.syntax_theory.specs.RuleOf.{Rule-of, Line-rules, own-line, bare-line, Lines-from}
 use Rattle.syntax_theory.proofs.Numbering.{Each, an-element, no-element, Holds, holds-first, holds-rest, holds-front, holds-after, Block, block-none, block-one, block-wider, block-append}
 use Rattle.syntax_theory.proofs.Named.{Closed, Closed-line}
 use Rattle.syntax_theory.proofs.Standing.{Stands, by-number, by-operator, by-repetition, ends, over-two, compiled-stands}
 
--- rule k is that of a line with this body, and helpers are the other rules made for it
-pub data Line (E : Rules) (ds : List Definition) (e : Tree) (k : ℕ) : (helpers : List ℕ) → Type 0 where
-  own-line : {xs : List ℕ} → Rule-of E ds e k (k ∷ xs) → Line E ds e k xs
-  bare-line : {h i : ℕ} → Rule-of E ds e i [] → E k ≡ Sequence i h → E h ≡ Empty → Line E ds e k (h ∷ [])
-
 pub record Line-at (E : Rules) (ds : List Definition) (e : Tree) (k from below : ℕ) : Type 0 where
   pub helpers : List ℕ
-  pub line : Line E ds e k helpers
+  pub line : Line-rules E ds e k helpers
   pub block : Block helpers from below
 
 pub record Lines-at (E : Rules) (ds : List Definition) (k : ℕ) (es : List Definition) (from below : ℕ) : Type 0 where
@@ -50,7 +45,7 @@ module _ {E : Rules} {ds : List Definition} where
         block = block-wider (over-two l b) (omega arith) (omega arith);
       }
 
-  line-stands :
+  pub line-stands :
       (e : Tree) (k n : ℕ) → Closed ds e → E k ≡ line-rule (compile (names ds) e n) n → Holds E n (line-helpers (compile (names ds) e n) k) →
       Line-at E ds e k n (n + length (line-helpers (compile (names ds) e n) k))
   unfolding line-rule line-helpers
@@ -65,12 +60,12 @@ module _ {E : Rules} {ds : List Definition} where
   add-line :
       {d : Definition} {es : List Definition} {k n m l : ℕ} → n ≤ m → m ≤ l → Line-at E ds (d .body) k n m → Lines-at E ds (suc k) es m l →
       Lines-at E ds k (d ∷ es) n l
-  add-line {d} {es} {k} f g one rest =
-      record { helpers = one .helpers ++ rest .helpers; lines = go (one .line); block = block-append f g (one .block) (rest .block) }
-    where
-      go : {xs : List ℕ} → Line E ds (d .body) k xs → Lines-from E ds k (d ∷ es) (xs ++ rest .helpers)
-      go (own-line r) = Lines-from.line r (rest .lines)
-      go (bare-line r s t) = Lines-from.bare r s t (rest .lines)
+  add-line f g one rest =
+      record {
+        helpers = one .helpers ++ rest .helpers;
+        lines = Lines-from.line (one .line) (rest .lines);
+        block = block-append f g (one .block) (rest .block);
+      }
 
   pub lines-stand :
       {es : List Definition} (k n : ℕ) → Each (Closed-line ds) es → Holds E k (named-from (names ds) k n es) →
@@ -86,13 +81,10 @@ module _ {E : Rules} {ds : List Definition} where
       (lines-stand (suc k) m cs (holds-rest h) (holds-after hs others g)))
 
   -- THE LINE OF A DEFINITION
-  first-line : {k m : ℕ} {e : Tree} {hs : List ℕ} → m ≡ k + 0 → Line E ds e k hs → (xs : List ℕ) × Line E ds e m xs
-  first-line {k} {m} {e} {hs} f l = let same : k ≡ m = omega arith in (hs, subst (λ i. Line E ds e i hs) same l)
-
   pub line-of :
       {k j : ℕ} {es : List Definition} {xs n : List ℕ} {e : Tree} → Defines es j n e → Lines-from E ds k es xs → (m : ℕ) → m ≡ k + j →
-      (hs : List ℕ) × Line E ds e m hs
-  line-of Defines.here (Lines-from.line r rest) m f = first-line f (own-line r)
-  line-of Defines.here (Lines-from.bare r s t rest) m f = first-line f (bare-line r s t)
+      (hs : List ℕ) × Line-rules E ds e m hs
+  line-of {k} {e = e} Defines.here (Lines-from.line {xs = hs} r rest) m f =
+      let same : k ≡ m = omega arith in
+      (hs, subst (λ i. Line-rules E ds e i hs) same r)
   line-of (Defines.there d) (Lines-from.line r rest) m f = line-of d rest m (omega arith)
-  line-of (Defines.there d) (Lines-from.bare r s t rest) m f = line-of d rest m (omega arith)

@@ -10,14 +10,13 @@ use Rattle.grammar.proofs.Inverted.{matches-nowhere}
 use Rattle.syntax.specs.declared.Leaf.the-variants.{EmptyString}
 use Rattle.syntax.specs.declared.Prefix.the-variants.{NotPredicate}
 use Rattle.syntax.specs.Trees.{Tree, leaf, prefixed, Definition, names, Defines}
-use Rattle.syntax.specs.Meaning.{Means}
-use Rattle.syntax.specs.RuleOf.{Rule-of}
+use Rattle.syntax_theory.specs.Meaning.{Means}
+use Rattle.syntax_theory.specs.RuleOf.{Rule-of, Line-rules, own-line, bare-line}
 use Rattle.syntax_theory.proofs.Named.{one-number}
-use Rattle.syntax_theory.proofs.Lines.{Line, own-line, bare-line}
 
 -- each line has its rule
 abbrev pub Each-line : Rules → List Definition → Type 0
-Each-line E ds = (k : ℕ) (n : List ℕ) (e : Tree) → Defines ds k n e → (hs : List ℕ) × Line E ds e k hs
+Each-line E ds = (k : ℕ) (n : List ℕ) (e : Tree) → Defines ds k n e → (hs : List ℕ) × Line-rules E ds e k hs
 
 -- the empty string is always there, and so !ε fails
 never-fails : {ds : List Definition} {cs : List ℕ} {i : ℕ} → Means ds cs (leaf EmptyString) i none → ⊥
@@ -39,7 +38,7 @@ module _ {E : Rules} {cs : List ℕ} {k : ℕ} where
 
 module _ {E : Rules} {ds : List Definition} {cs : List ℕ} where
   by-line :
-      {e : Tree} {k i : ℕ} {hs : List ℕ} {o : Option ℕ} → ((h : ℕ) (own : List ℕ) → Rule-of E ds e h own → Parses E cs h i o) → Line E ds e k hs →
+      {e : Tree} {k i : ℕ} {hs : List ℕ} {o : Option ℕ} → ((h : ℕ) (own : List ℕ) → Rule-of E ds e h own → Parses E cs h i o) → Line-rules E ds e k hs →
       Parses E cs k i o
   by-line f (own-line r) = f _ _ r
   by-line {o = o} f (bare-line r s t) = then-nothing o s t (f _ _ r)

@@ -13,9 +13,8 @@ use Rattle.grammar.proofs.Inverted.{none-between}
 use Rattle.syntax.specs.declared.Leaf.the-variants.{EmptyString, Failure}
 use Rattle.syntax.specs.declared.Prefix.the-variants.{NotPredicate}
 use Rattle.syntax.specs.Trees.{Tree, nonterminal, leaf, bytes, prefixed, sequence, choice, Definition, Defines}
-use Rattle.syntax.specs.Meaning.{Means}
-use Rattle.syntax.specs.RuleOf.{Rule-of}
-use Rattle.syntax_theory.proofs.Lines.{Line, own-line, bare-line}
+use Rattle.syntax_theory.specs.Meaning.{Means}
+use Rattle.syntax_theory.specs.RuleOf.{Rule-of, Line-rules, own-line, bare-line}
 use Rattle.syntax_theory.proofs.MeansParses.{Each-line}
 
 -- what f means, e means too
@@ -82,7 +81,7 @@ module _ {E : Rules} {ds : List Definition} {cs : List ℕ} where
       shown a (as-choice (Rule-of.both b r (Rule-of.iteration a b c r)) (Rule-of.nothing c) (λ i o m. Means.iteration m))
   view-by named (Rule-of.iteration-once s a b c r) = shown s (as-sequence r (Rule-of.iteration a b c r) (λ i o m. Means.iteration-once m))
 
-  by-line : {k : ℕ} {n hs : List ℕ} {e : Tree} → Defines ds k n e → Line E ds e k hs → View E ds cs (nonterminal n) (E k)
+  by-line : {k : ℕ} {n hs : List ℕ} {e : Tree} → Defines ds k n e → Line-rules E ds e k hs → View E ds cs (nonterminal n) (E k)
   by-line d (own-line r) = widened (view-by (λ z. let bad : _≡_ {A = ℕ} 0 1 = cc in absurd (omega arith)) r) (λ i o m. Means.call d m)
   by-line d (bare-line r s t) = shown s (as-sequence r (Rule-of.nothing t) (λ i o m. Means.call d (then-nothing m)))
 

@@ -17,7 +17,7 @@ use Rattle.syntax.specs.declared.Node.{Node}
 use Rattle.syntax.specs.declared.Node.the-variants.{Numbered, Operator, Repetition}
 use Rattle.syntax.specs.Trees.{Tree, nonterminal, leaf, bytes, prefixed, suffixed, sequence, choice, Definition, names}
 use Rattle.syntax.specs.Compile.{own-rules, own-number, repetition-rules, Compiled, Placed, place, compile-leaf, compile-prefix, compile-suffix, compile}
-use Rattle.syntax.specs.RuleOf.{Rule-of}
+use Rattle.syntax_theory.specs.RuleOf.{Rule-of}
 use Rattle.syntax_theory.proofs.Numbering.{Holds, holds-first, holds-rest, holds-front, holds-after, Block, block-none, block-one, block-wider, block-append, block-over}
 use Rattle.syntax_theory.proofs.Named.{Closed}
 

@@ -19,11 +19,11 @@ use Rattle.grammar.specs.Parsing.{Parses}
 use Rattle.grammar.proofs.ConditionsMet.{grammar-answer}
 use Rattle.syntax.specs.Tokens.{Token, lexemes}
 use Rattle.syntax.specs.Trees.{Tree, nonterminal, Definition, names, Defines, Reads, Legal-text}
-use Rattle.syntax.specs.Meaning.{Means}
+use Rattle.syntax_theory.specs.Meaning.{Means}
 use Rattle.syntax.specs.Faults.{first-undefined}
 use Rattle.syntax.specs.Needs.{needs, later-refusal}
 use Rattle.syntax.specs.Compile.{named-from, helpers-from, all-rules, grammar-of}
-use Rattle.syntax.specs.RuleOf.{Rule-of, Typed-right}
+use Rattle.syntax_theory.specs.RuleOf.{Rule-of, Typed-right}
 use Rattle.syntax.proofs.Counting.{named-counted, helpers-counted, lines-needed, all-counted}
 use Rattle.syntax_theory.proofs.Numbering.{Each, each-append, each-at, Holds, holds-front, holds-after}
 use Rattle.syntax.proofs.Encoding.{length-encode}
@@ -77,6 +77,19 @@ module _ (ds : List Definition) where
         whole = omega (arith, long, rules-are);
       }
 
+  -- the lines' own rules, then the helpers
+  pub rules-held :
+      Holds (expression (grammar-of ds)) 0 (named-from (names ds) 0 (length ds) ds)
+      × Holds (expression (grammar-of ds)) (length ds) (helpers-from (names ds) 0 (length ds) ds)
+  unfolding all-rules grammar-of
+  rules-held =
+      let E = expression (grammar-of ds) in
+      let tops = named-from (names ds) 0 (length ds) ds in
+      let rest = helpers-from (names ds) 0 (length ds) ds in
+      let all : Holds E 0 (tops ++ rest) = encoded-holds (all-rules ds) in
+      let after : 0 + length tops ≡ length ds = omega (arith, named-counted (names ds) 0 (length ds) ds) in
+      (holds-front tops rest all, subst (λ m. Holds E m rest) after (holds-after tops rest all))
+
   module _ (closed : Each (Closed-line ds) ds) where
     all-below : Each (Parts-below (needs ds)) (all-rules ds)
     unfolding all-rules
@@ -97,15 +110,10 @@ module _ (ds : List Definition) where
 
     -- THE LINES
     standing : Lines-at (expression (grammar-of ds)) ds 0 ds (length ds) (needs ds)
-    unfolding all-rules grammar-of
     standing =
-        let E = expression (grammar-of ds) in
-        let tops = named-from (names ds) 0 (length ds) ds in
-        let rest = helpers-from (names ds) 0 (length ds) ds in
-        let all : Holds E 0 (tops ++ rest) = encoded-holds (all-rules ds) in
-        let after : 0 + length tops ≡ length ds = omega (arith, named-counted (names ds) 0 (length ds) ds) in
-        subst (Lines-at E ds 0 ds (length ds)) (helpers-counted (names ds) 0 (length ds) ds)
-        (lines-stand 0 (length ds) closed (holds-front tops rest all) (subst (λ m. Holds E m rest) after (holds-after tops rest all)))
+        let (tops, rest) = rules-held in
+        subst (Lines-at (expression (grammar-of ds)) ds 0 ds (length ds)) (helpers-counted (names ds) 0 (length ds) ds)
+        (lines-stand 0 (length ds) closed tops rest)
 
     each-line : Each-line (expression (grammar-of ds)) ds
     each-line k n e d = line-of d (standing .lines) k (omega arith)
@@ -121,10 +129,13 @@ module _ (ds : List Definition) where
         λ m. means-parses each-line unique (Means.call d m) k [] (Rule-of.call d),
       )
 
--- THE GRAMMAR OF A LEGAL TEXT
+-- THE GRAMMAR OF A LEGAL TEXT; every name in it is that of a line
+pub legal-closed : (text : List ℕ) (ds : List Definition) → Legal-text text ds → later-refusal text ds .number ≡ 0 → Each (Closed-line ds) ds
+legal-closed text ds legal h = read-closed ds (legal .reads) (all-known ds (lexemes text) (all-defined text ds h))
+
 pub typed-right : (text : List ℕ) (ds : List Definition) → Legal-text text ds → later-refusal text ds .number ≡ 0 → Typed-right ds (grammar-of ds)
 typed-right text ds legal h =
-    let closed : Each (Closed-line ds) ds = read-closed ds (legal .reads) (all-known ds (lexemes text) (all-defined text ds h)) in
+    let closed : Each (Closed-line ds) ds = legal-closed text ds legal h in
     let s = standing ds closed in
     let row = unrefused-grammar (right ds closed (some-line (legal .reads)) (few-rules text ds h)) in
     record {

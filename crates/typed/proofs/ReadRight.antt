@@ -17,7 +17,7 @@ use Rattle.syntax.specs.Faults.{fault, undefined-in, first-undefined}
 use Rattle.syntax.specs.FaultMeaning.{Wrong-at, misplaced, too-deep, ends-early}
 use Rattle.syntax.specs.Needs.{needs, later-refusal}
 use Rattle.syntax.specs.Compile.{grammar-of}
-use Rattle.syntax.specs.RuleOf.{Typed-right}
+use Rattle.syntax_theory.specs.RuleOf.{Typed-right}
 use Rattle.syntax.specs.Reading.{Reading, Refused, Grammar, Read-says, at-fault, refused, read}
 use Rattle.syntax.proofs.FaultsRight.{faults-right}
 use Rattle.syntax.proofs.ReadingExact.{reading-exact}

@@ -21,10 +21,10 @@ use Rattle.builder.specs.declared.Matching.{Matching}
 use Rattle.builder.specs.declared.Matching.the-variants.{Whole, Leading}
 use Rattle.builder.specs.Image.{built}
 use Rattle.syntax.specs.Trees.{Definition, here, Legal-text}
-use Rattle.syntax.specs.Meaning.{Means}
+use Rattle.syntax_theory.specs.Meaning.{Means}
 use Rattle.syntax.specs.Needs.{later-refusal}
 use Rattle.syntax.specs.Compile.{grammar-of}
-use Rattle.syntax.specs.RuleOf.{Typed-right}
+use Rattle.syntax_theory.specs.RuleOf.{Typed-right}
 use Rattle.syntax_theory.proofs.TypedRight.{typed-right}
 use Rattle.grammar_judge.specs.Calls.{Lent, lent-refusal}
 use Rattle.grammar_judge.specs.TwoCalls.{As-parsed, Gets}

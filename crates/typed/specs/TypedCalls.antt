@@ -19,7 +19,7 @@ use Rattle.builder.specs.declared.Matching.{Matching}
 use Rattle.builder.specs.declared.Matching.the-variants.{Whole, Leading}
 use Rattle.builder.specs.Image.{built, built-length}
 use Rattle.syntax.specs.Trees.{Definition, Legal-text}
-use Rattle.syntax.specs.Meaning.{Means}
+use Rattle.syntax_theory.specs.Meaning.{Means}
 use Rattle.syntax.specs.Needs.{needs}
 use Rattle.syntax.specs.Reading.{Grammar, Read-says}
 use Rattle.grammar_judge.specs.Calls.{Lent}

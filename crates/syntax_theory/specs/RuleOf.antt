@@ -9,12 +9,12 @@ use Rattle.machine.specs.Verdicts.{Distinct}
 use Rattle.grammar.specs.Grammar.{expression, grammar-refusal}
 use Rattle.grammar.specs.Parsing.{Rules, Parses}
 use Rattle.grammar.specs.declared.Expression.the-variants.{Sequence, Choice, Not, Empty, Range}
 use Rattle.syntax.specs.declared.Leaf.the-variants.{AnyByte, EmptyString, Failure}
 use Rattle.syntax.specs.declared.Prefix.the-variants.{NotPredicate, AndPredicate}
 use Rattle.syntax.specs.declared.Suffix.the-variants.{ZeroOrMore, OneOrMore, Optional}
 use Rattle.syntax.specs.Trees.{Tree, nonterminal, leaf, bytes, prefixed, suffixed, sequence, choice, Definition, Defines}
-use Rattle.syntax.specs.Meaning.{Means}
+use Rattle.syntax_theory.specs.Meaning.{Means}
 use Rattle.syntax.specs.Needs.{needs}
 
 -- rule k is that of a tree, and own are the rules made for it alone, k first
 pub data Rule-of (E : Rules) (ds : List Definition) : Tree → (k : ℕ) → (own : List ℕ) → Type 0 where
@@ -43,15 +43,17 @@ pub data Rule-of (E : Rules) (ds : List Definition) : Tree → (k : ℕ) → (ow
       {e : Tree} {k a s h i : ℕ} {xs : List ℕ} → E k ≡ Sequence i a → E a ≡ Choice s h → E s ≡ Sequence i a → E h ≡ Empty →
       Rule-of E ds e i xs → Rule-of E ds (suffixed OneOrMore e) k (k ∷ a ∷ s ∷ h ∷ xs)
 
--- lines from number k on, each at its own number, helpers being the other rules; a bare name goes to the named rule and then on with nothing
+-- THE RULES OF A LINE with this body: its own, k, and helpers, the others made for it; a bare name goes to the named rule and then on with nothing
+pub data Line-rules (E : Rules) (ds : List Definition) (e : Tree) (k : ℕ) : (helpers : List ℕ) → Type 0 where
+  own-line : {xs : List ℕ} → Rule-of E ds e k (k ∷ xs) → Line-rules E ds e k xs
+  bare-line : {h i : ℕ} → Rule-of E ds e i [] → E k ≡ Sequence i h → E h ≡ Empty → Line-rules E ds e k (h ∷ [])
+
+-- lines from number k on, each at its own number
 pub data Lines-from (E : Rules) (ds : List Definition) : (k : ℕ) → List Definition → (helpers : List ℕ) → Type 0 where
   none-left : {k : ℕ} → Lines-from E ds k [] []
   line :
-      {k : ℕ} {d : Definition} {es : List Definition} {xs ys : List ℕ} → Rule-of E ds (d .body) k (k ∷ xs) → Lines-from E ds (suc k) es ys →
+      {k : ℕ} {d : Definition} {es : List Definition} {xs ys : List ℕ} → Line-rules E ds (d .body) k xs → Lines-from E ds (suc k) es ys →
       Lines-from E ds k (d ∷ es) (xs ++ ys)
-  bare :
-      {k h i : ℕ} {d : Definition} {es : List Definition} {ys : List ℕ} → Rule-of E ds (d .body) i [] → E k ≡ Sequence i h → E h ≡ Empty →
-      Lines-from E ds (suc k) es ys → Lines-from E ds k (d ∷ es) (h ∷ ys)
 
 -- THE BUILT GRAMMAR: never refused, as many rules as the table says, lines first and in order, helpers after them and none shared, and every line's rule parses as its tree means
 pub record Typed-right (ds : List Definition) (gs : List ℕ) : Type 0 where
