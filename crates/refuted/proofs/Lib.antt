@@ -3,6 +3,9 @@ pub mod Witnesses
 pub mod Rows
 pub mod SmallCalls
 pub mod AnswerCalls
+pub mod GrammarExamples
+pub mod BuiltFacts
+pub mod RunsOff
 pub mod FirstDemandRefuted
 pub mod SecondDemandRefuted
 pub mod ThirdDemandRefuted

@@ -1,2 +1,124 @@
--- The wrong neighbours of Matching.antt refuted: each by a closed example beside the promise. Assumes nothing.
-use mathlib.Core.Path.{_≡_}
+-- The wrong neighbours of Matching.antt refuted: most by C2, the empty grammar on one byte, which is stuck by a whole match and accepted by a leading one. Assumes nothing.
+use mathlib.Core.Path.{_≡_, refl, sym, ap, subst, _∙_}
+use mathlib.Core.List.{List, [], _∷_}
+use mathlib.Core.Option.{Option, some}
+use Prim.Native.Nat.{ℕ, zero, suc}
+use native.Mathlib.Omega.{arith}
+use lib.ListN.{take, drop, replicate}
+use Rattle.machine.specs.declared.Verdict.the-variants.{Accepted, Stuck}
+use Rattle.machine.specs.Run.{config, how-many}
+use Rattle.machine.specs.Verdicts.{Says}
+use Rattle.machine.specs.Replies.{verdict-number}
+use Rattle.image.specs.Image.{machine, Rule}
+use Rattle.chain.specs.Chain.{chain, reached}
+use Rattle.simulator.specs.declared.Judged.the-variants.{Answer}
+use Rattle.simulator.specs.Calls.{judgement}
+use Rattle.simulator.specs.Replies.{of-judged}
+use Rattle.grammar.specs.Grammar.{rules, kind-of, b-of, c-of, expression-by, expression, range-of}
+use Rattle.grammar.specs.Parsing.{in-range, Parses, empty, range}
+use Rattle.builder.specs.declared.Matching.the-variants.{Whole, Leading}
+use Rattle.builder.specs.declared.Built.the-variants.{Image}
+use Rattle.builder.specs.Matching.{default-matching}
+use Rattle.builder.specs.Classes.{cuts-at, cut-from, cut, class-of, class-count}
+use Rattle.builder.specs.Table.{state-ok}
+use Rattle.builder.specs.Image.{symbols-of, built}
+use Rattle.builder.specs.Replies.{of-built}
+use Rattle.sejimakpu.specs.Cells.{cells}
+use Rattle.sejimakpu.specs.Calls.{Judge-tells}
+use Rattle.worked_examples.specs.Examples.{Each, image-of, row-machine, source-refusal, grammar-rows, empty-grammar, byte-grammar}
+use Rattle.worked_examples.specs.LeadingExamples.{leading-table}
+use Rattle.promises.proofs.Proved.{promises}
+use Rattle.refuted.specs.Matching as Wrong
+use Rattle.refuted.proofs.Rows.{first, others}
+use Rattle.refuted.proofs.GrammarExamples.{same-verdict, c2-built, c1-leading, c2-leading}
+use Rattle.refuted.proofs.BuiltFacts.{marker-unruled, leading-built, leading-taken}
+
+pub default-leading : Wrong.Default-leading → ⊥
+unfolding default-matching
+default-leading wrong =
+    let z : _≡_ {A = ℕ} 0 1 = cc in
+    omega arith
+
+-- C2 does not consume all
+not-all : Parses (expression empty-grammar) (97 ∷ []) 0 0 (some 1) → ⊥
+unfolding verdict-number
+not-all p =
+    let (d, accepted) = promises .built-accepts empty-grammar (97 ∷ []) (c2-built .good) (c2-built .unrefused .bytes) .1 p in
+    omega (arith, same-verdict accepted (c2-built .says))
+
+pub leading-accepts : Wrong.Leading-accepts → ⊥
+leading-accepts wrong = not-all (wrong empty-grammar (97 ∷ []) (c2-built .good) (c2-built .unrefused .bytes) .0 (_, c2-leading .says))
+
+pub leading-stuck : Wrong.Leading-stuck → ⊥
+unfolding verdict-number expression expression-by kind-of
+leading-stuck wrong =
+    let none-left : _≡_ {A = Option ℕ} (some 0) (some 1) → ⊥ = λ e. let z : _≡_ {A = ℕ} 0 1 = cc in omega arith in
+    let (d, stuck) = wrong empty-grammar (97 ∷ []) (c2-built .good) (c2-built .unrefused .bytes) .1 (some 0, empty refl, none-left) in
+    omega (arith, same-verdict stuck (c2-leading .says))
+
+pub whole-then-leading : Wrong.Whole-then-leading → ⊥
+unfolding verdict-number
+whole-then-leading wrong =
+    let (d, accepted) = wrong empty-grammar (97 ∷ []) (c2-built .good) (c2-built .unrefused .bytes) (_, c2-leading .says) in
+    omega (arith, same-verdict accepted (c2-built .says))
+
+pub judged-whole-leading : Wrong.Judged-whole-leading → ⊥
+unfolding verdict-number
+judged-whole-leading wrong =
+    let same = wrong empty-grammar (97 ∷ []) _ _ _ _ _ _ _ _ Stuck 4 3 _ _ (c2-built .good) (c2-built .unrefused .bytes) (c2-leading .judged) (c2-built .judged) in
+    omega (arith, ap verdict-number same)
+
+pub whole-as-before : Wrong.Whole-as-before → ⊥
+unfolding verdict-number
+whole-as-before wrong =
+    let same : built Leading empty-grammar ≡ built Whole empty-grammar = wrong empty-grammar ∙ sym (promises .whole-as-before empty-grammar) in
+    let accepted = subst (λ (bs : List ℕ). Says (machine bs (97 ∷ [])) Accepted (config 2 2 0)) same (c2-leading .says) in
+    omega (arith, same-verdict accepted (c2-built .says))
+
+-- on the left marker ok has no rule by either choice
+pub leading-one-row : Wrong.Leading-one-row → ⊥
+unfolding symbols-of rules kind-of b-of c-of expression-by expression range-of cuts-at cut-from cut class-of class-count
+leading-one-row wrong =
+    let unruled = promises .leading-one-row empty-grammar .1 state-ok 1 0 (omega arith) (omega arith) (omega arith) in
+    let passed = wrong empty-grammar .1 state-ok 1 0 (omega arith) (omega arith) (omega arith) in
+    omega (arith, ap (λ (r : Rule). r .kind) (sym passed ∙ unruled ∙ marker-unruled))
+
+-- C1 has 3 readings
+pub few-readings-leading : Wrong.Few-readings-leading → ⊥
+few-readings-leading wrong =
+    let u = c1-leading .unrefused in
+    let k = promises .chain-judges _ _ u in
+    let few = wrong empty-grammar [] (reached chain (built Leading empty-grammar) [] (k .steps) .notes) (c1-leading .good) (u .bytes) (k .noted) in
+    let three = promises .one-count _ _ _ 3 u (k .entered) (c1-leading .entered) in
+    omega (arith, few, three, k .counted (k .steps) (omega arith))
+
+pub built-accepted-told : Wrong.Built-accepted-told → ⊥
+unfolding default-matching of-judged verdict-number of-built cells
+built-accepted-told wrong =
+    let zeros : List ℕ = replicate (how-many (machine (built Leading empty-grammar) (97 ∷ []))) 0 in
+    let told : List ℕ = 0 ∷ 1 ∷ 4 ∷ 2 ∷ 2 ∷ 0 ∷ [] in
+    let judged : Judge-tells (take 468 (built Leading empty-grammar)) (97 ∷ []) zeros (c2-leading .notes-now) zeros (c2-leading .work-now) 0 told =
+    record {
+      judged = Answer (judgement Accepted 4 (config 2 2 0));
+      says = rw leading-taken (c2-leading .judged);
+      tells = record { number = refl; written = refl };
+    } in
+    not-all
+    (wrong empty-grammar (97 ∷ []) (replicate 468 0) (built Leading empty-grammar) zeros _ zeros _ 0 (0 ∷ 0 ∷ 468 ∷ 0 ∷ 0 ∷ 0 ∷ []) told
+    (c2-built .unrefused .bytes) judged refl .0
+    (record { built = Image 468; says = leading-built; tells = record { number = refl; written = refl } }))
+
+-- the rows from one on
+rows-from : {A : Type 0} {P : A → Type 0} (n : ℕ) (l : List A) → Each P l → Each P (drop n l)
+rows-from zero l ps = ps
+rows-from (suc n) [] ps = ps
+rows-from (suc n) (a ∷ l) ps = rows-from n l (others ps)
+
+-- the byte 61 and another after it: parsing consumes one of the two
+pub leading-rows : Wrong.Leading-rows → ⊥
+unfolding leading-table grammar-rows image-of row-machine source-refusal verdict-number expression expression-by kind-of b-of c-of in-range
+leading-rows wrong =
+    let h = first (rows-from 9 (leading-table Whole) wrong) in
+    let one-left : _≡_ {A = Option ℕ} (some 1) (some 2) → ⊥ = λ e. let z : _≡_ {A = ℕ} 1 2 = cc in omega arith in
+    let (d, stuck) = promises .built-stuck byte-grammar (97 ∷ 98 ∷ []) (h .good) (h .unrefused .bytes) .1 (some 1, range refl (omega arith) refl, one-left) in
+    omega (arith, same-verdict stuck (h .says))
