@@ -1,8 +1,9 @@
 -- Examples that are built from a grammar: what a row that holds says of the grammar, its image and judging by it; C1, C2 and C4 by a whole match, C1 and C2 by a leading one. Assumes nothing.
-use mathlib.Core.Path.{_≡_, ap}
+use mathlib.Core.Path.{_≡_, refl, ap}
 use mathlib.Core.List.{List, [], _∷_}
 use mathlib.Core.Option.{Option, some}
 use Prim.Native.Nat.{ℕ}
+use native.Mathlib.Omega.{arith}
 use lib.ListN.{replicate}
 use Rattle.machine.specs.declared.Config.{Config}
 use Rattle.machine.specs.declared.Verdict.{Verdict}
@@ -14,7 +15,8 @@ use Rattle.image.specs.Image.{machine}
 use Rattle.image.specs.Refusals.{Unrefused}
 use Rattle.simulator.specs.declared.Judged.the-variants.{Answer}
 use Rattle.simulator.specs.Calls.{judgement, Judge-says}
-use Rattle.grammar.specs.Grammar.{grammar-refusal}
+use Rattle.grammar.specs.Grammar.{kind-of, expression-by, expression, grammar-refusal}
+use Rattle.grammar.specs.Parsing.{Parses, empty}
 use Rattle.builder.specs.declared.Matching.{Matching}
 use Rattle.builder.specs.declared.Matching.the-variants.{Whole, Leading}
 use Rattle.builder.specs.Image.{built}
@@ -61,6 +63,17 @@ c1-built = example _ _ _ _ _ _ _ c1-holds
 
 pub c2-built : Example Whole empty-grammar (97 ∷ []) Stuck 3 (config 2 1 0)
 c2-built = example _ _ _ _ _ _ _ c2-holds
+
+-- of which parsing consumes none, so not all
+pub c2-parses : Parses (expression empty-grammar) (97 ∷ []) 0 0 (some 0)
+unfolding expression expression-by kind-of
+c2-parses = empty refl
+
+pub c2-not-all : Parses (expression empty-grammar) (97 ∷ []) 0 0 (some 1) → ⊥
+unfolding verdict-number
+c2-not-all all =
+    let (d, accepted) = promises .built-accepts empty-grammar (97 ∷ []) (c2-built .good) (c2-built .unrefused .bytes) .1 all in
+    omega (arith, same-verdict accepted (c2-built .says))
 
 -- a byte that fails
 pub c4-built : Example Whole byte-grammar (98 ∷ []) Stuck 3 (config 3 1 0)

@@ -15,7 +15,7 @@ use Rattle.simulator.specs.declared.Judged.the-variants.{Answer}
 use Rattle.simulator.specs.Calls.{judgement}
 use Rattle.simulator.specs.Replies.{of-judged}
 use Rattle.grammar.specs.Grammar.{rules, kind-of, b-of, c-of, expression-by, expression, range-of}
-use Rattle.grammar.specs.Parsing.{in-range, Parses, empty, range}
+use Rattle.grammar.specs.Parsing.{in-range, range}
 use Rattle.builder.specs.declared.Matching.the-variants.{Whole, Leading}
 use Rattle.builder.specs.declared.Built.the-variants.{Image}
 use Rattle.builder.specs.Matching.{default-matching}
@@ -30,7 +30,7 @@ use Rattle.worked_examples.specs.LeadingExamples.{leading-table}
 use Rattle.promises.proofs.Proved.{promises}
 use Rattle.refuted.specs.Matching as Wrong
 use Rattle.refuted.proofs.Rows.{first, others}
-use Rattle.refuted.proofs.GrammarExamples.{same-verdict, c2-built, c1-leading, c2-leading}
+use Rattle.refuted.proofs.GrammarExamples.{same-verdict, c2-built, c2-parses, c2-not-all, c1-leading, c2-leading}
 use Rattle.refuted.proofs.BuiltFacts.{marker-unruled, leading-built, leading-taken}
 
 pub default-leading : Wrong.Default-leading → ⊥
@@ -39,21 +39,14 @@ default-leading wrong =
     let z : _≡_ {A = ℕ} 0 1 = cc in
     omega arith
 
--- C2 does not consume all
-not-all : Parses (expression empty-grammar) (97 ∷ []) 0 0 (some 1) → ⊥
-unfolding verdict-number
-not-all p =
-    let (d, accepted) = promises .built-accepts empty-grammar (97 ∷ []) (c2-built .good) (c2-built .unrefused .bytes) .1 p in
-    omega (arith, same-verdict accepted (c2-built .says))
-
 pub leading-accepts : Wrong.Leading-accepts → ⊥
-leading-accepts wrong = not-all (wrong empty-grammar (97 ∷ []) (c2-built .good) (c2-built .unrefused .bytes) .0 (_, c2-leading .says))
+leading-accepts wrong = c2-not-all (wrong empty-grammar (97 ∷ []) (c2-built .good) (c2-built .unrefused .bytes) .0 (_, c2-leading .says))
 
 pub leading-stuck : Wrong.Leading-stuck → ⊥
-unfolding verdict-number expression expression-by kind-of
+unfolding verdict-number
 leading-stuck wrong =
     let none-left : _≡_ {A = Option ℕ} (some 0) (some 1) → ⊥ = λ e. let z : _≡_ {A = ℕ} 0 1 = cc in omega arith in
-    let (d, stuck) = wrong empty-grammar (97 ∷ []) (c2-built .good) (c2-built .unrefused .bytes) .1 (some 0, empty refl, none-left) in
+    let (d, stuck) = wrong empty-grammar (97 ∷ []) (c2-built .good) (c2-built .unrefused .bytes) .1 (some 0, c2-parses, none-left) in
     omega (arith, same-verdict stuck (c2-leading .says))
 
 pub whole-then-leading : Wrong.Whole-then-leading → ⊥
@@ -103,7 +96,7 @@ built-accepted-told wrong =
       says = rw leading-taken (c2-leading .judged);
       tells = record { number = refl; written = refl };
     } in
-    not-all
+    c2-not-all
     (wrong empty-grammar (97 ∷ []) (replicate 468 0) (built Leading empty-grammar) zeros _ zeros _ 0 (0 ∷ 0 ∷ 468 ∷ 0 ∷ 0 ∷ 0 ∷ []) told
     (c2-built .unrefused .bytes) judged refl .0
     (record { built = Image 468; says = leading-built; tells = record { number = refl; written = refl } }))

@@ -18,7 +18,7 @@ use Rattle.simulator.specs.Replies.{of-judged}
 use Rattle.simulator.proofs.Answered.{answered-fine}
 use Rattle.interpreter.specs.PlainRun.{run-on, run-step, last-pop, Exits-as}
 use Rattle.grammar.specs.Grammar.{Inverted, rules, kind-of, b-of, c-of, range-bytes, expression-by, expression, range-of, rule-right, grammar-rules-from, grammar-refusal}
-use Rattle.grammar.specs.Parsing.{in-range, empty, not-there, range, range-fails}
+use Rattle.grammar.specs.Parsing.{in-range, not-there, range, range-fails}
 use Rattle.builder.specs.declared.Matching.the-variants.{Whole}
 use Rattle.builder.specs.Classes.{cuts-at, cut-from, cut, class-of, class-count}
 use Rattle.builder.specs.ClassMeaning.{Range-cut}
@@ -29,7 +29,7 @@ use Rattle.worked_examples.specs.HaltingExamples.{halting-table}
 use Rattle.promises.proofs.Proved.{promises}
 use Rattle.refuted.specs.SecondDemand as Wrong
 use Rattle.refuted.proofs.Rows.{first, c10-holds}
-use Rattle.refuted.proofs.GrammarExamples.{same-verdict, c1-built, c2-built, c4-built, c2-leading}
+use Rattle.refuted.proofs.GrammarExamples.{same-verdict, c1-built, c2-built, c2-parses, c2-not-all, c4-built, c2-leading}
 use Rattle.refuted.proofs.BuiltFacts.{no-rules-refused, doubled-markers, longer-built, longer-judged, c1-ran-fine, c1-ran}
 use Rattle.refuted.proofs.RunsOff.{runs-off, no-verdict}
 
@@ -39,6 +39,7 @@ verdict-there wrong =
     let (v, d, says) = wrong runs-off [] in
     no-verdict v d says
 
+-- C1 is accepted and C2 stuck, by one image
 pub one-verdict : Wrong.One-verdict → ⊥
 unfolding verdict-number
 one-verdict wrong = omega (arith, ap verdict-number (wrong _ _ _ Accepted Stuck _ _ (c1-built .says) (c2-built .says) .0))
@@ -56,6 +57,7 @@ judge-exact wrong =
     let there = wrong _ _ _ _ _ _ Accepted 3 _ (c1-built .unrefused .bytes) (c1-built .judged) Accepted (config 0 0 0) .1 refl in
     omega (arith, ap (λ (c : Config). c .state) (promises .one-verdict _ _ _ _ _ (c1-built .says) there .1))
 
+-- C2 is stuck
 pub looping-endless : Wrong.Looping-endless → ⊥
 unfolding verdict-number
 looping-endless wrong =
@@ -69,11 +71,12 @@ pub built-good : Wrong.Built-good → ⊥
 built-good wrong = omega (arith, wrong Whole [], no-rules-refused)
 
 pub built-accepts : Wrong.Built-accepts → ⊥
-unfolding verdict-number expression expression-by kind-of
+unfolding verdict-number
 built-accepts wrong =
-    let (d, accepted) = wrong empty-grammar (97 ∷ []) (c2-built .good) (c2-built .unrefused .bytes) .1 (0, empty refl) in
+    let (d, accepted) = wrong empty-grammar (97 ∷ []) (c2-built .good) (c2-built .unrefused .bytes) .1 (0, c2-parses) in
     omega (arith, same-verdict accepted (c2-built .says))
 
+-- C4 fails, and is stuck
 pub built-loops : Wrong.Built-loops → ⊥
 unfolding verdict-number expression expression-by kind-of b-of c-of in-range
 built-loops wrong =
@@ -83,17 +86,13 @@ built-loops wrong =
 
 -- C2 has a result, but not all is consumed
 pub built-goes-on : Wrong.Built-goes-on → ⊥
-unfolding verdict-number expression expression-by kind-of
 built-goes-on wrong =
     let good = c2-built .good in
     let bytes = c2-built .unrefused .bytes in
-    let on =
-    wrong Whole empty-grammar (97 ∷ []) good bytes .1
-    (λ all.
-    let (d, accepted) = promises .built-accepts empty-grammar (97 ∷ []) good bytes .1 all in
-    omega (arith, same-verdict accepted (c2-built .says))) in
-    promises .built-goes-on Whole empty-grammar (97 ∷ []) good bytes .0 on (some 0) (empty refl)
+    let on = wrong Whole empty-grammar (97 ∷ []) good bytes .1 c2-not-all in
+    promises .built-goes-on Whole empty-grammar (97 ∷ []) good bytes .0 on (some 0) c2-parses
 
+-- by a leading match C2 is accepted
 pub built-stuck : Wrong.Built-stuck → ⊥
 unfolding verdict-number
 built-stuck wrong =
@@ -153,11 +152,12 @@ inverted-pops wrong =
     let z : _≡_ {A = ℕ} 0 1 = cc in
     omega arith
 
+-- the byte 61 alone makes three classes of one
 pub inverted-adds-none : Wrong.Inverted-adds-none → ⊥
 unfolding rules kind-of b-of c-of expression-by expression range-of cuts-at cut-from cut class-of class-count
 inverted-adds-none wrong = omega (arith, wrong [] [] 97 97 refl (omega arith) .0)
 
--- THE TWO CALLS
+-- THE TWO CALLS, with one byte of room too much: refused, since the directory asks for the length that was built
 pub build-then-judge : Wrong.Build-then-judge → ⊥
 build-then-judge wrong =
     let enough : Enough Whole empty-grammar [] (replicate 469 0) (replicate 30 0) (replicate 30 0) =
@@ -191,6 +191,7 @@ plain-run-true wrong =
     let t = wrong pushing 1 0 in
     omega (arith, one-entry (t .before) (t .place) (omega (arith, t .counted)) (t .comes), t .exits .1)
 
+-- two cells of 1 are 0 after C1's
 pub run-answers : Wrong.Run-answers → ⊥
 run-answers wrong =
     let (e, told, true-end, kept) = wrong _ _ _ _ (1 ∷ 1 ∷ []) (0 ∷ 0 ∷ []) c1-ran-fine c1-ran in
