@@ -6,6 +6,8 @@ pub mod AnswerCalls
 pub mod GrammarExamples
 pub mod BuiltFacts
 pub mod RunsOff
+pub mod JudgedOn
+pub mod BundleCalls
 pub mod FirstDemandRefuted
 pub mod SecondDemandRefuted
 pub mod ThirdDemandRefuted
