@@ -8,6 +8,7 @@ pub mod BuiltFacts
 pub mod RunsOff
 pub mod JudgedOn
 pub mod BundleCalls
+pub mod TextCalls
 pub mod FirstDemandRefuted
 pub mod SecondDemandRefuted
 pub mod ThirdDemandRefuted
