@@ -8,7 +8,9 @@ pub mod BuiltFacts
 pub mod RunsOff
 pub mod JudgedOn
 pub mod BundleCalls
+pub mod SmallBytes
 pub mod TextCalls
+pub mod LineCalls
 pub mod FirstDemandRefuted
 pub mod SecondDemandRefuted
 pub mod ThirdDemandRefuted

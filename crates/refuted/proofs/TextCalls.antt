@@ -1,9 +1,10 @@
 -- Texts that are read as the grammars of examples, and judging by them. Assumes nothing.
-use mathlib.Core.Path.{_≡_, refl, sym, ap}
+use mathlib.Core.Path.{_≡_, refl}
 use mathlib.Core.List.{List, [], _∷_, _++_, List·Memᴰ·not-nil}
 use mathlib.Core.Option.{Option}
 use Prim.Native.Nat.{ℕ, _≤_}
-use lib.ListN.{length, drop}
+use native.Mathlib.Omega.{arith}
+use lib.ListN.{length, drop, replicate, length-replicate}
 use borrow.Author.Tests.{eq-eqb, le-ltb}
 use Rattle.refusal.specs.First.{or-else, refuse-if}
 use Rattle.machine.specs.declared.Config.{Config}
@@ -14,19 +15,23 @@ use Rattle.image.specs.Image.{machine}
 use Rattle.simulator.specs.declared.Judged.the-variants.{Answer}
 use Rattle.simulator.specs.Calls.{judgement, judge-refusal}
 use Rattle.simulator.proofs.Answered.{answered-fine}
-use Rattle.grammar.specs.Grammar.{grammar-refusal}
+use Rattle.grammar.specs.Grammar.{rules, kind-of, b-of, c-of, expression-by, expression, rule-right, grammar-rules-from, grammar-refusal}
+use Rattle.recursion.specs.Computed.{nothing-by, nothing-after, leads-by, leads-through, leads-on, recursion-from, recursion-refusal}
 use Rattle.builder.specs.declared.Matching.the-variants.{Whole}
 use Rattle.builder.specs.Image.{built, built-length}
 use Rattle.builder.specs.Calls.{build-refusal}
 use Rattle.syntax.specs.declared.Leaf.the-variants.{EmptyString}
 use Rattle.syntax.specs.Tokens as Tokens
-use Rattle.syntax.specs.Trees.{Tree, nonterminal, leaf, bytes, sequence, Definition, last-choice, last-part, more-parts, no-prefix, no-suffix, a-name, a-leaf, a-range, last-line, Legal-text}
+use Rattle.syntax.specs.Trees.{Tree, nonterminal, leaf, bytes, sequence, Definition, here, last-choice, last-part, more-parts, no-prefix, no-suffix, a-name, a-leaf, a-range, last-line, Legal-text}
 use Rattle.syntax.specs.Faults.{first-undefined, undefined-in, not-in}
 use Rattle.syntax.specs.Needs.{need, line-need, needs, later-refusal}
 use Rattle.syntax.specs.Compile.{grammar-of, encode, all-rules, named-from, helpers-from, line-rule, line-helpers, top-rule, top-helpers, compile, compile-leaf, place, own-rules, own-number, index-of, rule-bytes}
 use Rattle.syntax.specs.Reading.{Grammar, Read-says, read}
+use Rattle.syntax.specs.RuleLines.{line-offsets, own}
 use Rattle.grammar_judge.specs.Calls.{Lent, lent, parts-refusal, lent-refusal}
 use Rattle.typed.specs.Calls.{Judge-text-says, judged}
+use Rattle.typed.specs.declared.left_recursion.TextRecursion.the-variants.{Recursive}
+use Rattle.typed.specs.Recursion.{Text-recursion-says, recursive}
 use Rattle.worked_examples.specs.Examples.{row, from-grammar, Row-holds, image-of, row-machine, source-refusal, empty-grammar, byte-grammar, endless-grammar}
 use Rattle.refuted.proofs.JudgedOn.{row-judged-on}
 
@@ -87,6 +92,18 @@ byte-read = rw (grammars-are .1) at (read (legal-texts .1) (unrefused-texts .1))
 pub endless-read : Read-says endless-text (Grammar endless-grammar)
 endless-read = rw (grammars-are .2) at (read (legal-texts .2) (unrefused-texts .2))
 
+-- exactly as much room as a grammar and a capture need
+abbrev pub room : (gs cs : List ℕ) → Lent
+room gs cs =
+    lent (replicate (built-length gs) 0) (replicate (how-many (machine (built Whole gs) cs)) 0) (replicate (how-many (machine (built Whole gs) cs)) 0)
+
+pub room-enough :
+    (gs cs : List ℕ) →
+    (built-length gs ≤ length (room gs cs .image)) × (how-many (machine (built Whole gs) cs) ≤ length (room gs cs .notes))
+room-enough gs cs =
+    let cells = how-many (machine (built Whole gs) cs) in
+    (omega (arith, length-replicate {A = ℕ} (built-length gs) 0), omega (arith, length-replicate {A = ℕ} cells 0))
+
 -- enough room for image, notes and work: nothing is refused
 pub lent-fine :
     (gs cs : List ℕ) (x : Lent) → grammar-refusal gs .number ≡ 0 → built-length gs ≤ length (x .image) →
@@ -112,3 +129,20 @@ text-judged text gs cs v n d s x reads holds m a b =
       after = lent (built Whole gs ++ drop (built-length gs) (x .image)) (j .a-now) (j .b-now);
       says = judged reads (lent-fine gs cs x (holds .good) m fine) refl (j .says);
     }
+
+-- with exactly the room that it needs
+pub text-judged-in-room :
+    (text gs cs : List ℕ) (v : Verdict) (n : ℕ) (d : Config) (s : Option ℕ) → Read-says text (Grammar gs) →
+    Row-holds (row (from-grammar Whole gs) cs v n d s) → Text-judged text cs v n d (room gs cs)
+text-judged-in-room text gs cs v n d s reads holds =
+    let (image, cells) = room-enough gs cs in text-judged text gs cs v n d s (room gs cs) reads holds image cells cells
+
+-- THE CHECK FOR LEFT RECURSION finds rule 0, whose name stands at offset 1
+pub endless-recursive : Text-recursion-says endless-text (Recursive 0 1)
+unfolding recursion-refusal recursion-from leads-on leads-through leads-by nothing-after nothing-by
+    rules kind-of b-of c-of expression-by expression rule-right grammar-rules-from grammar-refusal or-else
+    line-offsets Tokens.ends-line Tokens.lexemes Tokens.lexemes-from Tokens.skipped Tokens.token-at Tokens.letter Tokens.word Tokens.same Tokens.letters Tokens.width-at
+    Tokens.range-there Tokens.sign-of
+endless-recursive =
+    recursive (legal-texts .2) endless-read refl (own (omega arith))
+    (record { name = 97 ∷ []; body = itself-twice; defined = here; there = refl; begins = refl })
