@@ -2,11 +2,11 @@
 use mathlib.Core.Path.{_≡_, refl}
 use mathlib.Core.List.{List, [], _∷_, _++_, List·Memᴰ·not-nil}
 use mathlib.Core.Option.{Option}
-use Prim.Native.Nat.{ℕ, _≤_}
+use Prim.Native.Nat.{ℕ, _<_, _≤_}
 use native.Mathlib.Omega.{arith}
 use lib.ListN.{length, drop, replicate, length-replicate}
-use borrow.Author.Tests.{eq-eqb, le-ltb}
-use Rattle.refusal.specs.First.{or-else, refuse-if}
+use borrow.Author.Tests.{eq-eqb, lt-ltb, le-ltb}
+use Rattle.refusal.specs.First.{refusal, or-else, refuse-if}
 use Rattle.machine.specs.declared.Config.{Config}
 use Rattle.machine.specs.declared.Verdict.{Verdict}
 use Rattle.machine.specs.Run.{how-many}
@@ -18,18 +18,20 @@ use Rattle.simulator.proofs.Answered.{answered-fine}
 use Rattle.grammar.specs.Grammar.{rules, kind-of, b-of, c-of, expression-by, expression, rule-right, grammar-rules-from, grammar-refusal}
 use Rattle.recursion.specs.Computed.{nothing-by, nothing-after, leads-by, leads-through, leads-on, recursion-from, recursion-refusal}
 use Rattle.builder.specs.declared.Matching.the-variants.{Whole}
+use Rattle.builder.specs.declared.Built.the-variants.{Image}
 use Rattle.builder.specs.Image.{built, built-length}
-use Rattle.builder.specs.Calls.{build-refusal}
+use Rattle.builder.specs.Calls.{build-refusal, Build-as, Build-says}
 use Rattle.syntax.specs.declared.Leaf.the-variants.{EmptyString}
+use Rattle.syntax.specs.declared.Prefix.the-variants.{NotPredicate}
 use Rattle.syntax.specs.Tokens as Tokens
-use Rattle.syntax.specs.Trees.{Tree, nonterminal, leaf, bytes, sequence, Definition, here, last-choice, last-part, more-parts, no-prefix, no-suffix, a-name, a-leaf, a-range, last-line, Legal-text}
+use Rattle.syntax.specs.Trees.{Tree, nonterminal, leaf, bytes, prefixed, sequence, Definition, here, last-choice, last-part, more-parts, no-prefix, a-prefix, no-suffix, a-name, a-leaf, a-range, last-line, Legal-text}
 use Rattle.syntax.specs.Faults.{first-undefined, undefined-in, not-in}
 use Rattle.syntax.specs.Needs.{need, line-need, needs, later-refusal}
 use Rattle.syntax.specs.Compile.{grammar-of, encode, all-rules, named-from, helpers-from, line-rule, line-helpers, top-rule, top-helpers, compile, compile-leaf, place, own-rules, own-number, index-of, rule-bytes}
 use Rattle.syntax.specs.Reading.{Grammar, Read-says, read}
 use Rattle.syntax.specs.RuleLines.{line-offsets, own}
 use Rattle.grammar_judge.specs.Calls.{Lent, lent, parts-refusal, lent-refusal}
-use Rattle.typed.specs.Calls.{Judge-text-says, judged}
+use Rattle.typed.specs.Calls.{Build-text-says, Judge-text-says, judged}
 use Rattle.typed.specs.declared.left_recursion.TextRecursion.the-variants.{Recursive}
 use Rattle.typed.specs.Recursion.{Text-recursion-says, recursive}
 use Rattle.worked_examples.specs.Examples.{row, from-grammar, Row-holds, image-of, row-machine, source-refusal, empty-grammar, byte-grammar, endless-grammar}
@@ -51,23 +53,26 @@ byte-text = 97 ∷ 61 ∷ 39 ∷ 97 ∷ 45 ∷ 97 ∷ 39 ∷ 59 ∷ []
 abbrev pub endless-text : List ℕ
 endless-text = 32 ∷ 97 ∷ 61 ∷ 97 ∷ 32 ∷ 97 ∷ 59 ∷ []
 
--- a=b; names a line that is not there
+-- a=!b; names a line that is not there
 abbrev pub undefined-text : List ℕ
-undefined-text = 97 ∷ 61 ∷ 98 ∷ 59 ∷ []
+undefined-text = 97 ∷ 61 ∷ 33 ∷ 98 ∷ 59 ∷ []
+
+abbrev pub not-there : Tree
+not-there = prefixed NotPredicate (nonterminal (98 ∷ []))
 
 abbrev pub itself-twice : Tree
 itself-twice = sequence (nonterminal (97 ∷ [])) (nonterminal (97 ∷ []))
 
 pub legal-texts :
     Legal-text empty-text (line-of (leaf EmptyString)) × Legal-text byte-text (line-of (bytes 97 97)) × Legal-text endless-text (line-of itself-twice)
-    × Legal-text undefined-text (line-of (nonterminal (98 ∷ [])))
+    × Legal-text undefined-text (line-of not-there)
 unfolding Tokens.tokens Tokens.lexemes Tokens.lexemes-from Tokens.skipped Tokens.token-at Tokens.letter Tokens.word Tokens.same Tokens.letters Tokens.width-at
     Tokens.range-there Tokens.sign-of
 legal-texts = (
   record { reads = last-line (last-choice (last-part (no-prefix (no-suffix a-leaf)))); distinct = cons List·Memᴰ·not-nil nil },
   record { reads = last-line (last-choice (last-part (no-prefix (no-suffix a-range)))); distinct = cons List·Memᴰ·not-nil nil },
   record { reads = last-line (last-choice (more-parts (no-prefix (no-suffix a-name)) (last-part (no-prefix (no-suffix a-name))))); distinct = cons List·Memᴰ·not-nil nil },
-  record { reads = last-line (last-choice (last-part (no-prefix (no-suffix a-name)))); distinct = cons List·Memᴰ·not-nil nil },
+  record { reads = last-line (last-choice (last-part (a-prefix (no-prefix (no-suffix a-name))))); distinct = cons List·Memᴰ·not-nil nil },
 )
 
 pub unrefused-texts :
@@ -104,12 +109,30 @@ room-enough gs cs =
     let cells = how-many (machine (built Whole gs) cs) in
     (omega (arith, length-replicate {A = ℕ} (built-length gs) 0), omega (arith, length-replicate {A = ℕ} cells 0))
 
+-- BUILDING, with enough room and with too little
+pub build-fine : (gs : List ℕ) (n : ℕ) → grammar-refusal gs .number ≡ 0 → built-length gs ≤ n → build-refusal gs n .number ≡ 0
+unfolding build-refusal or-else refuse-if
+build-fine gs n good enough = rw (eq-eqb _ _ good, le-ltb _ _ enough)
+
+pub no-room : (gs : List ℕ) (n : ℕ) → grammar-refusal gs .number ≡ 0 → n < built-length gs → build-refusal gs n ≡ refusal 13 (built-length gs)
+unfolding build-refusal or-else refuse-if
+no-room gs n good few = rw (eq-eqb _ _ good, lt-ltb _ _ few)
+
+pub text-built :
+    (text gs a : List ℕ) → Read-says text (Grammar gs) → grammar-refusal gs .number ≡ 0 → built-length gs ≤ length a →
+    Build-text-says text (Image (built-length gs)) a (built Whole gs ++ drop (built-length gs) a)
+unfolding Build-says Build-as
+text-built text gs a reads good enough =
+    let says : Build-says Whole gs (Image (built-length gs)) a (built Whole gs ++ drop (built-length gs) a) =
+    rw (build-fine gs (length a) good enough) (refl, refl) in
+    Build-text-says.read reads says
+
 -- enough room for image, notes and work: nothing is refused
 pub lent-fine :
     (gs cs : List ℕ) (x : Lent) → grammar-refusal gs .number ≡ 0 → built-length gs ≤ length (x .image) →
     judge-refusal (built Whole gs) cs (length (x .notes)) (length (x .work)) .number ≡ 0 → lent-refusal gs cs x .number ≡ 0
-unfolding parts-refusal build-refusal or-else refuse-if
-lent-fine gs cs x good room fine = rw (eq-eqb _ _ good, le-ltb _ _ room) fine
+unfolding parts-refusal or-else
+lent-fine gs cs x good enough fine = rw (build-fine gs (length (x .image)) good enough) fine
 
 -- JUDGING BY A TEXT whose grammar is that of an example
 pub record Text-judged (text cs : List ℕ) (v : Verdict) (n : ℕ) (d : Config) (x : Lent) : Type 0 where

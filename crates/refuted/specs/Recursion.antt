@@ -62,23 +62,23 @@ abbrev pub Leads-exact : Type 0
 Leads-exact =
     (gs : List ℕ) (k l : ℕ) → grammar-refusal gs .number ≡ 0 → k < rules gs → (leads-on gs k l ≡ true) ↔ Leads-on (expression gs) l k
 
--- of every grammar that 11 and 12 do not refuse
+-- every grammar that 11 and 12 do not refuse, whether 19 does or not
 abbrev pub Never-looping : Type 0
 Never-looping = (gs cs : List ℕ) → grammar-refusal gs .number ≡ 0 → Bytes cs → Never-loops gs cs
 
--- the same of judging
+-- judging by every grammar that 11 and 12 do not refuse
 abbrev pub Judged-not-looping : Type 0
 Judged-not-looping =
     (how : Matching) (gs cs a a-now b b-now : List ℕ) (v : Verdict) (n : ℕ) (d : Config) → grammar-refusal gs .number ≡ 0 → Bytes cs →
     Judge-says (built how gs) cs (Answer (judgement v n d)) a a-now b b-now → v ≡ Looping → ⊥
 
--- of the program's line
+-- the program's line for every grammar that 11 and 12 do not refuse
 abbrev pub Line-not-looping : Type 0
 Line-not-looping =
     (xs : List ℕ) (x y : Lent) (line : List ℕ) → grammar-refusal (input-grammar xs) .number ≡ 0 → Bytes xs → answer-refusal xs x .number ≡ 0 →
     Input-says xs x y line → (v : Verdict) × (n : ℕ) × (d : Config) × (line ≡ answer-line v n d) × (v ≡ Looping → ⊥)
 
--- and of the report on a bundle
+-- the report by every grammar that 11 and 12 do not refuse
 abbrev pub Bundle-not-looping : Type 0
 Bundle-not-looping =
     (how : Matching) (gs xs : List ℕ) (n : ℕ) (t : Totals) (l m a x b y : List ℕ) → grammar-refusal gs .number ≡ 0 → Bytes xs →
@@ -96,29 +96,29 @@ Recursion-named =
     (text : List ℕ) (ds : List Definition) (k o : ℕ) → Text-recursion-says text (Recursive k o) → Legal-text text ds → k < length ds →
     (n : List ℕ) × (e : Tree) × Defines ds k n e × (section text k (length n) ≡ n)
 
--- whether the text passes or not
+-- the lines of every legal text: the premise that it passes is dropped
 abbrev pub Typed-results : Type 0
 Typed-results =
     (text cs : List ℕ) (ds : List Definition) (k i : ℕ) (n : List ℕ) (e : Tree) → Legal-text text ds →
     Defines ds k n e → (o : Option ℕ) × Means ds cs e i o
 
--- the same of judging by it
+-- judging by every text: the premise that it passes is dropped
 abbrev pub Text-not-looping : Type 0
 Text-not-looping =
     (text cs : List ℕ) (x y : Lent) (v : Verdict) (n : ℕ) (d : Config) → Bytes cs →
     Judge-text-says text cs (Answer (judgement v n d)) x y → v ≡ Looping → ⊥
 
--- of a rule that leads back to itself as the check has it, not by what is tried first alone
+-- a rule that leads back to itself as the check has it, not by what is tried first alone
 abbrev pub Tried-first-fails : Type 0
 Tried-first-fails = (E : Rules) (k : ℕ) → Leads-on E k k → (cs : List ℕ) (i : ℕ) (o : Option ℕ) → Parses E cs k i o → ⊥
 
--- wherever the rule stands, though rule 0 never tries it
+-- wherever the rule stands: the premise that rule 0 tries it is dropped
 abbrev pub Tried-first-endless : Type 0
 Tried-first-endless =
     (how : Matching) (gs cs : List ℕ) (k : ℕ) → grammar-refusal gs .number ≡ 0 → Bytes cs → Tries-on (expression gs) k k →
     Goes-on (machine (built how gs) cs)
 
--- the second by its rule 0, which is empty
+-- the second is refused at its rule 0, which is empty
 abbrev pub Recursion-harmless : Type 0
 Recursion-harmless = Harmless fails-first 0 × Harmless never-reached 0
 
