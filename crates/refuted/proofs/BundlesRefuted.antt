@@ -41,19 +41,18 @@ bundle-refused wrong =
     let bad = wrong [] 0 18 .1 (promises .bundle-refused [] 18 0 .0 none-refused) in
     omega (arith, ap (λ (f : Refusal). f .number) (sym none-refused ∙ bad))
 
--- an image of no bytes is refused by 1 at 0, one of one byte at 1
-call-refused : (call-refusal [] (0 ∷ []) ≡ refusal 1 0) × (call-refusal (0 ∷ []) [] ≡ refusal 1 1)
-unfolding call-refusal image-refusal or-else
-call-refused = (refl, refl)
+-- no image and no bundle: 1, not 18
+both-refused : (or-else (bundle-refusal []) (image-refusal []) ≡ refusal 18 0) × (call-refusal [] [] ≡ refusal 1 0)
+unfolding bundle-refusal count number-at call-refusal image-refusal or-else
+both-refused = (refl, refl)
 
 pub bundle-call-refused : Wrong.Bundle-call-refused → ⊥
 bundle-call-refused wrong =
-    let bad = promises .bundle-call-refused (0 ∷ []) [] 1 0 .1 (wrong [] (0 ∷ []) 1 0 .0 (call-refused .0)) in
-    omega (arith, ap (λ (f : Refusal). f .place) (sym (call-refused .1) ∙ bad))
+    let bad = promises .bundle-call-refused [] [] 18 0 .1 (wrong [] [] 18 0 .0 (both-refused .0)) in
+    omega (arith, ap (λ (f : Refusal). f .number) (sym (both-refused .1) ∙ bad))
 
 none-unreported : call-refusal [] [] .number ≡ 0 → ⊥
-unfolding call-refusal image-refusal or-else
-none-unreported e = omega (arith, e)
+none-unreported e = omega (arith, e, ap (λ (f : Refusal). f .number) (both-refused .1))
 
 pub bundle-refuses : Wrong.Bundle-refuses → ⊥
 unfolding of-report

@@ -91,9 +91,6 @@ grammars-are = (refl, refl, refl)
 pub empty-read : Read-says empty-text (Grammar empty-grammar)
 empty-read = rw (grammars-are .0) at (read (legal-texts .0) (unrefused-texts .0))
 
-pub byte-read : Read-says byte-text (Grammar byte-grammar)
-byte-read = rw (grammars-are .1) at (read (legal-texts .1) (unrefused-texts .1))
-
 pub endless-read : Read-says endless-text (Grammar endless-grammar)
 endless-read = rw (grammars-are .2) at (read (legal-texts .2) (unrefused-texts .2))
 

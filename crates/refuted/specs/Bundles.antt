@@ -6,7 +6,7 @@ use mathlib.Core.Logic.{_↔_}
 use Prim.Native.Nat.{ℕ, suc, _+_, _*_, _<_, _≤_}
 use lib.Dec.{eqb}
 use lib.ListN.{length, getD, take, drop, replicate}
-use Rattle.refusal.specs.First.{refusal, no-refusal}
+use Rattle.refusal.specs.First.{refusal, no-refusal, or-else}
 use Rattle.machine.specs.declared.Verdict.{Verdict}
 use Rattle.machine.specs.declared.Verdict.the-variants.{Accepted}
 use Rattle.machine.specs.Run.{config, how-many}
@@ -14,6 +14,7 @@ use Rattle.machine.specs.Verdicts.{Says}
 use Rattle.machine.specs.Replies.{verdict-number, refusal-reply, count-reply}
 use Rattle.codec.specs.Bytes.{section}
 use Rattle.image.specs.Image.{machine}
+use Rattle.image.specs.Refusals.{image-refusal}
 use Rattle.simulator.specs.declared.Judged.{Judged}
 use Rattle.simulator.specs.Calls.{judge-refusal, Judge-says}
 use Rattle.simulator.specs.Replies.{of-judged}
@@ -34,9 +35,9 @@ use Rattle.sejimakpu.specs.Calls.{Judge-bundle-tells}
 abbrev pub Bundle-refused : Type 0
 Bundle-refused = (xs : List ℕ) (n p : ℕ) → (bundle-refusal xs ≡ refusal n p) ↔ Bundle-row xs p n
 
--- image and bundle swapped
+-- the bundle is checked before the image
 abbrev pub Bundle-call-refused : Type 0
-Bundle-call-refused = (bs xs : List ℕ) (n p : ℕ) → (call-refusal bs xs ≡ refusal n p) ↔ Call-row xs bs n p
+Bundle-call-refused = (bs xs : List ℕ) (n p : ℕ) → (or-else (bundle-refusal xs) (image-refusal bs) ≡ refusal n p) ↔ Call-row bs xs n p
 
 -- the bundle's refusal is told, where the image's comes first
 abbrev pub Bundle-refuses : Type 0
