@@ -27,13 +27,6 @@ pub none-says : (l a b : List ℕ) → Bundle-says [] [] (Unreported (refusal 1 
 unfolding Bundle-says Bundle-as call-refusal image-refusal or-else
 none-says l a b = (refl, refl, refl, refl)
 
--- what judging it by C10's image says, with cells enough and with no notes
-abbrev pub popped : Judged
-popped = Answer (judgement Ended 1 (config 0 0 0))
-
-abbrev pub unpopped : Judged
-unpopped = Refused (refusal 8 2)
-
 -- ONE EMPTY CAPTURE: a count of 1 and the pair 12, 0
 abbrev pub one-empty : List ℕ
 one-empty = 1 ∷ 0 ∷ 0 ∷ 0 ∷ 12 ∷ 0 ∷ 0 ∷ 0 ∷ 0 ∷ 0 ∷ 0 ∷ 0 ∷ []
@@ -84,25 +77,32 @@ pub two-cells : how-many (machine popping-image []) ≡ 2
 unfolding how-many machine states symbols marker-image marker-parts encode header little-endian pair-bytes
 two-cells = refl
 
--- and one empty capture: it ends, after one reading
-pub record Popped (l a b : List ℕ) : Type 0 where
+-- what judging an empty capture by it says, with cells enough and with no notes
+abbrev pub c10-answer : Judged
+c10-answer = Answer (judgement Ended 1 (config 0 0 0))
+
+abbrev pub c10-refused : Judged
+c10-refused = Refused (refusal 8 2)
+
+-- the bundle on cells enough: the capture ends, after one reading
+pub record Reported (l a b : List ℕ) : Type 0 where
   pub a-now : List ℕ
   pub b-now : List ℕ
-  pub judged : Judge-says popping-image [] popped a a-now b b-now
-  pub says : Bundle-says popping-image one-empty (Lines 1 (totals (popped ∷ []))) l (lines-cells (popped ∷ []) ++ drop 7 l) a a-now b b-now
+  pub judged : Judge-says popping-image [] c10-answer a a-now b b-now
+  pub says : Bundle-says popping-image one-empty (Lines 1 (totals (c10-answer ∷ []))) l (lines-cells (c10-answer ∷ []) ++ drop 7 l) a a-now b b-now
 
-pub popped-on : (l a b : List ℕ) → 2 ≤ length a → 2 ≤ length b → Popped l a b
+pub reported : (l a b : List ℕ) → 2 ≤ length a → 2 ≤ length b → Reported l a b
 unfolding image-of row-machine
-popped-on l a b p q =
+reported l a b p q =
     let j = row-judged-on c10 c10-holds a b (rw two-cells p) (rw two-cells q) in
-    record { a-now = j .a-now; b-now = j .b-now; judged = j .says; says = one-says popping-image popped l a (j .a-now) b (j .b-now) popping-good (j .says) }
+    record { a-now = j .a-now; b-now = j .b-now; judged = j .says; says = one-says popping-image c10-answer l a (j .a-now) b (j .b-now) popping-good (j .says) }
 
--- with no notes it is refused, by 8 at 2
-pub unpopped-judged : (b : List ℕ) → Judge-says popping-image [] unpopped [] [] b b
+-- the bundle on no notes: the capture is refused, by 8 at 2
+pub refused-judged : (b : List ℕ) → Judge-says popping-image [] c10-refused [] [] b b
 unfolding image-of
-unpopped-judged b = rw two-cells at (few-notes-judged popping-image [] [] b (c10-holds .unrefused) (rw two-cells (omega arith)))
+refused-judged b = rw two-cells at (few-notes-judged popping-image [] [] b (c10-holds .unrefused) (rw two-cells (omega arith)))
 
-pub unpopped-says :
+pub refused-says :
     (l b : List ℕ) →
-    Bundle-says popping-image one-empty (Lines 1 (totals (unpopped ∷ []))) l (lines-cells (unpopped ∷ []) ++ drop 7 l) [] [] b b
-unpopped-says l b = one-says popping-image unpopped l [] [] b b popping-good (unpopped-judged b)
+    Bundle-says popping-image one-empty (Lines 1 (totals (c10-refused ∷ []))) l (lines-cells (c10-refused ∷ []) ++ drop 7 l) [] [] b b
+refused-says l b = one-says popping-image c10-refused l [] [] b b popping-good (refused-judged b)

@@ -29,7 +29,7 @@ use Rattle.worked_examples.specs.BundleExamples.{two-in-abc, Refused-so}
 use Rattle.promises.proofs.Proved.{promises}
 use Rattle.refuted.specs.Bundles as Wrong
 use Rattle.refuted.proofs.Rows.{first, c10-holds}
-use Rattle.refuted.proofs.BundleCalls.{none-says, one-empty, one-counted, one-captured, call-good, one-ordered, popping-good, two-cells, popped, popped-on, unpopped, unpopped-judged, unpopped-says}
+use Rattle.refuted.proofs.BundleCalls.{none-says, one-empty, one-counted, one-captured, call-good, one-ordered, popping-good, two-cells, c10-answer, reported, c10-refused, refused-judged, refused-says}
 
 -- REFUSALS
 none-refused : bundle-refusal [] ≡ refusal 18 0
@@ -77,7 +77,7 @@ zeros = 0 ∷ 0 ∷ 0 ∷ 0 ∷ 0 ∷ 0 ∷ 0 ∷ 0 ∷ []
 pub bundle-answers : Wrong.Bundle-answers → ⊥
 unfolding of-judged line-cells lines-cells
 bundle-answers wrong =
-    let p = popped-on ones zeros zeros (omega arith) (omega arith) in
+    let p = reported ones zeros zeros (omega arith) (omega arith) in
     let kept = wrong popping-image one-empty _ ones _ zeros (p .a-now) zeros (p .b-now) (p .says) call-popping .1 in
     omega (arith, ap (λ (l : List ℕ). getD l 0 0) (rw one-counted at kept))
 
@@ -90,15 +90,15 @@ bundle-determined wrong =
 pub bundle-independent : Wrong.Bundle-independent → ⊥
 unfolding of-judged line-cells lines-cells
 bundle-independent wrong =
-    let p = popped-on ones zeros zeros (omega arith) (omega arith) in
-    let q = popped-on zeros zeros zeros (omega arith) (omega arith) in
+    let p = reported ones zeros zeros (omega arith) (omega arith) in
+    let q = reported zeros zeros zeros (omega arith) (omega arith) in
     let same = wrong popping-image one-empty _ _ ones _ zeros _ zeros _ zeros _ zeros _ zeros _ refl refl (p .says) (q .says) .1 call-popping in
     omega (arith, ap (λ (l : List ℕ). getD l 7 0) (rw one-counted at same))
 
 pub bundle-cells-independent : Wrong.Bundle-cells-independent → ⊥
 bundle-cells-independent wrong =
-    let p = popped-on [] ones zeros (omega arith) (omega arith) in
-    let q = popped-on [] zeros zeros (omega arith) (omega arith) in
+    let p = reported [] ones zeros (omega arith) (omega arith) in
+    let q = reported [] zeros zeros (omega arith) (omega arith) in
     let same =
     wrong popping-image one-empty _ _ [] _ [] _ ones _ zeros _ zeros _ zeros _ refl refl (p .says) (q .says) call-popping 0
     (omega (arith, one-counted))
@@ -117,9 +117,9 @@ captures-inside wrong = omega (arith, wrong (two-in-abc 23 0 23 0) 0 refl (omega
 pub line-alone : Wrong.Line-alone → ⊥
 unfolding of-judged line-cells lines-cells
 line-alone wrong =
-    let p = popped-on [] zeros zeros (omega arith) (omega arith) in
-    let alone : Judge-says popping-image (capture one-empty 0) unpopped [] [] zeros zeros = rw one-captured (unpopped-judged zeros) in
-    let same = wrong popping-image one-empty _ [] _ zeros _ zeros _ (p .says) call-popping 0 (omega (arith, one-counted)) unpopped [] [] zeros zeros refl alone in
+    let p = reported [] zeros zeros (omega arith) (omega arith) in
+    let alone : Judge-says popping-image (capture one-empty 0) c10-refused [] [] zeros zeros = rw one-captured (refused-judged zeros) in
+    let same = wrong popping-image one-empty _ [] _ zeros _ zeros _ (p .says) call-popping 0 (omega (arith, one-counted)) c10-refused [] [] zeros zeros refl alone in
     omega (arith, ap (λ (l : List ℕ). getD l 0 0) same)
 
 -- writing keeps every cell, or writes it
@@ -132,12 +132,12 @@ written-long (ns ∷ ws) l =
 
 pub bundle-as-alone : Wrong.As-alone → ⊥
 bundle-as-alone wrong =
-    let (ws, _, same, _, _) = wrong popping-image one-empty [] [] ones ones _ (one-ordered popping-image unpopped [] [] ones ones (unpopped-judged ones)) in
+    let (ws, _, same, _, _) = wrong popping-image one-empty [] [] ones ones _ (one-ordered popping-image c10-refused [] [] ones ones (refused-judged ones)) in
     omega (arith, ap length same, written-long ws ones)
 
 pub bundle-later : Wrong.Bundle-later → ⊥
 bundle-later wrong =
-    let p = popped-on [] zeros ones (omega arith) (omega arith) in
+    let p = reported [] zeros ones (omega arith) (omega arith) in
     let few : (i : ℕ) → i < count one-empty → how-many (machine popping-image (capture one-empty i)) ≤ 2 =
     λ i h. (let z : i ≡ 0 = omega (arith, one-counted) in rw (z, one-captured, two-cells) (omega arith)) in
     let kept = wrong popping-image one-empty _ [] _ zeros _ ones _ (p .says) 1 few .1 in
@@ -148,21 +148,21 @@ bundle-later wrong =
 pub totals-sum : Wrong.Totals-sum → ⊥
 unfolding totals sum is-refused of-judged line-cells lines-cells sum-of-lines
 totals-sum wrong =
-    let bad = wrong popping-image one-empty _ _ [] _ [] [] [] [] (unpopped-says [] []) .1 in
+    let bad = wrong popping-image one-empty _ _ [] _ [] [] [] [] (refused-says [] []) .1 in
     omega (arith, rw one-counted at bad)
 
 pub totals-whole : Wrong.Totals-whole → ⊥
 unfolding totals sum gives
 totals-whole wrong =
-    let bad = wrong popping-image one-empty _ _ [] _ [] [] [] [] (unpopped-says [] []) .1 in
+    let bad = wrong popping-image one-empty _ _ [] _ [] [] [] [] (refused-says [] []) .1 in
     omega (arith, bad, one-counted)
 
 -- THE LIBRARY FOR C: C10's one reading is no verdict
 pub line-accepted : Wrong.Line-accepted → ⊥
 unfolding of-report totals-left cells of-judged line-cells lines-cells image-of row-machine verdict-number
 line-accepted wrong =
-    let p = popped-on [] zeros zeros (omega arith) (omega arith) in
-    let tells : Judge-bundle-tells popping-image one-empty [] (lines-cells (popped ∷ [])) [] (totals-cells (totals (popped ∷ []))) zeros (p .a-now) zeros (p .b-now) 0 (cells (count-reply 1)) =
+    let p = reported [] zeros zeros (omega arith) (omega arith) in
+    let tells : Judge-bundle-tells popping-image one-empty [] (lines-cells (c10-answer ∷ [])) [] (totals-cells (totals (c10-answer ∷ []))) zeros (p .a-now) zeros (p .b-now) 0 (cells (count-reply 1)) =
     record { report = _; says = p .says; left = refl; tells = record { number = refl; written = refl } } in
     let says = wrong popping-image one-empty [] _ [] _ zeros _ zeros _ 0 _ tells refl 0 (omega arith) refl in
     omega (arith, ap verdict-number (promises .one-verdict _ Accepted Ended _ _ (rw one-captured at says) (c10-holds .says) .0))
