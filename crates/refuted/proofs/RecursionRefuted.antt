@@ -153,9 +153,9 @@ only-name (there (there p)) e = absurd (clash cc)
 -- a space stands at 0
 pub recursion-named : Wrong.Recursion-named → ⊥
 recursion-named wrong =
-    let (n, e, defined, stands) = wrong endless-text (line-of itself-twice) 0 1 endless-recursive (legal-texts .2) (omega arith) in
-    let is : n ≡ 97 ∷ [] = only-name defined refl in
-    omega (arith, ap (λ (l : List ℕ). getD l 0 0) (rw is at stands))
+    let named = wrong endless-text (line-of itself-twice) 0 1 endless-recursive (legal-texts .2) (omega arith) in
+    let is : named .name ≡ 97 ∷ [] = only-name (named .defined) refl in
+    omega (arith, ap (λ (l : List ℕ). getD l 0 0) (rw is at (named .there)))
 
 pub typed-results : Wrong.Typed-results → ⊥
 unfolding image-of row-machine

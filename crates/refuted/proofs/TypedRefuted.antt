@@ -34,7 +34,7 @@ use Rattle.syntax.specs.Tokens as Tokens
 use Rattle.syntax.specs.Tokens.{Token, name, sign}
 use Rattle.syntax.specs.Trees.{leaf, bytes, last-choice, last-part, no-prefix, no-suffix, a-leaf, brackets, Reads, last-line}
 use Rattle.syntax.specs.Faults.{fault, first-wrong, next, to-if, not-in, is-equals, by-sign, defined-after, name-of, at-end}
-use Rattle.syntax.specs.Meaning.{byte-out, nothing}
+use Rattle.syntax_theory.specs.Meaning.{byte-out, nothing}
 use Rattle.syntax.specs.Compile.{grammar-of}
 use Rattle.syntax.specs.Compile as Compile
 use Rattle.syntax.specs.Reading.{Refused, Grammar, Read-says, at-fault}

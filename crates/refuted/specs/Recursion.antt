@@ -6,7 +6,7 @@ use mathlib.Core.Logic.{_↔_}
 use mathlib.Core.Option.{Option, some}
 use Prim.Native.Nat.{ℕ, suc, _*_, _<_}
 use lib.ListN.{length}
-use Rattle.codec.specs.Bytes.{Bytes, section}
+use Rattle.codec.specs.Bytes.{Bytes}
 use Rattle.refusal.specs.First.{refusal, no-refusal}
 use Rattle.machine.specs.declared.Config.{Config}
 use Rattle.machine.specs.declared.Verdict.{Verdict}
@@ -29,7 +29,8 @@ use Rattle.recursion_theory.specs.FirstParts.{Tries-on}
 use Rattle.recursion_theory.specs.Harmless.{Harmless, fails-first, never-reached}
 use Rattle.grammar_judge.specs.Calls.{Lent}
 use Rattle.syntax.specs.Trees.{Tree, Definition, Defines, Legal-text}
-use Rattle.syntax.specs.Meaning.{Means}
+use Rattle.syntax.specs.RuleLines.{Name-at}
+use Rattle.syntax_theory.specs.Meaning.{Means}
 use Rattle.typed.specs.declared.left_recursion.TextRecursion.the-variants.{Recursive}
 use Rattle.typed.specs.Calls.{Judge-text-says}
 use Rattle.typed.specs.Recursion.{Text-recursion-says}
@@ -90,11 +91,11 @@ Text-recursion-determined =
     (text : List ℕ) (k o l p : ℕ) → Text-recursion-says text (Recursive k o) → Text-recursion-says text (Recursive l p) →
     Recursive k o ≡ Recursive p l
 
--- the name stands at the rule's number, not at the offset
+-- the line begins at the rule's number, not at the offset
 abbrev pub Recursion-named : Type 0
 Recursion-named =
     (text : List ℕ) (ds : List Definition) (k o : ℕ) → Text-recursion-says text (Recursive k o) → Legal-text text ds → k < length ds →
-    (n : List ℕ) × (e : Tree) × Defines ds k n e × (section text k (length n) ≡ n)
+    Name-at text ds k k
 
 -- the lines of every legal text: the premise that it passes is dropped
 abbrev pub Typed-results : Type 0

@@ -25,10 +25,10 @@ use Rattle.syntax.specs.Tokens.{Token}
 use Rattle.syntax.specs.Trees.{Definition, Reads, Legal-text}
 use Rattle.syntax.specs.Faults.{fault}
 use Rattle.syntax.specs.FaultMeaning.{Wrong-at}
-use Rattle.syntax.specs.Meaning.{Means}
+use Rattle.syntax_theory.specs.Meaning.{Means}
 use Rattle.syntax.specs.Needs.{later-refusal}
 use Rattle.syntax.specs.Compile.{grammar-of}
-use Rattle.syntax.specs.RuleOf.{Typed-right}
+use Rattle.syntax_theory.specs.RuleOf.{Typed-right}
 use Rattle.syntax.specs.Reading.{Reading, Grammar, Read-says}
 use Rattle.reader.specs.declared.ReadGrammar.{ReadGrammar}
 use Rattle.reader.specs.Calls.{Read-tells}
