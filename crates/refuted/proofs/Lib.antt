@@ -11,6 +11,8 @@ pub mod BundleCalls
 pub mod SmallBytes
 pub mod TextCalls
 pub mod LineCalls
+pub mod RowUnique
+pub mod MadeRows
 pub mod FirstDemandRefuted
 pub mod SecondDemandRefuted
 pub mod ThirdDemandRefuted
