@@ -13,6 +13,7 @@ pub mod TextCalls
 pub mod LineCalls
 pub mod RowUnique
 pub mod MadeRows
+pub mod HaltingRows
 pub mod FirstDemandRefuted
 pub mod SecondDemandRefuted
 pub mod ThirdDemandRefuted
