@@ -1,4 +1,4 @@
--- The examples of halting rules one by one: each row, that it holds, and judging it; and an image beside the same one with a missing rule for its halting one. Assumes nothing.
+-- The image that halts at once: its row, that it holds, and judging it; and beside it the same image with a missing rule for the halting one. Assumes nothing.
 use mathlib.Core.Path.{_≡_, refl, sym, ap, _∙_}
 use mathlib.Core.List.{List, [], _∷_, _++_}
 use mathlib.Core.Option.{some}
@@ -8,45 +8,30 @@ use lib.ListN.{length, replicate, List·getD-append, List·getD-eq-default}
 use lib.Seq.{getD-append-add}
 use Rattle.codec.specs.Bytes.{byte}
 use Rattle.codec.specs.Numbers.{little-endian, pair-bytes}
-use Rattle.machine.specs.declared.Verdict.the-variants.{Stuck, Halted}
+use Rattle.machine.specs.declared.Verdict.the-variants.{Halted}
 use Rattle.machine.specs.Run.{config}
 use Rattle.image.specs.Format
-use Rattle.image.specs.Image.{Rule, rule-from}
+use Rattle.image.specs.Image.{rule-from}
 use Rattle.image.specs.Encoding.{header, rule-bytes, rules-bytes, encode}
 use Rattle.image.specs.WithoutHalting.{missing-rule, Missing-for-halting}
 use Rattle.builder.specs.Table.{no-rule}
-use Rattle.worked_examples.specs.Examples.{Row, row, from-image, Row-holds, Each, marker-parts, marker-image}
-use Rattle.worked_examples.specs.HaltingExamples.{halting-image, telling-image, halting-table}
+use Rattle.worked_examples.specs.Examples.{Row, row, from-image, Row-holds, marker-parts, marker-image}
+use Rattle.worked_examples.specs.HaltingExamples.{halting-image, halting-table}
 use Rattle.promises.proofs.Proved.{promises}
 use Rattle.refuted.proofs.Witnesses.{Row-judged, row-judged}
-use Rattle.refuted.proofs.Rows.{first, others}
+use Rattle.refuted.proofs.Rows.{first}
 use Rattle.refuted.proofs.MadeRows.{empty-image}
 
--- halted at once; halted at the byte 61
+-- halted at once
 abbrev pub h1 : Row
 h1 = row (from-image halting-image) [] Halted 1 (config 0 0 0) (some 0)
 
-abbrev pub h2 : Row
-h2 = row (from-image telling-image) (97 ∷ []) Halted 2 (config 0 1 0) (some 1)
-
-abbrev h3 : Row
-h3 = row (from-image telling-image) (98 ∷ []) Stuck 2 (config 0 1 0) (some 1)
-
-from-h1 : Each Row-holds (h1 ∷ h2 ∷ h3 ∷ [])
-unfolding halting-table
-from-h1 = promises .halting-rows
-
 pub h1-holds : Row-holds h1
-h1-holds = first from-h1
-
-h2-holds : Row-holds h2
-h2-holds = first (others from-h1)
+unfolding halting-table
+h1-holds = first (promises .halting-rows)
 
 pub h1-judged : Row-judged h1
 h1-judged = row-judged h1 h1-holds
-
-pub h2-judged : Row-judged h2
-h2-judged = row-judged h2 h2-holds
 
 -- MISSING FOR HALTING: the two images differ in one rule. What stands before the rules, and the bytes of the three
 unfoldable front : List ℕ
@@ -83,9 +68,12 @@ rule-behind t i =
 past : (t : List ℕ) (i : ℕ) → length t ≤ i → rule-from t i ≡ no-rule
 unfolding rule-from
 past t i h =
-    rw
-    (List·getD-eq-default t 0 {n = i} h, List·getD-eq-default t 0 {n = i + 1} (omega arith),
-     List·getD-eq-default t 0 {n = i + 2} (omega arith), List·getD-eq-default t 0 {n = i + 3} (omega arith))
+    rw (
+      List·getD-eq-default t 0 {n = i} h,
+      List·getD-eq-default t 0 {n = i + 1} (omega arith),
+      List·getD-eq-default t 0 {n = i + 2} (omega arith),
+      List·getD-eq-default t 0 {n = i + 3} (omega arith),
+    )
     refl
 
 three-missing : (i : ℕ) → rule-from (three 0) (4 * i) ≡ missing-rule (rule-from (three 4) (4 * i))
