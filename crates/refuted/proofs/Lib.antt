@@ -14,6 +14,9 @@ pub mod LineCalls
 pub mod RowUnique
 pub mod MadeRows
 pub mod HaltingRows
+pub mod Lent
+pub mod MadeRuns
+pub mod NoteLaws
 pub mod FirstDemandRefuted
 pub mod SecondDemandRefuted
 pub mod ThirdDemandRefuted

@@ -1,4 +1,4 @@
--- Rows beside C1 to C10 that refutations ask for, computed: a missing rule in the place of a halting one, an image in which push follows push, and a grammar of nested sequences. Assumes nothing.
+-- Rows beside C1 to C10 that refutations ask for, computed: an image without a rule, a run to the last configuration, an image in which push follows push, and a grammar of nested sequences. Assumes nothing.
 use mathlib.Core.Path.{_≡_, refl}
 use mathlib.Core.List.{List, [], _∷_}
 use mathlib.Core.Option.{some}
@@ -25,6 +25,7 @@ use Rattle.builder.specs.Classes.{cuts-at, cut-from, cut, class-of, class-count
 use Rattle.builder.specs.Table.{rule, no-rule, rows, by-state, select, on-byte, row-zero, class-inside, rows-at, made}
 use Rattle.builder.specs.Image.{symbols-of, built-rules, rules-made, map-made, built, parts}
 use Rattle.worked_examples.specs.Examples.{Row, row, from-grammar, from-image, Row-holds, image-of, source-refusal, row-machine, marker-parts, marker-image}
+use Rattle.worked_examples.specs.HaltingExamples.{telling-image}
 use Rattle.worked_examples.proofs.ChainEnd.{steps-on}
 use Rattle.worked_examples.proofs.RowLaws.{found, found-by, said, exit-verdict, ran-found, ran-said, chain-last, enough, all-bytes, found-holds}
 use Rattle.refuted.proofs.Witnesses.{Row-judged, row-judged}
@@ -35,6 +36,10 @@ empty-image = marker-image no-rule
 
 abbrev pub empty-row : Row
 empty-row = row (from-image empty-image) [] Stuck 1 (config 0 0 0) (some 0)
+
+-- from the left marker to the right one, the last of the two configurations
+abbrev pub edge-row : Row
+edge-row = row (from-image telling-image) [] Stuck 2 (config 0 1 0) (some 1)
 
 -- on the left marker states 0 to 2 push the next one, and 3 pops: each push is looked at again when it comes back
 abbrev pub pushing-image : List ℕ
@@ -65,8 +70,9 @@ abbrev pub nested-row : Row
 nested-row = row (from-grammar Whole nested-grammar) [] Accepted 15 (config 2 1 0) (some 18)
 
 -- THE TESTS, computed
-computed : (found empty-row ≡ said empty-row) × (found pushing-row ≡ said pushing-row) × (found nested-row ≡ said nested-row)
-unfolding found said found-by ran-found ran-said chain-last enough all-bytes steps-on image-of source-refusal row-machine marker-parts marker-image
+computed :
+    (found empty-row ≡ said empty-row) × (found edge-row ≡ said edge-row) × (found pushing-row ≡ said pushing-row) × (found nested-row ≡ said nested-row)
+unfolding found said found-by ran-found ran-said chain-last enough all-bytes steps-on image-of source-refusal row-machine marker-parts marker-image telling-image
     start step step-on step-by config-of top how-many number-by config-by note-of sizes-of
     machine number-at little-endian pair-bytes header rule-bytes rules-bytes encode states classes symbols rule-offset rule-from rule-at class-under moved action-by action accepting
     or-else refuse-if pair-is directory counts count-wrong map-from move-off rule-bad index-class rules-refusal-from rule-count image-refusal
@@ -76,19 +82,25 @@ unfolding found said found-by ran-found ran-said chain-last enough all-bytes ste
     cuts-at cut-from cut class-of class-count class-in
     rows by-state select on-byte row-zero class-inside rows-at made
     symbols-of built-rules rules-made map-made parts built
-computed = (refl, refl, refl)
+computed = (refl, refl, refl, refl)
 
 pub empty-holds : Row-holds empty-row
 empty-holds = found-holds empty-row (computed .0)
 
+pub edge-holds : Row-holds edge-row
+edge-holds = found-holds edge-row (computed .1)
+
 pub pushing-holds : Row-holds pushing-row
-pushing-holds = found-holds pushing-row (computed .1)
+pushing-holds = found-holds pushing-row (computed .2)
 
 pub nested-holds : Row-holds nested-row
-nested-holds = found-holds nested-row (computed .2)
+nested-holds = found-holds nested-row (computed .3)
 
 pub empty-judged : Row-judged empty-row
 empty-judged = row-judged empty-row empty-holds
+
+pub edge-judged : Row-judged edge-row
+edge-judged = row-judged edge-row edge-holds
 
 pub pushing-judged : Row-judged pushing-row
 pushing-judged = row-judged pushing-row pushing-holds

@@ -1,0 +1,94 @@
+-- Judging an example on cells of any number and content that suffice, C10 on one cell more than it needs; and that the chain comes to one verdict, at one step. Assumes nothing.
+use mathlib.Core.Path.{_≡_, _∙_}
+use mathlib.Core.List.{List, [], _∷_, _++_}
+use mathlib.Core.Option.{none, some}
+use Prim.Native.Nat.{ℕ, zero, suc, _+_, _<_, _≤_}
+use native.Mathlib.Decide.{decLt}
+use native.Mathlib.Omega.{arith}
+use lib.ListN.{length, drop, replicate, length-replicate, length-append}
+use lib.Seq.{drop-at}
+use Rattle.machine.specs.declared.Verdict.{Verdict}
+use Rattle.machine.specs.Run.{how-many}
+use Rattle.machine.specs.Verdicts.{nonzero}
+use Rattle.machine.proofs.Runs.{not-none}
+use Rattle.chain.specs.Chain.{chain, reached}
+use Rattle.simulator.specs.declared.Judged.the-variants.{Answer}
+use Rattle.simulator.specs.Calls.{judgement, Judge-says}
+use Rattle.simulator.proofs.LengthsKept.{lengths-kept}
+use Rattle.worked_examples.specs.Examples.{Row, Row-holds, image-of, row-machine}
+use Rattle.promises.proofs.Proved.{promises}
+use Rattle.refuted.proofs.Witnesses.{judged-there}
+use Rattle.refuted.proofs.Rows.{c10, c10-holds}
+
+-- AN EXAMPLE THAT HOLDS, judged on these cells
+pub record Judged-on (r : Row) (a b : List ℕ) : Type 0 where
+  pub notes-now : List ℕ
+  pub work-now : List ℕ
+  pub says :
+      Judge-says (image-of (r .source)) (r .capture) (Answer (judgement (r .verdict) (r .readings) (r .end))) a notes-now b work-now
+
+pub judged-on : (r : Row) (a b : List ℕ) → Row-holds r → how-many (row-machine r) ≤ length a → how-many (row-machine r) ≤ length b → Judged-on r a b
+unfolding row-machine
+judged-on r a b h p q =
+    let bs : List ℕ = image-of (r .source) in
+    let cs : List ℕ = r .capture in
+    let j = judged-there bs cs a b (h .unrefused) p q in
+    let (same-verdict, same-end) =
+    promises .judge-exact bs cs a (j .a-now) b (j .b-now) (j .verdict) (j .readings) (j .end) (h .unrefused .bytes) (j .says) (r .verdict) (r .end) .0 (h .says) in
+    let entered = promises .readings-entered bs cs a (j .a-now) b (j .b-now) (j .verdict) (j .readings) (j .end) (h .unrefused .bytes) (j .says) in
+    let same-readings = promises .one-count bs cs (j .readings) (r .readings) (h .unrefused) entered (h .entered) in
+    record { notes-now = j .a-now; work-now = j .b-now; says = rw (same-verdict, same-end, ← same-readings) (j .says) }
+
+-- ONE CELL MORE than the N of an example, and that one is 1
+unfoldable pub longer : Row → List ℕ
+longer r = replicate (how-many (row-machine r)) 0 ++ (1 ∷ [])
+
+longer-length : (r : Row) → length (longer r) ≡ how-many (row-machine r) + 1
+unfolding longer
+longer-length r = simp (length-append, length-replicate) (omega arith)
+
+longer-drop : (r : Row) → drop (how-many (row-machine r)) (longer r) ≡ 1 ∷ []
+unfolding longer
+longer-drop r =
+    let n = how-many (row-machine r) in
+    drop-at (replicate n 0) (1 ∷ []) n (length-replicate {A = ℕ} n 0)
+
+pub c10-longer : Judged-on c10 (longer c10) (longer c10)
+c10-longer =
+    let long = longer-length c10 in
+    judged-on c10 (longer c10) (longer c10) c10-holds (omega (arith, long)) (omega (arith, long))
+
+-- it is there after judging, and still 1: of the notes, and of the work cells
+pub record One-more (ns : List ℕ) : Type 0 where
+  pub long : length ns ≡ how-many (row-machine c10) + 1
+  pub last : drop (how-many (row-machine c10)) ns ≡ 1 ∷ []
+
+pub c10-one-more : One-more (c10-longer .notes-now) × One-more (c10-longer .work-now)
+unfolding row-machine
+c10-one-more =
+    let (notes-long, work-long) = lengths-kept _ _ _ _ _ _ _ (c10-longer .says) in
+    let (notes-last, work-last) = promises .judge-later _ _ _ _ _ _ _ (c10-longer .says) in (
+      record { long = notes-long ∙ longer-length c10; last = notes-last ∙ longer-drop c10 },
+      record { long = work-long ∙ longer-length c10; last = work-last ∙ longer-drop c10 },
+    )
+
+-- notes that are not 0: one more is looked at
+pub nonzero-next : (n : ℕ) (ns : List ℕ) → nonzero (suc n) ns ≡ nonzero n ns + nonzero 1 (drop n ns)
+unfolding nonzero
+nonzero-next zero ns = omega arith
+nonzero-next (suc n) [] = omega arith
+nonzero-next (suc n) (a ∷ ns) = omega (arith, nonzero-next n ns)
+
+-- THE CHAIN'S VERDICT stands first at one step
+pub record First-verdict (bs cs : List ℕ) (n : ℕ) : Type 0 where
+  pub verdict : Verdict
+  pub there : chain .verdict (reached chain bs cs n .state) ≡ some verdict
+  pub not-before : (m : ℕ) → m < n → chain .verdict (reached chain bs cs m .state) ≡ none
+
+pub one-first : {bs cs : List ℕ} {n m : ℕ} → First-verdict bs cs n → First-verdict bs cs m → n ≡ m
+one-first {bs} {cs} {n} {m} p q = go (decLt n m) (decLt m n)
+  where
+    go : Dec (n < m) → Dec (m < n) → n ≡ m
+    go (yes h) k = absurd (not-none _ (p .there) (q .not-before n h))
+    go (no h) (yes k) = absurd (not-none _ (q .there) (p .not-before m k))
+    go (no h) (no k) = omega arith
