@@ -1,19 +1,19 @@
 -- Judging an example on cells of any number and content that suffice, C10 on one cell more than it needs; and that the chain comes to one verdict, at one step. Assumes nothing.
-use mathlib.Core.Path.{_≡_, _∙_}
+use mathlib.Core.Path.{_≡_, refl, sym, ap, _∙_}
 use mathlib.Core.List.{List, [], _∷_, _++_}
-use mathlib.Core.Option.{none, some}
 use Prim.Native.Nat.{ℕ, zero, suc, _+_, _<_, _≤_}
 use native.Mathlib.Decide.{decLt}
+use native.Mathlib.Nat.{add-zero}
 use native.Mathlib.Omega.{arith}
-use lib.ListN.{length, drop, replicate, length-replicate, length-append}
-use lib.Seq.{drop-at}
+use lib.ListN.{length, getD, drop, replicate, length-replicate, length-append}
+use lib.Seq.{drop-at, getD-drop}
+use Rattle.machine.specs.declared.Config.{Config}
 use Rattle.machine.specs.declared.Verdict.{Verdict}
 use Rattle.machine.specs.Run.{how-many}
 use Rattle.machine.specs.Verdicts.{nonzero}
 use Rattle.machine.proofs.Runs.{not-none}
-use Rattle.chain.specs.Chain.{chain, reached}
 use Rattle.simulator.specs.declared.Judged.the-variants.{Answer}
-use Rattle.simulator.specs.Calls.{judgement, Judge-says}
+use Rattle.simulator.specs.Calls.{judgement, Chain-ends, Judge-says}
 use Rattle.simulator.proofs.LengthsKept.{lengths-kept}
 use Rattle.worked_examples.specs.Examples.{Row, Row-holds, image-of, row-machine}
 use Rattle.promises.proofs.Proved.{promises}
@@ -73,22 +73,36 @@ c10-one-more =
     )
 
 -- notes that are not 0: one more is looked at
-pub nonzero-next : (n : ℕ) (ns : List ℕ) → nonzero (suc n) ns ≡ nonzero n ns + nonzero 1 (drop n ns)
+one-counts : nonzero 1 (1 ∷ []) ≡ 1
+unfolding nonzero
+one-counts = refl
+
+nonzero-next : (n : ℕ) (ns : List ℕ) → nonzero (suc n) ns ≡ nonzero n ns + nonzero 1 (drop n ns)
 unfolding nonzero
 nonzero-next zero ns = omega arith
 nonzero-next (suc n) [] = omega arith
 nonzero-next (suc n) (a ∷ ns) = omega (arith, nonzero-next n ns)
 
--- THE CHAIN'S VERDICT stands first at one step
-pub record First-verdict (bs cs : List ℕ) (n : ℕ) : Type 0 where
-  pub verdict : Verdict
-  pub there : chain .verdict (reached chain bs cs n .state) ≡ some verdict
-  pub not-before : (m : ℕ) → m < n → chain .verdict (reached chain bs cs m .state) ≡ none
+-- so that one cell counts, and it is 1
+module _ {ns : List ℕ} (more : One-more ns) where
+  pub one-nonzero : nonzero (length ns) ns ≡ suc (nonzero (how-many (row-machine c10)) ns)
+  one-nonzero =
+      let n : ℕ = how-many (row-machine c10) in
+      let long : length ns ≡ suc n = omega (arith, more .long) in
+      let last : nonzero 1 (drop n ns) ≡ 1 = rw (more .last) one-counts in
+      rw long (omega (arith, nonzero-next n ns, last))
 
-pub one-first : {bs cs : List ℕ} {n m : ℕ} → First-verdict bs cs n → First-verdict bs cs m → n ≡ m
-one-first {bs} {cs} {n} {m} p q = go (decLt n m) (decLt m n)
+  pub last-cell : getD ns (how-many (row-machine c10)) 0 ≡ 1
+  last-cell =
+      let n : ℕ = how-many (row-machine c10) in
+      ap (λ (k : ℕ). getD ns k 0) (sym (add-zero n)) ∙ sym (getD-drop n ns 0 0) ∙ ap (λ (l : List ℕ). getD l 0 0) (more .last)
+
+-- THE CHAIN ENDS at one step
+pub one-ending :
+    {bs cs xs ys : List ℕ} {v w : Verdict} {n m : ℕ} {d e : Config} (p : Chain-ends bs cs v n d xs) (q : Chain-ends bs cs w m e ys) → p .steps ≡ q .steps
+one-ending p q = go (decLt (p .steps) (q .steps)) (decLt (q .steps) (p .steps))
   where
-    go : Dec (n < m) → Dec (m < n) → n ≡ m
-    go (yes h) k = absurd (not-none _ (p .there) (q .not-before n h))
-    go (no h) (yes k) = absurd (not-none _ (q .there) (p .not-before m k))
+    go : Dec (p .steps < q .steps) → Dec (q .steps < p .steps) → p .steps ≡ q .steps
+    go (yes h) k = absurd (not-none _ (p .verdict-is) (q .not-before (p .steps) h))
+    go (no h) (yes k) = absurd (not-none _ (q .verdict-is) (p .not-before (q .steps) k))
     go (no h) (no k) = omega arith

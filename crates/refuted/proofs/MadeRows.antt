@@ -1,23 +1,28 @@
--- Rows beside C1 to C10 that refutations ask for, computed: an image without a rule, a run to the last configuration, an image in which push follows push, and a grammar of nested sequences. Assumes nothing.
-use mathlib.Core.Path.{_≡_, refl}
+-- Rows beside C1 to C10 for refutations, computed: an image without a rule, a run to the last configuration, an image of pushes, nested sequences. Assumes nothing.
+use mathlib.Core.Path.{_≡_, refl, sym, ap, _∙_}
 use mathlib.Core.List.{List, [], _∷_}
-use mathlib.Core.Option.{some}
-use Prim.Native.Nat.{ℕ}
+use mathlib.Core.Option.{none, some}
+use Prim.Native.Nat.{ℕ, _+_, _-_, _≤_}
+use native.Mathlib.Omega.{arith}
 use lib.ListN.{replicate}
+use Rattle.machine.specs.declared.Verdict.{Verdict}
 use Rattle.machine.specs.declared.Verdict.the-variants.{Accepted, Ended, Stuck}
 use Rattle.machine.specs.Terminating.{stop-verdict, termination-verdict, accepts-by}
 use Rattle.machine.specs.Run.{config, start, step, step-on, step-by, config-of, top, how-many, number-by, config-by}
 use Rattle.machine.specs.Verdicts.{note-of}
+use Rattle.machine.proofs.Runs.{not-none}
 use Rattle.codec.specs.Numbers.{number-at, little-endian, pair-bytes}
 use Rattle.image.specs.Format
 use Rattle.image.specs.Image.{machine, states, classes, symbols, rule-offset, rule-from, rule-at, class-under, moved, action-by, action, accepting, sizes-of}
 use Rattle.image.specs.Encoding.{header, rule-bytes, rules-bytes, encode}
 use Rattle.refusal.specs.First.{or-else, refuse-if}
 use Rattle.image.specs.Refusals.{pair-is, directory, counts, count-wrong, map-from, move-off, rule-bad, index-class, rule-count, image-refusal, rules-refusal-from}
+use Rattle.chain.specs.declared.Registers.{Registers}
 use Rattle.chain.specs.Cells.{cell-note}
-use Rattle.chain.specs.Step.{judge-step, step-by-mode, look, unwind, unwound, clear, cleared, closed, first-look, resumed}
-use Rattle.chain.specs.Chain.{reached, chain, verdict-of, started, start-state}
+use Rattle.chain.specs.Step.{Program-state, judge-step, step-by-mode, look, unwind, unwound, clear, cleared, closed, first-look, resumed}
+use Rattle.chain.specs.Chain.{reached, chain, environment-of, verdict-of, started, start-state}
 use Rattle.chain_theory.proofs.ChainJudges.{registers-at}
+use Rattle.chain_theory.proofs.Stays.{stays}
 use Rattle.interpreter.specs.PlainRun.{run-on, run-step, spent-or}
 use Rattle.grammar.specs.Grammar as Grammar
 use Rattle.builder.specs.declared.Matching.the-variants.{Whole}
@@ -26,7 +31,7 @@ use Rattle.builder.specs.Table.{rule, no-rule, rows, by-state, select, on-byte,
 use Rattle.builder.specs.Image.{symbols-of, built-rules, rules-made, map-made, built, parts}
 use Rattle.worked_examples.specs.Examples.{Row, row, from-grammar, from-image, Row-holds, image-of, source-refusal, row-machine, marker-parts, marker-image}
 use Rattle.worked_examples.specs.HaltingExamples.{telling-image}
-use Rattle.worked_examples.proofs.ChainEnd.{steps-on}
+use Rattle.worked_examples.proofs.ChainEnd.{steps-on, registers-steps}
 use Rattle.worked_examples.proofs.RowLaws.{found, found-by, said, exit-verdict, ran-found, ran-said, chain-last, enough, all-bytes, found-holds}
 use Rattle.refuted.proofs.Witnesses.{Row-judged, row-judged}
 
@@ -72,6 +77,7 @@ nested-row = row (from-grammar Whole nested-grammar) [] Accepted 15 (config 2 1 
 -- THE TESTS, computed
 computed :
     (found empty-row ≡ said empty-row) × (found edge-row ≡ said edge-row) × (found pushing-row ≡ said pushing-row) × (found nested-row ≡ said nested-row)
+    × (verdict-of (steps-on 9 (machine pushing-image []) (environment-of pushing-image []) (registers-at pushing-image [] 0) .state .mode) ≡ none)
 unfolding found said found-by ran-found ran-said chain-last enough all-bytes steps-on image-of source-refusal row-machine marker-parts marker-image telling-image
     start step step-on step-by config-of top how-many number-by config-by note-of sizes-of
     machine number-at little-endian pair-bytes header rule-bytes rules-bytes encode states classes symbols rule-offset rule-from rule-at class-under moved action-by action accepting
@@ -82,7 +88,7 @@ unfolding found said found-by ran-found ran-said chain-last enough all-bytes ste
     cuts-at cut-from cut class-of class-count class-in
     rows by-state select on-byte row-zero class-inside rows-at made
     symbols-of built-rules rules-made map-made parts built
-computed = (refl, refl, refl, refl)
+computed = (refl, refl, refl, refl, refl)
 
 pub empty-holds : Row-holds empty-row
 empty-holds = found-holds empty-row (computed .0)
@@ -92,6 +98,17 @@ edge-holds = found-holds edge-row (computed .1)
 
 pub pushing-holds : Row-holds pushing-row
 pushing-holds = found-holds pushing-row (computed .2)
+
+-- the chain has no verdict of it after 9 steps, nor before
+late : verdict-of (registers-at pushing-image [] 9 .state .mode) ≡ none
+late = ap (λ (x : Program-state Registers). verdict-of (x .state .mode)) (registers-steps pushing-image [] 9) ∙ computed .4
+
+pub pushing-late : (k : ℕ) (v : Verdict) → k ≤ 9 → chain .verdict (reached chain pushing-image [] k .state) ≡ some v → ⊥
+unfolding chain registers-at
+pushing-late k v h e =
+    let nine : k + (9 - k) ≡ 9 = omega arith in
+    let stands : registers-at pushing-image [] 9 ≡ registers-at pushing-image [] k = ap (registers-at pushing-image []) (sym nine) ∙ stays pushing-image [] k v e (9 - k) in
+    not-none _ (ap (λ (x : Program-state Registers). verdict-of (x .state .mode)) stands ∙ e) late
 
 pub nested-holds : Row-holds nested-row
 nested-holds = found-holds nested-row (computed .3)

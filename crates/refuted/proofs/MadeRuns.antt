@@ -3,9 +3,10 @@ use mathlib.Core.Path.{_≡_, refl}
 use mathlib.Core.Bool.{false}
 use mathlib.Core.List.{List, [], _∷_}
 use mathlib.Core.Option.{some}
+use native.Mathlib.Omega.{arith}
 use Rattle.machine.specs.declared.Action.the-variants.{Stop, Pop}
 use Rattle.machine.specs.declared.Reason.the-variants.{Missing}
-use Rattle.machine.specs.Run.{Entry, config, entry, description, start, after, further, only-next, step, step-on, step-by, config-of, top, how-many, number, number-by}
+use Rattle.machine.specs.Run.{Valid-config, Entry, config, entry, description, start, after, further, only-next, step, step-on, step-by, config-of, top, how-many, number, number-by}
 use Rattle.machine.specs.Verdicts.{Ends-at, over-base}
 use Rattle.codec.specs.Numbers.{number-at, little-endian, pair-bytes}
 use Rattle.image.specs.Image.{machine, states, classes, symbols, rule-offset, rule-from, rule-at, class-under, moved, action-by, action, accepting}
@@ -17,7 +18,7 @@ use Rattle.builder.specs.Image.{symbols-of, built-rules, rules-made, map-made, 
 use Rattle.worked_examples.specs.Examples.{image-of, row-machine, marker-parts, marker-image}
 use Rattle.worked_examples.specs.HaltingExamples.{telling-image}
 use Rattle.refuted.proofs.Rows.{c1, c3, c6, c10}
-use Rattle.refuted.proofs.MadeRows.{edge-row}
+use Rattle.refuted.proofs.MadeRows.{empty-row, edge-row}
 
 -- what lies under C6's rule 2, the first and the second time
 abbrev pub under-first : List Entry
@@ -36,10 +37,14 @@ pub record Computed : Type 0 where
   pub c6-second : after 6 (row-machine c6) start ≡ some (over-base (config 1 1 5) 1 under-second)
   pub c6-popped : after 7 (row-machine c6) start ≡ some (description 2 1 under-second)
   pub c10-pops : row-machine c10 .action (config 0 0 0) ≡ Pop 0 false
-  pub c10-number : number (row-machine c10) (config 0 1 0) ≡ 1
+  pub c10-start : number (row-machine c10) (config 0 0 0) ≡ 0
+  pub c10-next : number (row-machine c10) (config 0 1 0) ≡ 1
+  pub c10-valid : Valid-config (row-machine c10) (config 0 1 0)
+  pub empty-stops : row-machine empty-row .action (config 0 0 0) ≡ Stop Missing
   pub edge-number : number (row-machine edge-row) (config 0 1 0) ≡ 1
   pub edge-cells : how-many (row-machine edge-row) ≡ 2
   pub byteless-stops : machine [] [] .action (config 0 0 0) ≡ Stop Missing
+  pub byteless-states : machine [] [] .states ≡ 0
   pub byteless-cells : how-many (machine [] []) ≡ 0
 
 pub computed : Computed
@@ -60,9 +65,13 @@ computed =
       c6-second = refl;
       c6-popped = refl;
       c10-pops = refl;
-      c10-number = refl;
+      c10-start = refl;
+      c10-next = refl;
+      c10-valid = record { state-below = omega arith; head-below = omega arith; symbol-below = omega arith };
+      empty-stops = refl;
       edge-number = refl;
       edge-cells = refl;
       byteless-stops = refl;
+      byteless-states = refl;
       byteless-cells = refl;
     }

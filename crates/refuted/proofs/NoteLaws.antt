@@ -12,10 +12,10 @@ use Rattle.machine.specs.declared.Note.{Note}
 use Rattle.machine.specs.declared.Note.the-variants.{Unseen, Closed}
 use Rattle.machine.specs.declared.Reason.{Reason}
 use Rattle.machine.specs.declared.Termination.the-variants.{Over, Stopped}
-use Rattle.machine.specs.Run.{Machine, Entry, config, start, after, number}
+use Rattle.machine.specs.Run.{Machine, Entry, config, start, after, config-of, number}
 use Rattle.machine.specs.Verdicts.{Entered, over-base, Ends-at, No-end, Terminates-at, note-of, note-cell, Note-right, never, unended, ended}
 use Rattle.machine.specs.Removal.{Note-tells, kept, removed}
-use Rattle.machine.proofs.Runs.{after-zero, config-over, step-stop, step-pop-last}
+use Rattle.machine.proofs.Runs.{after-zero, config-over, step-stop, step-pop-last, terminated-over, terminated-no-more, not-none, some-same}
 use Rattle.machine.proofs.Terminates.{termination-stopped, termination-over, one-termination}
 use Rattle.promises.proofs.Proved.{promises}
 
@@ -69,17 +69,22 @@ module _ (M : Machine) where
       let z : _≡_ {A = ℕ} 0 1 = cc in
       omega arith
 
-  -- WHAT IS ENTERED is not unseen,
+  -- a start configuration that pops is all that the run enters
+  pub pops-at-once : {c : Config} {p : ℕ} {r : Bool} → M .action (config 0 0 0) ≡ Pop p r → Entered M c → config 0 0 0 ≡ c
+  unfolding start
+  pops-at-once {c} h e = go (e .steps) (e .reached)
+    where
+      go : (n : ℕ) → after n M start ≡ some (e .place) → config 0 0 0 ≡ c
+      go zero at-place = sym (config-over (config 0 0 0) 0 []) ∙ ap config-of (some-same (after 0 M start) starts at-place) ∙ e .is
+      go (suc n) at-place =
+          let over = terminated-over M start (step-pop-last M (config 0 0 0) 0 h) in
+          absurd (not-none _ at-place (terminated-no-more M 0 (suc n) start starts over (omega arith)))
+
+  -- WHAT IS ENTERED is not unseen
   pub seen : {c : Config} {x : Note} → Note-right M c x → Entered M c → x ≡ Unseen → ⊥
   seen (never f) e q = f e
   seen (unended e f) g q = let z : _≡_ {A = ℕ} 0 1 = cc in omega arith
   seen (ended e v f) g q = let z : _≡_ {A = ℕ} 0 1 = cc in omega arith
-
-  -- and is closed with its terminator's number, if it has one
-  pub closed-right : {c d : Config} {x : Note} → Note-right M c x → Entered M c → Ends-at M c d → x ≡ Closed (number M d)
-  closed-right (never f) e g = absurd (f e)
-  closed-right (unended e f) g h = absurd (f _ h)
-  closed-right {c} {d} (ended {d = e} g v f) h k = ap (λ (b : Config). Closed (number M b)) (promises .one-end M c e d 0 0 f .1 k)
 
   -- WHAT A NOTE TELLS of an entry is not unseen,
   pub tells-seen : {n i : ℕ} {base : List Entry} {x : Note} → Note-tells M n i base x → x ≡ Unseen → ⊥

@@ -10,7 +10,7 @@ use Rattle.image.specs.Format
 use Rattle.machine.specs.Run.{Machine, Valid-config, Entry, config, start, after, number, how-many}
 use Rattle.codec.specs.Bytes.{Bytes}
 use Rattle.image.specs.Image.{machine}
-use Rattle.machine.specs.Verdicts.{Entered, over-base, Ends-with, Ends-at, No-end, Noted, nonzero, All-entered, note-of, Note-right}
+use Rattle.machine.specs.Verdicts.{Entered, over-base, Ends-at, No-end, Noted, nonzero, All-entered, note-of, Note-right}
 use Rattle.machine.specs.Removal.{Removed, Note-tells}
 use Rattle.machine.specs.Implications.{Noted-by-implication}
 use Rattle.image.specs.Refusals.{Unrefused}
