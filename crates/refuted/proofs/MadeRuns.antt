@@ -1,4 +1,4 @@
--- Runs that refutations ask for, computed: C1's to its terminator, configurations that pop in C3, C6 and C10, one that C6 enters twice, and a byteless image, which stops at once. Assumes nothing.
+-- Runs that refutations ask for, computed: C1's to its terminator, configurations that pop in C3, C6 and C10, one that C6 enters twice, and the image of no bytes, which stops at once. Assumes nothing.
 use mathlib.Core.Path.{_≡_, refl}
 use mathlib.Core.Bool.{false}
 use mathlib.Core.List.{List, [], _∷_}

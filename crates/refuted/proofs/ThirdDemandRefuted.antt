@@ -153,8 +153,7 @@ same-each-time wrong =
     let gone = promises .terminators-of-run M 3 1 c c under-first (computed .c6-first) .0 (pops-itself M c (computed .c6-pops)) in
     on-second (wrong M 3 6 1 1 c c under-first under-second (computed .c6-first) (computed .c6-second) gone)
 
--- THE JUDGE'S OWN STEPS
--- of no notes none is not 0
+-- THE JUDGE'S OWN STEPS. With no note to count there is none
 none-counted : (n : ℕ) (ns : List ℕ) → n ≡ 0 → nonzero n ns ≡ 0
 none-counted n ns e = omega (arith, e, nonzero-most n ns)
 

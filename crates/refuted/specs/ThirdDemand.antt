@@ -93,7 +93,7 @@ Terminators-of-run =
     (M : Machine) (n i : ℕ) (c d : Config) (base : List Entry) → after n M start ≡ some (over-base c i base) →
     (Ends-at M c d → Removed M n i base d) × (Removed M n i base d → Ends-at M d c)
 
--- on the same entries each time
+-- on the same entries each time: those below are the first time's
 abbrev pub Same-each-time : Type 0
 Same-each-time =
     (M : Machine) (n m i j : ℕ) (c d : Config) (base ground : List Entry) → after n M start ≡ some (over-base c i base) →
@@ -120,7 +120,7 @@ Judge-by-chain =
     (bs cs a a-now b b-now : List ℕ) (v : Verdict) (n : ℕ) (d : Config) → Bytes cs → Judge-says bs cs (Answer (judgement v n d)) a a-now b b-now →
     Chain-ends bs cs v n d a-now
 
--- two steps a reading, and one
+-- two steps a reading, not four
 abbrev pub Few-steps : Type 0
 Few-steps =
     (bs cs a a-now b b-now : List ℕ) (v : Verdict) (n : ℕ) (d : Config) → Bytes cs → Judge-says bs cs (Answer (judgement v n d)) a a-now b b-now →
