@@ -2,10 +2,12 @@
 use Rattle.refuted.specs.Refuted.{Refuted}
 use Rattle.refuted.proofs.FirstDemandRefuted as FirstDemand
 use Rattle.refuted.proofs.SecondDemandRefuted as SecondDemand
+use Rattle.refuted.proofs.ThirdDemandRefuted as ThirdDemand
 use Rattle.refuted.proofs.UsersRefuted as Users
 use Rattle.refuted.proofs.TypedRefuted as Typed
 use Rattle.refuted.proofs.BundlesRefuted as Bundles
 use Rattle.refuted.proofs.RecursionRefuted as Recursion
+use Rattle.refuted.proofs.HaltingRefuted as Halting
 use Rattle.refuted.proofs.MatchingRefuted as Matching
 
 pub refuted : Refuted
@@ -58,6 +60,25 @@ refuted =
       longest-there = SecondDemand.longest-there;
       classes-count = SecondDemand.classes-count;
       range-classes = SecondDemand.range-classes;
+      readings-entered = ThirdDemand.readings-entered;
+      one-count = ThirdDemand.one-count;
+      readings-noted = ThirdDemand.readings-noted;
+      few-readings = ThirdDemand.few-readings;
+      entered-numbered = ThirdDemand.entered-numbered;
+      notes-left = ThirdDemand.notes-left;
+      others-zero = ThirdDemand.others-zero;
+      notes-tell = ThirdDemand.notes-tell;
+      notes-of-run = ThirdDemand.notes-of-run;
+      notes-imply = ThirdDemand.notes-imply;
+      one-end = ThirdDemand.one-end;
+      terminators-of-run = ThirdDemand.terminators-of-run;
+      same-each-time = ThirdDemand.same-each-time;
+      chain-judges = ThirdDemand.chain-judges;
+      start-made = ThirdDemand.start-made;
+      number-along = ThirdDemand.number-along;
+      judge-by-chain = ThirdDemand.judge-by-chain;
+      few-steps = ThirdDemand.few-steps;
+      work-cleared = ThirdDemand.work-cleared;
       line-says = Users.line-says;
       input-is = Users.input-is;
       line-whole = Users.line-whole;
@@ -120,6 +141,19 @@ refuted =
       tried-first-endless = Recursion.tried-first-endless;
       recursion-harmless = Recursion.recursion-harmless;
       recursion-examples = Recursion.recursion-examples;
+      halting-right = Halting.halting-right;
+      lookup-apart = Halting.lookup-apart;
+      halted-exact = Halting.halted-exact;
+      stuck-exact = Halting.stuck-exact;
+      halted-like-stuck = Halting.halted-like-stuck;
+      judged-like-stuck = Halting.judged-like-stuck;
+      run-stops = Halting.run-stops;
+      rule-as-before = Halting.rule-as-before;
+      image-as-before = Halting.image-as-before;
+      built-without-halting = Halting.built-without-halting;
+      halting-rows = Halting.halting-rows;
+      halting-runs = Halting.halting-runs;
+      halting-images = Halting.halting-images;
       default-leading = Matching.default-leading;
       leading-accepts = Matching.leading-accepts;
       leading-stuck = Matching.leading-stuck;

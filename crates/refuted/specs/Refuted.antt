@@ -1,10 +1,12 @@
 -- ALL THAT IS REFUTED, one field a promise, under the promise's name. The function `all` has this record as its contract, so that nothing in it can go without a proof.
 use Rattle.refuted.specs.FirstDemand as First
 use Rattle.refuted.specs.SecondDemand as Second
+use Rattle.refuted.specs.ThirdDemand as Third
 use Rattle.refuted.specs.Users as Users
 use Rattle.refuted.specs.Typed as Typed
 use Rattle.refuted.specs.Bundles as Bundles
 use Rattle.refuted.specs.Recursion as Recursion
+use Rattle.refuted.specs.Halting as Halting
 use Rattle.refuted.specs.Matching as Matching
 
 pub record Refuted : Type 0 where
@@ -57,6 +59,26 @@ pub record Refuted : Type 0 where
   pub longest-there : Second.Longest-there → ⊥
   pub classes-count : Second.Classes-count → ⊥
   pub range-classes : Second.Range-classes → ⊥
+  -- the third demand
+  pub readings-entered : Third.Readings-entered → ⊥
+  pub one-count : Third.One-count → ⊥
+  pub readings-noted : Third.Readings-noted → ⊥
+  pub few-readings : Third.Few-readings → ⊥
+  pub entered-numbered : Third.Entered-numbered → ⊥
+  pub notes-left : Third.Notes-left → ⊥
+  pub others-zero : Third.Others-zero → ⊥
+  pub notes-tell : Third.Notes-tell → ⊥
+  pub notes-of-run : Third.Notes-of-run → ⊥
+  pub notes-imply : Third.Notes-imply → ⊥
+  pub one-end : Third.One-end → ⊥
+  pub terminators-of-run : Third.Terminators-of-run → ⊥
+  pub same-each-time : Third.Same-each-time → ⊥
+  pub chain-judges : Third.Chain-judges → ⊥
+  pub start-made : Third.Start-made → ⊥
+  pub number-along : Third.Number-along → ⊥
+  pub judge-by-chain : Third.Judge-by-chain → ⊥
+  pub few-steps : Third.Few-steps → ⊥
+  pub work-cleared : Third.Work-cleared → ⊥
   -- what users get
   pub line-says : Users.Line-says → ⊥
   pub input-is : Users.Input-is → ⊥
@@ -123,6 +145,20 @@ pub record Refuted : Type 0 where
   pub tried-first-endless : Recursion.Tried-first-endless → ⊥
   pub recursion-harmless : Recursion.Recursion-harmless → ⊥
   pub recursion-examples : Recursion.Recursion-examples → ⊥
+  -- a rule that halts on purpose
+  pub halting-right : Halting.Halting-right → ⊥
+  pub lookup-apart : Halting.Lookup-apart → ⊥
+  pub halted-exact : Halting.Halted-exact → ⊥
+  pub stuck-exact : Halting.Stuck-exact → ⊥
+  pub halted-like-stuck : Halting.Halted-like-stuck → ⊥
+  pub judged-like-stuck : Halting.Judged-like-stuck → ⊥
+  pub run-stops : Halting.Run-stops → ⊥
+  pub rule-as-before : Halting.Rule-as-before → ⊥
+  pub image-as-before : Halting.Image-as-before → ⊥
+  pub built-without-halting : Halting.Built-without-halting → ⊥
+  pub halting-rows : Halting.Halting-rows → ⊥
+  pub halting-runs : Halting.Halting-runs → ⊥
+  pub halting-images : Halting.Halting-images → ⊥
   -- leading match by default
   pub default-leading : Matching.Default-leading → ⊥
   pub leading-accepts : Matching.Leading-accepts → ⊥
