@@ -27,7 +27,7 @@ use Rattle.answer.specs.Calls.{judged-line, Built-and-judged, answer-refusal, P
 use Rattle.worked_examples.specs.Examples.{Row, Row-holds, image-of, row-machine, endless-grammar}
 use Rattle.worked_examples.specs.ProgramLine.{endless-input, Program-room}
 use Rattle.promises.proofs.Proved.{promises}
-use Rattle.refuted.proofs.Witnesses.{judged-there}
+use Rattle.refuted.proofs.Witnesses.{row-judged}
 use Rattle.refuted.proofs.Rows.{c5, c5-holds}
 
 -- a right line that is short, written into any out buffer
@@ -91,26 +91,13 @@ pub endless-answering :
 unfolding answer-refusal or-else
 endless-answering x = rw (endless-computed .0, endless-computed .1, endless-computed .2, endless-computed .3)
 
--- judging an example that holds on any cells that are enough answers as its row says
-row-judged-on :
-    (r : Row) → Row-holds r → (a b : List ℕ) → how-many (row-machine r) ≤ length a → how-many (row-machine r) ≤ length b →
-    (x : List ℕ) × (y : List ℕ) × Judge-says (image-of (r .source)) (r .capture) (Answer (judgement (r .verdict) (r .readings) (r .end))) a x b y
-unfolding row-machine
-row-judged-on r h a b p q =
-    let bs : List ℕ = image-of (r .source) in
-    let cs : List ℕ = r .capture in
-    let j = judged-there bs cs a b (h .unrefused) p q in
-    let (same-verdict, same-end) =
-    promises .judge-exact bs cs a (j .a-now) b (j .b-now) (j .verdict) (j .readings) (j .end) (h .unrefused .bytes) (j .says) (r .verdict) (r .end) .0 (h .says) in
-    let entered = promises .readings-entered bs cs a (j .a-now) b (j .b-now) (j .verdict) (j .readings) (j .end) (h .unrefused .bytes) (j .says) in
-    let same-readings = promises .one-count bs cs (j .readings) (r .readings) (h .unrefused) entered (h .entered) in
-    (j .a-now, j .b-now, rw (same-verdict, same-end, ← same-readings) (j .says))
-
 c5-judged-on :
     (a b : List ℕ) → 30 ≤ length a → 30 ≤ length b →
     (x : List ℕ) × (y : List ℕ) × Judge-says (built Whole endless-grammar) [] (Answer (judgement Looping 2 (config 1 1 1))) a x b y
 unfolding row-machine image-of
-c5-judged-on a b p q = row-judged-on c5 c5-holds a b (omega (arith, endless-computed .4)) (omega (arith, endless-computed .4))
+c5-judged-on a b p q =
+    let j = row-judged c5 c5-holds a b (omega (arith, endless-computed .4)) (omega (arith, endless-computed .4)) in
+    (j .notes-now, j .work-now, j .says)
 
 -- so in the program's buffers C5's line is told
 endless-read :

@@ -19,7 +19,7 @@ use Rattle.bundle.specs.Format.{count, pair-place, offset, long, end, capture, 
 use Rattle.bundle.specs.Report.{lines-cells, totals}
 use Rattle.bundle.specs.Calls.{In-order, done, next, Bundle-as, Bundle-says}
 use Rattle.worked_examples.specs.Examples.{image-of, row-machine, marker-parts, marker-image, popping-image}
-use Rattle.refuted.proofs.JudgedOn.{row-judged-on, few-notes-judged}
+use Rattle.refuted.proofs.Witnesses.{row-judged, few-notes-judged}
 use Rattle.refuted.proofs.Rows.{c10, c10-holds}
 
 -- A REFUSED CALL: no image, no bundle
@@ -94,8 +94,8 @@ pub record Reported (l a b : List ℕ) : Type 0 where
 pub reported : (l a b : List ℕ) → 2 ≤ length a → 2 ≤ length b → Reported l a b
 unfolding image-of row-machine
 reported l a b p q =
-    let j = row-judged-on c10 c10-holds a b (rw two-cells p) (rw two-cells q) in
-    record { a-now = j .a-now; b-now = j .b-now; judged = j .says; says = one-says popping-image c10-answer l a (j .a-now) b (j .b-now) popping-good (j .says) }
+    let j = row-judged c10 c10-holds a b (rw two-cells p) (rw two-cells q) in
+    record { a-now = j .notes-now; b-now = j .work-now; judged = j .says; says = one-says popping-image c10-answer l a (j .notes-now) b (j .work-now) popping-good (j .says) }
 
 -- the bundle on no notes: the capture is refused, by 8 at 2
 pub refused-judged : (b : List ℕ) → Judge-says popping-image [] c10-refused [] [] b b

@@ -23,12 +23,8 @@ use Rattle.builder.specs.Image.{built}
 use Rattle.worked_examples.specs.Examples.{row, from-grammar, Row-holds, image-of, row-machine, source-refusal, second-row, grammar-rows, empty-grammar, byte-grammar}
 use Rattle.worked_examples.specs.LeadingExamples.{leading-table}
 use Rattle.promises.proofs.Proved.{promises}
-use Rattle.refuted.proofs.Witnesses.{row-judged}
+use Rattle.refuted.proofs.Witnesses.{row-judged-zeros, same-number}
 use Rattle.refuted.proofs.Rows.{first, others, c1-holds, c2-holds, c4-holds}
-
--- a run has one verdict
-pub same-verdict : {M : Machine} {v w : Verdict} {d e : Config} → Says M v d → Says M w e → verdict-number v ≡ verdict-number w
-same-verdict {M = M} {v = v} {w = w} {d = d} {e = e} s t = ap verdict-number (promises .one-verdict M v w d e s t .0)
 
 pub record Example (how : Matching) (gs cs : List ℕ) (v : Verdict) (n : ℕ) (d : Config) : Type 0 where
   pub good : grammar-refusal gs .number ≡ 0
@@ -46,7 +42,7 @@ example :
     Example how gs cs v n d
 unfolding image-of row-machine source-refusal
 example how gs cs v n d steps h =
-    let j = row-judged (row (from-grammar how gs) cs v n d steps) h in
+    let j = row-judged-zeros (row (from-grammar how gs) cs v n d steps) h in
     record {
       good = h .good;
       unrefused = h .unrefused;
@@ -73,7 +69,7 @@ pub c2-not-all : Parses (expression empty-grammar) (97 ∷ []) 0 0 (some 1) → 
 unfolding verdict-number
 c2-not-all all =
     let (d, accepted) = promises .built-accepts empty-grammar (97 ∷ []) (c2-built .good) (c2-built .unrefused .bytes) .1 all in
-    omega (arith, same-verdict accepted (c2-built .says))
+    omega (arith, same-number accepted (c2-built .says))
 
 -- a byte that fails
 pub c4-built : Example Whole byte-grammar (98 ∷ []) Stuck 3 (config 3 1 0)

@@ -18,7 +18,7 @@ use Rattle.builder.specs.Table.{no-rule}
 use Rattle.worked_examples.specs.Examples.{Row, row, from-image, Row-holds, marker-parts, marker-image}
 use Rattle.worked_examples.specs.HaltingExamples.{halting-image, halting-table}
 use Rattle.promises.proofs.Proved.{promises}
-use Rattle.refuted.proofs.Witnesses.{Row-judged, row-judged}
+use Rattle.refuted.proofs.Witnesses.{Row-judged, row-judged-zeros, zeros}
 use Rattle.refuted.proofs.Rows.{first}
 use Rattle.refuted.proofs.MadeRows.{empty-image}
 
@@ -30,8 +30,8 @@ pub h1-holds : Row-holds h1
 unfolding halting-table
 h1-holds = first (promises .halting-rows)
 
-pub h1-judged : Row-judged h1
-h1-judged = row-judged h1 h1-holds
+pub h1-judged : Row-judged h1 (zeros h1) (zeros h1)
+h1-judged = row-judged-zeros h1 h1-holds
 
 -- MISSING FOR HALTING: the two images differ in one rule. What stands before the rules, and the bytes of the three
 unfoldable front : List ℕ

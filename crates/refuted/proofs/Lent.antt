@@ -17,27 +17,8 @@ use Rattle.simulator.specs.Calls.{judgement, Chain-ends, Judge-says}
 use Rattle.simulator.proofs.LengthsKept.{lengths-kept}
 use Rattle.worked_examples.specs.Examples.{Row, Row-holds, image-of, row-machine}
 use Rattle.promises.proofs.Proved.{promises}
-use Rattle.refuted.proofs.Witnesses.{judged-there}
+use Rattle.refuted.proofs.Witnesses.{Row-judged, row-judged}
 use Rattle.refuted.proofs.Rows.{c10, c10-holds}
-
--- AN EXAMPLE THAT HOLDS, judged on these cells
-pub record Judged-on (r : Row) (a b : List ℕ) : Type 0 where
-  pub notes-now : List ℕ
-  pub work-now : List ℕ
-  pub says :
-      Judge-says (image-of (r .source)) (r .capture) (Answer (judgement (r .verdict) (r .readings) (r .end))) a notes-now b work-now
-
-pub judged-on : (r : Row) (a b : List ℕ) → Row-holds r → how-many (row-machine r) ≤ length a → how-many (row-machine r) ≤ length b → Judged-on r a b
-unfolding row-machine
-judged-on r a b h p q =
-    let bs : List ℕ = image-of (r .source) in
-    let cs : List ℕ = r .capture in
-    let j = judged-there bs cs a b (h .unrefused) p q in
-    let (same-verdict, same-end) =
-    promises .judge-exact bs cs a (j .a-now) b (j .b-now) (j .verdict) (j .readings) (j .end) (h .unrefused .bytes) (j .says) (r .verdict) (r .end) .0 (h .says) in
-    let entered = promises .readings-entered bs cs a (j .a-now) b (j .b-now) (j .verdict) (j .readings) (j .end) (h .unrefused .bytes) (j .says) in
-    let same-readings = promises .one-count bs cs (j .readings) (r .readings) (h .unrefused) entered (h .entered) in
-    record { notes-now = j .a-now; work-now = j .b-now; says = rw (same-verdict, same-end, ← same-readings) (j .says) }
 
 -- ONE CELL MORE than the N of an example, and that one is 1
 unfoldable pub longer : Row → List ℕ
@@ -53,10 +34,10 @@ longer-drop r =
     let n = how-many (row-machine r) in
     drop-at (replicate n 0) (1 ∷ []) n (length-replicate {A = ℕ} n 0)
 
-pub c10-longer : Judged-on c10 (longer c10) (longer c10)
+pub c10-longer : Row-judged c10 (longer c10) (longer c10)
 c10-longer =
     let long = longer-length c10 in
-    judged-on c10 (longer c10) (longer c10) c10-holds (omega (arith, long)) (omega (arith, long))
+    row-judged c10 c10-holds (longer c10) (longer c10) (omega (arith, long)) (omega (arith, long))
 
 -- it is there after judging, and still 1: of the notes, and of the work cells
 pub record One-more (ns : List ℕ) : Type 0 where

@@ -6,7 +6,6 @@ pub mod AnswerCalls
 pub mod GrammarExamples
 pub mod BuiltFacts
 pub mod RunsOff
-pub mod JudgedOn
 pub mod BundleCalls
 pub mod SmallBytes
 pub mod TextCalls

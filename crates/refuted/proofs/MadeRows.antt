@@ -33,7 +33,7 @@ use Rattle.worked_examples.specs.Examples.{Row, row, from-grammar, from-image, 
 use Rattle.worked_examples.specs.HaltingExamples.{telling-image}
 use Rattle.worked_examples.proofs.ChainEnd.{steps-on, registers-steps}
 use Rattle.worked_examples.proofs.RowLaws.{found, found-by, said, exit-verdict, ran-found, ran-said, chain-last, enough, all-bytes, found-holds}
-use Rattle.refuted.proofs.Witnesses.{Row-judged, row-judged}
+use Rattle.refuted.proofs.Witnesses.{Row-judged, row-judged-zeros, zeros}
 
 -- no rule at all
 abbrev pub empty-image : List ℕ
@@ -113,11 +113,11 @@ pushing-late k v h e =
 pub nested-holds : Row-holds nested-row
 nested-holds = found-holds nested-row (computed .3)
 
-pub empty-judged : Row-judged empty-row
-empty-judged = row-judged empty-row empty-holds
+pub empty-judged : Row-judged empty-row (zeros empty-row) (zeros empty-row)
+empty-judged = row-judged-zeros empty-row empty-holds
 
-pub edge-judged : Row-judged edge-row
-edge-judged = row-judged edge-row edge-holds
+pub edge-judged : Row-judged edge-row (zeros edge-row) (zeros edge-row)
+edge-judged = row-judged-zeros edge-row edge-holds
 
-pub pushing-judged : Row-judged pushing-row
-pushing-judged = row-judged pushing-row pushing-holds
+pub pushing-judged : Row-judged pushing-row (zeros pushing-row) (zeros pushing-row)
+pushing-judged = row-judged-zeros pushing-row pushing-holds

@@ -30,7 +30,8 @@ use Rattle.worked_examples.specs.LeadingExamples.{leading-table}
 use Rattle.promises.proofs.Proved.{promises}
 use Rattle.refuted.specs.Matching as Wrong
 use Rattle.refuted.proofs.Rows.{first, others}
-use Rattle.refuted.proofs.GrammarExamples.{same-verdict, c2-built, c2-parses, c2-not-all, c1-leading, c2-leading}
+use Rattle.refuted.proofs.Witnesses.{same-number}
+use Rattle.refuted.proofs.GrammarExamples.{c2-built, c2-parses, c2-not-all, c1-leading, c2-leading}
 use Rattle.refuted.proofs.BuiltFacts.{marker-unruled, leading-built, leading-taken}
 
 pub default-leading : Wrong.Default-leading → ⊥
@@ -47,13 +48,13 @@ unfolding verdict-number
 leading-stuck wrong =
     let none-left : _≡_ {A = Option ℕ} (some 0) (some 1) → ⊥ = λ e. let z : _≡_ {A = ℕ} 0 1 = cc in omega arith in
     let (d, stuck) = wrong empty-grammar (97 ∷ []) (c2-built .good) (c2-built .unrefused .bytes) .1 (some 0, c2-parses, none-left) in
-    omega (arith, same-verdict stuck (c2-leading .says))
+    omega (arith, same-number stuck (c2-leading .says))
 
 pub whole-then-leading : Wrong.Whole-then-leading → ⊥
 unfolding verdict-number
 whole-then-leading wrong =
     let (d, accepted) = wrong empty-grammar (97 ∷ []) (c2-built .good) (c2-built .unrefused .bytes) (_, c2-leading .says) in
-    omega (arith, same-verdict accepted (c2-built .says))
+    omega (arith, same-number accepted (c2-built .says))
 
 pub judged-whole-leading : Wrong.Judged-whole-leading → ⊥
 unfolding verdict-number
@@ -66,7 +67,7 @@ unfolding verdict-number
 whole-as-before wrong =
     let same : built Leading empty-grammar ≡ built Whole empty-grammar = wrong empty-grammar ∙ sym (promises .whole-as-before empty-grammar) in
     let accepted = subst (λ (bs : List ℕ). Says (machine bs (97 ∷ [])) Accepted (config 2 2 0)) same (c2-leading .says) in
-    omega (arith, same-verdict accepted (c2-built .says))
+    omega (arith, same-number accepted (c2-built .says))
 
 -- on the left marker ok has no rule by either choice
 pub leading-one-row : Wrong.Leading-one-row → ⊥
@@ -114,4 +115,4 @@ leading-rows wrong =
     let h = first (rows-from 9 (leading-table Whole) wrong) in
     let one-left : _≡_ {A = Option ℕ} (some 1) (some 2) → ⊥ = λ e. let z : _≡_ {A = ℕ} 1 2 = cc in omega arith in
     let (d, stuck) = promises .built-stuck byte-grammar (97 ∷ 98 ∷ []) (h .good) (h .unrefused .bytes) .1 (some 1, range refl (omega arith) refl, one-left) in
-    omega (arith, same-verdict stuck (h .says))
+    omega (arith, same-number stuck (h .says))

@@ -40,10 +40,8 @@ use Rattle.refuted.proofs.SmallBytes.{total, small-bytes}
 use Rattle.refuted.proofs.BundleCalls.{one-empty, one-says}
 use Rattle.refuted.proofs.TextCalls.{line-of, endless-text, itself-twice, legal-texts, unrefused-texts, grammars-are, endless-read, endless-recursive, text-judged-in-room}
 use Rattle.refuted.proofs.LineCalls.{endless-bytes, endless-parts, endless-room, endless-answers, endless-line}
+use Rattle.refuted.proofs.Witnesses.{clash}
 use Rattle.refuted.proofs.Rows.{first, c1-holds, c5-holds, c5-judged}
-
-clash : _≡_ {A = ℕ} 0 1 → ⊥
-clash z = omega arith
 
 -- WHAT THE CHECK SAYS. A grammar whose rule 1 is refused by 19
 reached-refused : recursion-refusal never-reached ≡ refusal 19 1

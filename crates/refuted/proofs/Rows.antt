@@ -6,7 +6,7 @@ use Rattle.machine.specs.Run.{config}
 use Rattle.builder.specs.declared.Matching.the-variants.{Whole}
 use Rattle.worked_examples.specs.Examples.{Row, row, from-grammar, from-image, Row-holds, Each, cons, table, grammar-rows, second-row, empty-grammar, byte-grammar, endless-grammar, sequence-grammar, not-grammar, choice-grammar, popping-image}
 use Rattle.promises.proofs.Proved.{promises}
-use Rattle.refuted.proofs.Witnesses.{Row-judged, row-judged}
+use Rattle.refuted.proofs.Witnesses.{Row-judged, row-judged-zeros, zeros}
 
 -- the first element of a list of which each holds, and the others
 pub first : {A : Type 0} {P : A → Type 0} {a : A} {rest : List A} → Each P (a ∷ rest) → P a
@@ -107,32 +107,32 @@ c9-holds = first from-c9
 pub c10-holds : Row-holds c10
 c10-holds = first from-c10
 
-pub c1-judged : Row-judged c1
-c1-judged = row-judged c1 c1-holds
+pub c1-judged : Row-judged c1 (zeros c1) (zeros c1)
+c1-judged = row-judged-zeros c1 c1-holds
 
-pub c2-judged : Row-judged c2
-c2-judged = row-judged c2 c2-holds
+pub c2-judged : Row-judged c2 (zeros c2) (zeros c2)
+c2-judged = row-judged-zeros c2 c2-holds
 
-pub c3-judged : Row-judged c3
-c3-judged = row-judged c3 c3-holds
+pub c3-judged : Row-judged c3 (zeros c3) (zeros c3)
+c3-judged = row-judged-zeros c3 c3-holds
 
-pub c4-judged : Row-judged c4
-c4-judged = row-judged c4 c4-holds
+pub c4-judged : Row-judged c4 (zeros c4) (zeros c4)
+c4-judged = row-judged-zeros c4 c4-holds
 
-pub c5-judged : Row-judged c5
-c5-judged = row-judged c5 c5-holds
+pub c5-judged : Row-judged c5 (zeros c5) (zeros c5)
+c5-judged = row-judged-zeros c5 c5-holds
 
-pub c6-judged : Row-judged c6
-c6-judged = row-judged c6 c6-holds
+pub c6-judged : Row-judged c6 (zeros c6) (zeros c6)
+c6-judged = row-judged-zeros c6 c6-holds
 
-pub c7-judged : Row-judged c7
-c7-judged = row-judged c7 c7-holds
+pub c7-judged : Row-judged c7 (zeros c7) (zeros c7)
+c7-judged = row-judged-zeros c7 c7-holds
 
-pub c8-judged : Row-judged c8
-c8-judged = row-judged c8 c8-holds
+pub c8-judged : Row-judged c8 (zeros c8) (zeros c8)
+c8-judged = row-judged-zeros c8 c8-holds
 
-pub c9-judged : Row-judged c9
-c9-judged = row-judged c9 c9-holds
+pub c9-judged : Row-judged c9 (zeros c9) (zeros c9)
+c9-judged = row-judged-zeros c9 c9-holds
 
-pub c10-judged : Row-judged c10
-c10-judged = row-judged c10 c10-holds
+pub c10-judged : Row-judged c10 (zeros c10) (zeros c10)
+c10-judged = row-judged-zeros c10 c10-holds

@@ -29,7 +29,8 @@ use Rattle.worked_examples.specs.HaltingExamples.{halting-table}
 use Rattle.promises.proofs.Proved.{promises}
 use Rattle.refuted.specs.SecondDemand as Wrong
 use Rattle.refuted.proofs.Rows.{first, c10-holds}
-use Rattle.refuted.proofs.GrammarExamples.{same-verdict, c1-built, c2-built, c2-parses, c2-not-all, c4-built, c2-leading}
+use Rattle.refuted.proofs.Witnesses.{same-number}
+use Rattle.refuted.proofs.GrammarExamples.{c1-built, c2-built, c2-parses, c2-not-all, c4-built, c2-leading}
 use Rattle.refuted.proofs.BuiltFacts.{no-rules-refused, doubled-markers, longer-built, longer-judged, c1-ran-fine, c1-ran}
 use Rattle.refuted.proofs.RunsOff.{runs-off, no-verdict}
 
@@ -74,7 +75,7 @@ pub built-accepts : Wrong.Built-accepts → ⊥
 unfolding verdict-number
 built-accepts wrong =
     let (d, accepted) = wrong empty-grammar (97 ∷ []) (c2-built .good) (c2-built .unrefused .bytes) .1 (0, c2-parses) in
-    omega (arith, same-verdict accepted (c2-built .says))
+    omega (arith, same-number accepted (c2-built .says))
 
 -- C4 fails, and is stuck
 pub built-loops : Wrong.Built-loops → ⊥
@@ -82,7 +83,7 @@ unfolding verdict-number expression expression-by kind-of b-of c-of in-range
 built-loops wrong =
     let u = c4-built .unrefused in
     let (d, looping) = wrong Whole byte-grammar (98 ∷ []) (c4-built .good) (u .bytes) (u .short) .1 (range-fails refl refl) in
-    omega (arith, same-verdict looping (c4-built .says))
+    omega (arith, same-number looping (c4-built .says))
 
 -- C2 has a result, but not all is consumed
 pub built-goes-on : Wrong.Built-goes-on → ⊥
@@ -100,7 +101,7 @@ built-stuck wrong =
     let bytes = c2-built .unrefused .bytes in
     let fails = wrong empty-grammar (97 ∷ []) good bytes .0 (_, c2-built .says) in
     let (d, stuck) = promises .leading-stuck empty-grammar (97 ∷ []) good bytes .1 fails in
-    omega (arith, same-verdict stuck (c2-leading .says))
+    omega (arith, same-number stuck (c2-leading .says))
 
 -- C10
 pub built-not-ended : Wrong.Built-not-ended → ⊥

@@ -35,7 +35,7 @@ use Rattle.typed.specs.Calls.{Build-text-says, Judge-text-says, judged}
 use Rattle.typed.specs.declared.left_recursion.TextRecursion.the-variants.{Recursive}
 use Rattle.typed.specs.Recursion.{Text-recursion-says, recursive}
 use Rattle.worked_examples.specs.Examples.{row, from-grammar, Row-holds, image-of, row-machine, source-refusal, empty-grammar, byte-grammar, endless-grammar}
-use Rattle.refuted.proofs.JudgedOn.{row-judged-on}
+use Rattle.refuted.proofs.Witnesses.{row-judged}
 
 -- one line with the name a
 abbrev pub line-of : Tree → List Definition
@@ -143,10 +143,10 @@ pub text-judged :
     Text-judged text cs v n d x
 unfolding image-of row-machine source-refusal
 text-judged text gs cs v n d s x reads holds m a b =
-    let j = row-judged-on (row (from-grammar Whole gs) cs v n d s) holds (x .notes) (x .work) a b in
-    let fine = answered-fine (built Whole gs) cs (x .notes) (j .a-now) (x .work) (j .b-now) v n d (j .says) in
+    let j = row-judged (row (from-grammar Whole gs) cs v n d s) holds (x .notes) (x .work) a b in
+    let fine = answered-fine (built Whole gs) cs (x .notes) (j .notes-now) (x .work) (j .work-now) v n d (j .says) in
     record {
-      after = lent (built Whole gs ++ drop (built-length gs) (x .image)) (j .a-now) (j .b-now);
+      after = lent (built Whole gs ++ drop (built-length gs) (x .image)) (j .notes-now) (j .work-now);
       says = judged reads (lent-fine gs cs x (holds .good) m fine) refl (j .says);
     }
 

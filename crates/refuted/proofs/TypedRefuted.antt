@@ -45,12 +45,9 @@ use Rattle.typed.specs.Calls.{Build-text-says, Judge-text-says, room-refused, J
 use Rattle.worked_examples.specs.Examples.{image-of, row-machine, source-refusal, empty-grammar}
 use Rattle.promises.proofs.Proved.{promises}
 use Rattle.refuted.specs.Typed as Wrong
-use Rattle.refuted.proofs.JudgedOn.{few-notes-judged}
+use Rattle.refuted.proofs.Witnesses.{few-notes-judged, same-number, clash}
 use Rattle.refuted.proofs.TextCalls.{line-of, empty-text, byte-text, undefined-text, not-there, legal-texts, unrefused-texts, grammars-are, empty-read, room, room-enough, text-judged-in-room, build-fine, text-built, no-room}
 use Rattle.refuted.proofs.Rows.{c1-holds, c2-holds, c4-holds}
-
-clash : _≡_ {A = ℕ} 0 1 → ⊥
-clash z = omega arith
 
 -- READING. a=empty; has no fault, and no text one at its end
 faults : (fault empty-text ≡ no-refusal) × (fault [] ≡ refusal 15 0)
@@ -180,10 +177,6 @@ judge-text-independent wrong =
     let bad : Answer (judgement Accepted 3 (config 2 1 0)) ≡ Unjudged (lent-refusal empty-grammar [] z) =
     wrong empty-text [] x (j .after) z z _ _ refl refl (j .says) (Judge-text-says.refused empty-read refused) .0 in
     clash cc
-
--- VERDICTS: C2 is stuck, though a leading part is consumed
-same-number : {M : Machine} {v w : Verdict} {c d : Config} → Says M v c → Says M w d → verdict-number v ≡ verdict-number w
-same-number {M} {v} {w} p q = ap verdict-number (promises .one-verdict M v w _ _ p q .0)
 
 pub typed-accepts : Wrong.Typed-accepts → ⊥
 unfolding image-of row-machine verdict-number
