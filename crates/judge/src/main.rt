@@ -32,7 +32,8 @@ fn main() {
     let mut notes = [0u32; 16384];
     let mut work = [0u32; 16384];
     let mut line = [0u8; 64];
-    let count = read_whole(&mut input, b"judge: standard input cannot be read");
+    let read = read_whole(&mut input, b"judge: standard input cannot be read");
+    let count = read.count;
     let long = line_of(&input, count, &mut image, &mut notes, &mut work, &mut line);
     let stop = write_on(&line[..long]);
     if cut_short(stop, long) {

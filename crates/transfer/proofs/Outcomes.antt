@@ -13,8 +13,9 @@ use mir.Val.{toZ, ofZ, SFits}
 use mir.ValLaws.{toZ-ofZ}
 use Rattle.libc.specs.Io.{Moved}
 use Rattle.transfer.specs.declared.Outcome.{Outcome}
+use Rattle.transfer.specs.declared.Stop.{Stop}
 use Rattle.transfer.specs.declared.Outcome.the-variants.{Bytes, Nothing, Interrupted, Failed}
-use Rattle.transfer.specs.Transfers.{failure-of, outcome-of, has-failed, whole-of, Within, Stopped}
+use Rattle.transfer.specs.Transfers.{failure-of, outcome-of, has-failed, whole-of, Within, Stopped, Whole-input}
 
 -- errno is 4 where its bits are
 pub is-interrupted : (e : ℤ) → SFits w32 e → ofZ w32 e ≡ 4 → Interrupted ≡ failure-of e
@@ -100,8 +101,14 @@ all-read Interrupted count h = absurd (let z : _≡_ {A = ℕ} 0 1 = cc in omega
 all-read Failed count h = absurd (let z : _≡_ {A = ℕ} 0 1 = cc in omega arith)
 
 -- what counts as an input lies within the buffer
-pub whole-within : (o : Outcome) (count long : ℕ) → Stopped o count long → whole-of o count ≤ long
+whole-within : (o : Outcome) (count long : ℕ) → Stopped o count long → whole-of o count ≤ long
 whole-within (Bytes n) count long s = stops-within (Bytes n) count long s
 whole-within Nothing count long s = stops-within Nothing count long s
 whole-within Interrupted count long s = omega arith
 whole-within Failed count long s = omega arith
+
+pub whole-input :
+    {stop : Stop} {n long : ℕ} → Stopped (stop .last) (stop .count) long → n ≡ whole-of (stop .last) (stop .count) →
+    Whole-input (record { count = n; stop = stop }) long
+whole-input {stop} {n} {long} s e =
+    record { stopped = s; whole = e; within = subst⁻¹ (λ (m : ℕ). m ≤ long) e (whole-within (stop .last) (stop .count) long s) }

@@ -5,6 +5,7 @@ use mathlib.Core.Bool.{Bool, true, false, cond}
 use lib.Dec.{eqb}
 use lib.IntN.{ℤ, pos, negsuc}
 use Rattle.transfer.specs.declared.Outcome.{Outcome}
+use Rattle.transfer.specs.declared.Input.{Input}
 use Rattle.transfer.specs.declared.Outcome.the-variants.{Bytes, Nothing, Interrupted, Failed}
 
 -- errno's number for a call that a signal interrupted is 4; every other error is a failure
@@ -45,3 +46,9 @@ whole-of (Bytes n) count = count
 whole-of Nothing count = count
 whole-of Interrupted count = 0
 whole-of Failed count = 0
+
+-- WHAT READING AN INPUT ANSWERS: the bytes that count as one, by how reading stopped, and within the buffer
+pub record Whole-input (r : Input) (long : ℕ) : Type 0 where
+  pub stopped : Stopped (r .stop .last) (r .stop .count) long
+  pub whole : r .count ≡ whole-of (r .stop .last) (r .stop .count)
+  pub within : r .count ≤ long

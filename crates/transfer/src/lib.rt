@@ -8,7 +8,7 @@ ghost use lib.Dec.{ltb};
 ghost use lib.ListN.{length, take};
 ghost use lib.IntN.{pos};
 ghost use lib.Signed.{_≤ℤ_};
-ghost use Rattle.transfer.specs.Transfers.{outcome-of, failure-of, has-failed, whole-of, Within, Stopped};
+ghost use Rattle.transfer.specs.Transfers.{outcome-of, failure-of, has-failed, whole-of, Within, Stopped, Whole-input};
 
 // How often interrupted calls are made again, in all: so the loops are known to end. After that an interruption is a failure.
 const MOST_TRIES: u32 = 1000000;
@@ -25,6 +25,12 @@ pub enum Outcome {
 pub struct Stop {
     pub count: usize,
     pub last: Outcome,
+}
+
+// How many bytes are an input, and how reading stopped.
+pub struct Input {
+    pub count: usize,
+    pub stop: Stop,
 }
 
 // Why a call failed: error is errno just after it.
@@ -121,11 +127,12 @@ fn whole(stop: Stop, complaint: &[u8]) -> usize
 }
 
 // Reads the whole of standard input, and answers how long it is: 0, as for an empty input, where a read failed.
-pub fn read_whole(input: &mut [u8], complaint: &[u8]) -> usize
-    ensures { λ r. ⌜ r ≤ length (now (input .exit)) ⌝ }
+pub fn read_whole(input: &mut [u8], complaint: &[u8]) -> Input
+    ensures { λ r. ⌜ Whole-input r (length (now (input .exit))) ⌝ }
 {
     let stop = read_on(input);
-    whole(stop, complaint)
+    let count = whole(stop, complaint);
+    Input { count, stop }
 }
 
 // One write of the part of the line that is not written yet.

@@ -1,9 +1,6 @@
 -- `transfer::read_whole` meets its contract: what counts as an input was read. Assumes nothing.
-use mathlib.Core.Path.{subst⁻¹}
-use Prim.Native.Nat.{ℕ, _≤_}
-use lib.ListN.{length}
 use borrow.Author.Needs.{needs}
-use Rattle.transfer.proofs.Outcomes.{whole-within}
+use Rattle.transfer.proofs.Outcomes.{whole-input}
 use Rattle.transfer.proofs.read_whole.Statement.{statement}
 use Rattle.transfer.proofs.read_whole.Tie as tie
 
@@ -17,9 +14,7 @@ same-length : tie.Need-same-length
 same-length c = search needs
 
 returns : tie.Need-returns
-returns c =
-    let on = c .before .before .before .read-on in
-    subst⁻¹ (λ (n : ℕ). n ≤ length (on .last .0)) (c .whole .ensures) (whole-within (on .result .last) (on .result .count) (length (on .last .0)) (on .ensures))
+returns c = let on = c .before .before .before .read-on in whole-input (on .ensures) (c .whole .ensures)
 
 pub read-whole-spec : {M : Type 1} → statement M
 read-whole-spec = tie.close (tie.spec read-on-requires whole-requires same-length returns)
