@@ -36,6 +36,8 @@ use Rattle.reader.specs.Calls.{Read-tells}
 use Rattle.grammar_judge.specs.Calls.{Lent, lent-refusal, Same-room, Same-cells}
 use Rattle.typed.specs.Calls.{Build-text-says, Judge-text-says, Build-text-refused, Judge-text-refused}
 use Rattle.typed.specs.TypedCalls.{Typed-grammar, Typed-gets, Enough-lent}
+use Rattle.worked_examples.specs.Examples.{Each}
+use Rattle.worked_examples.specs.TextExamples.{Read-so, read-table, refused-table}
 
 -- THE COMPUTED FAULT IS THE EARLIEST ONE, and there is none exactly in a legal text
 abbrev pub Faults-right : Type 0
@@ -136,3 +138,7 @@ Typed-loops =
 -- THE CALL `judge_text`, with a text that is read, a capture of bytes that is not too long, and enough room: the answer is what the typed grammar says, with few readings
 abbrev pub Typed-judged : Type 0
 Typed-judged = (text cs : List ℕ) (r : Judged) (x y : Lent) → Enough-lent text cs x → Judge-text-says text cs r x y → Typed-gets text cs r
+
+-- WORKED EXAMPLES, computed: texts with their grammars, and texts with their refusals
+abbrev pub Text-examples : Type 0
+Text-examples = Each Read-so read-table × Each Read-so refused-table
