@@ -2,10 +2,9 @@
 use mathlib.Core.Path.{_≡_, refl, sym, ap, subst, _∙_}
 use mathlib.Core.Bool.{Bool, true, false}
 use mathlib.Core.Logic.{_↔_}
-use mathlib.Core.Option.{Option, some}
-use Prim.Native.Nat.{ℕ, _≤_}
+use mathlib.Core.Option.{some}
+use Prim.Native.Nat.{ℕ}
 use native.Mathlib.Omega.{arith}
-use lib.ListN.{length}
 use Rattle.machine.specs.declared.Config.{Config}
 use Rattle.machine.specs.declared.Reason.{Reason}
 use Rattle.machine.specs.declared.Reason.the-variants.{Missing, Halting}
@@ -14,7 +13,7 @@ use Rattle.machine.specs.declared.Termination.the-variants.{Over, Stoppe
 use Rattle.machine.specs.declared.Verdict.{Verdict}
 use Rattle.machine.specs.declared.Verdict.the-variants.{Accepted, Ended, Stuck, Looping, Halted}
 use Rattle.machine.specs.Terminating.{stop-verdict, termination-verdict}
-use Rattle.machine.specs.Run.{Machine, Description, Outcome, stopped, over, next, step, start, termination, after, config-of}
+use Rattle.machine.specs.Run.{Machine, Outcome, stopped, over, next, step, termination}
 use Rattle.machine.specs.Verdicts.{Terminates-at, Goes-on, Again, First-again, Says, terminates, loops}
 use Rattle.machine.specs.VerdictRows.{Comes-to, depth-at, config-at, Comes-again, First-to-come-again, Says-by-row}
 use Rattle.machine.proofs.Terminates.{termination-stopped, termination-over, stopped-from}

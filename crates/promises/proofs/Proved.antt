@@ -63,7 +63,7 @@ use Rattle.worked_examples.proofs.ExamplesHold.{examples-hold, c1-image, c1-cel
 use Rattle.worked_examples.proofs.ProgramPrints.{endless-printed}
 use Rattle.worked_examples.proofs.BundlesHold.{bundle-examples, capture-example, totals-example, cells-example}
 use Rattle.worked_examples.proofs.RecursionHolds.{recursion-examples}
-use Rattle.worked_examples.proofs.TextsHold.{read-examples, refused-examples}
+use Rattle.worked_examples.proofs.TextsHold.{text-examples}
 use Rattle.grammar.specs.Grammar.{rules, expression}
 use Rattle.grammar.proofs.GrammarGood.{good-grammar}
 use Rattle.recursion.proofs.NothingLeast.{nothing-exact, nothing-least}
@@ -180,7 +180,7 @@ promises =
       typed-stuck = typed-stuck;
       typed-loops = typed-loops;
       typed-judged = typed-judged;
-      text-examples = (read-examples, refused-examples);
+      text-examples = text-examples;
       bundle-refused = bundle-answer;
       bundle-call-refused = call-answer;
       bundle-refuses = bundle-refuses;

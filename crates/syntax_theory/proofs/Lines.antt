@@ -4,12 +4,11 @@ use mathlib.Core.List.{List, [], _∷_, _++_}
 use Prim.Native.Nat.{ℕ, suc, _+_, _≤_}
 use native.Mathlib.Omega.{arith}
 use lib.ListN.{length}
-use Rattle.grammar.specs.declared.Expression.the-variants.{Sequence, Empty}
 use Rattle.grammar.specs.Parsing.{Rules}
 use Rattle.syntax.specs.declared.Node.{Node}
 use Rattle.syntax.specs.Trees.{Tree, Definition, names, Defines}
 use Rattle.syntax.specs.Compile.{compile, top-rule, top-helpers, line-rule, line-helpers, named-from, helpers-from}
-use Rattle.syntax_theory.specs.RuleOf.{Rule-of, Line-rules, own-line, bare-line, Lines-from}
+use Rattle.syntax_theory.specs.RuleOf.{Line-rules, own-line, bare-line, Lines-from}
 use Rattle.syntax_theory.proofs.Numbering.{Each, an-element, no-element, Holds, holds-first, holds-rest, holds-front, holds-after, Block, block-none, block-one, block-wider, block-append}
 use Rattle.syntax_theory.proofs.Named.{Closed, Closed-line}
 use Rattle.syntax_theory.proofs.Standing.{Stands, by-number, by-operator, by-repetition, ends, over-two, compiled-stands}

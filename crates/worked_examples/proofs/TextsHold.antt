@@ -12,7 +12,7 @@ use Rattle.syntax.specs.declared.Prefix.the-variants.{NotPredicate}
 use Rattle.syntax.specs.declared.Sign.the-variants.{Operand, Before, Opening, Closing, Equals, Semicolon}
 use Rattle.syntax.specs.Tokens as Tokens
 use Rattle.syntax.specs.Tokens.{Token, name, sign}
-use Rattle.syntax.specs.Trees.{Tree, leaf, prefixed, sequence, Definition, choices, parts, prefixes, operand, Derives, Reads, Legal, max-depth, Legal-text}
+use Rattle.syntax.specs.Trees.{Tree, leaf, prefixed, sequence, Definition, choices, parts, operand, Derives, Reads, Legal, max-depth, Legal-text}
 use Rattle.syntax.specs.Faults as Faults
 use Rattle.syntax.specs.Needs as Needs
 use Rattle.syntax.specs.Compile as Compile
@@ -90,34 +90,35 @@ four-dots :
     Derives parts d (any ∷ any ∷ any ∷ any ∷ ts) (sequence (leaf AnyByte) (sequence (leaf AnyByte) (sequence (leaf AnyByte) (sequence (leaf AnyByte) e)))) us
 four-dots x = dot (dot (dot (dot x)))
 
-pub read-examples : Each Read-so read-table
-unfolding Read-so read-table bytes-of Tokens.lexemes Tokens.lexemes-from Tokens.tokens Tokens.skipped Tokens.token-at Tokens.letter Tokens.word Tokens.same Tokens.letters Tokens.width-at Tokens.range-there Tokens.sign-of
-    Faults.fault Faults.first-wrong Faults.next Faults.to-if Faults.not-in Faults.is-equals Faults.by-sign Faults.defined-after Faults.name-of Faults.at-end
-    Needs.later-refusal Needs.needs Needs.line-need Needs.need Needs.prefix-need Faults.first-undefined Faults.undefined-in or-else refuse-if
-    Compile.grammar-of Compile.all-rules Compile.named-from Compile.helpers-from Compile.line-rule Compile.line-helpers Compile.top-rule Compile.top-helpers Compile.compile Compile.compile-leaf Compile.place Compile.own-rules Compile.own-number Compile.index-of Compile.encode Compile.rule-bytes any-bytes chained
-read-examples =
-    cons (answered _ (lines _ (one-line (alone Derives.a-range)) _ refl refl))
-    (cons (answered _ (lines _ (one-line (alone Derives.a-range)) _ refl refl))
-    (cons (answered _ (lines _ (one-line (alone Derives.a-range)) _ refl refl))
-    (cons (answered _ (lines _ (one-line (alone Derives.a-leaf)) _ refl refl))
-    (cons (answered _ (lines _ (two-lines (alone Derives.a-name) (alone Derives.a-leaf) apart) _ refl refl))
-    (cons (answered _ (lines _ (one-line (alone (four-brackets (four-brackets (four-brackets (four-brackets Derives.a-leaf)))))) _ refl refl))
-    (cons (answered _ (lines _ (one-line (Derives.last-choice (four-dots (four-dots (four-dots (dot (dot (dot last-dot)))))))) _ refl refl)) nil))))))
-
-pub refused-examples : Each Read-so refused-table
-unfolding Read-so refused-table bytes-of Tokens.lexemes Tokens.lexemes-from Tokens.tokens Tokens.skipped Tokens.token-at Tokens.letter Tokens.word Tokens.same Tokens.letters Tokens.width-at Tokens.range-there Tokens.sign-of
-    Faults.fault Faults.first-wrong Faults.next Faults.to-if Faults.not-in Faults.is-equals Faults.by-sign Faults.defined-after Faults.name-of Faults.at-end
-    Needs.later-refusal Needs.needs Needs.line-need Needs.need Needs.prefix-need Faults.first-undefined Faults.undefined-in or-else refuse-if
-refused-examples =
-    cons (answered _ (faulty _ 14 0 refl))
-    (cons (answered _ (faulty _ 14 2 refl))
-    (cons (answered _ (faulty _ 14 2 refl))
-    (cons (answered _ (faulty _ 14 0 refl))
-    (cons (answered _ (faulty _ 14 0 refl))
-    (cons (answered _ (faulty _ 14 4 refl))
-    (cons (answered _ (faulty _ 14 3 refl))
-    (cons (answered _ (faulty _ 14 4 refl))
-    (cons (answered _ (later _ (one-line (alone Derives.a-name)) 14 2 refl))
-    (cons (answered _ (faulty _ 14 5 refl))
-    (cons (answered _ (faulty _ 16 18 refl))
-    (cons (answered _ (later _ (one-line (Derives.last-choice (not-dot (four-dots (four-dots (four-dots (dot (dot last-dot)))))))) 15 20 refl)) nil)))))))))))
+-- THE TABLES
+pub text-examples : Each Read-so read-table × Each Read-so refused-table
+unfolding Read-so read-table refused-table bytes-of any-bytes chained or-else refuse-if
+    Tokens.lexemes Tokens.lexemes-from Tokens.tokens Tokens.skipped Tokens.token-at Tokens.letter Tokens.word Tokens.same Tokens.letters
+    Tokens.width-at Tokens.range-there Tokens.sign-of
+    Faults.fault Faults.first-wrong Faults.next Faults.to-if Faults.not-in Faults.is-equals Faults.by-sign Faults.defined-after Faults.name-of
+    Faults.at-end Faults.first-undefined Faults.undefined-in
+    Needs.later-refusal Needs.needs Needs.line-need Needs.need Needs.prefix-need
+    Compile.grammar-of Compile.all-rules Compile.named-from Compile.helpers-from Compile.line-rule Compile.line-helpers Compile.top-rule
+    Compile.top-helpers Compile.compile Compile.compile-leaf Compile.place Compile.own-rules Compile.own-number Compile.index-of Compile.encode
+    Compile.rule-bytes
+text-examples = (
+  cons (answered _ (lines _ (one-line (alone Derives.a-range)) _ refl refl))
+      (cons (answered _ (lines _ (one-line (alone Derives.a-range)) _ refl refl))
+      (cons (answered _ (lines _ (one-line (alone Derives.a-range)) _ refl refl))
+      (cons (answered _ (lines _ (one-line (alone Derives.a-leaf)) _ refl refl))
+      (cons (answered _ (lines _ (two-lines (alone Derives.a-name) (alone Derives.a-leaf) apart) _ refl refl))
+      (cons (answered _ (lines _ (one-line (alone (four-brackets (four-brackets (four-brackets (four-brackets Derives.a-leaf)))))) _ refl refl))
+      (cons (answered _ (lines _ (one-line (Derives.last-choice (four-dots (four-dots (four-dots (dot (dot (dot last-dot)))))))) _ refl refl)) nil)))))),
+  cons (answered _ (faulty _ 14 0 refl))
+      (cons (answered _ (faulty _ 14 2 refl))
+      (cons (answered _ (faulty _ 14 2 refl))
+      (cons (answered _ (faulty _ 14 0 refl))
+      (cons (answered _ (faulty _ 14 0 refl))
+      (cons (answered _ (faulty _ 14 4 refl))
+      (cons (answered _ (faulty _ 14 3 refl))
+      (cons (answered _ (faulty _ 14 4 refl))
+      (cons (answered _ (later _ (one-line (alone Derives.a-name)) 14 2 refl))
+      (cons (answered _ (faulty _ 14 5 refl))
+      (cons (answered _ (faulty _ 16 18 refl))
+      (cons (answered _ (later _ (one-line (Derives.last-choice (not-dot (four-dots (four-dots (four-dots (dot (dot last-dot)))))))) 15 20 refl)) nil))))))))))),
+)
