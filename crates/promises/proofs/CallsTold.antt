@@ -2,6 +2,7 @@
 use mathlib.Core.Path.{_≡_, refl, sym, ap, _∙_}
 use mathlib.Core.Bool.{Bool, true, false, cond}
 use mathlib.Core.List.{List, _∷_}
+use mathlib.Core.Logic.{_↔_}
 use Prim.Native.Nat.{ℕ}
 use native.Mathlib.Omega.{arith}
 use lib.Dec.{eqb}
@@ -18,6 +19,7 @@ use Rattle.builder.specs.declared.Matching.the-variants.{Whole}
 use Rattle.builder.specs.declared.Built.{Built}
 use Rattle.builder.specs.Replies.{of-built}
 use Rattle.syntax.specs.Reading.{Grammar, Read-says}
+use Rattle.syntax.proofs.ReadingExact.{unambiguous}
 use Rattle.reader.specs.declared.ReadGrammar.{ReadGrammar}
 use Rattle.grammar_judge.specs.Calls.{Lent}
 use Rattle.grammar_judge.specs.TwoCalls.{As-parsed}
@@ -25,23 +27,37 @@ use Rattle.typed.specs.Calls.{Build-text-says, read, Judge-text-says, refused, 
 use Rattle.typed.specs.Replies.{of-read}
 use Rattle.typed.specs.TypedCalls.{Text-says}
 use Rattle.typed.proofs.ReadRight.{lines-read, lines-right, grammar-read, read-fits, text-number}
-use Rattle.typed.proofs.TypedJudged.{typed-as}
+use Rattle.typed.proofs.TypedJudged.{typed-as, parsed-as}
 use Rattle.sejimakpu.specs.Cells.{cells, Reply-written}
 use Rattle.sejimakpu.specs.Calls.{Build-tells, Read-grammar-tells}
 use Rattle.promises.specs.Typed.{Read-right}
 use Rattle.promises.specs.Calls.{Typed-told, Built-text-told, Text-told}
-use Rattle.promises.proofs.MatchingTold.{built-there, some-verdict, verdict-parsed, told-parsed}
+use Rattle.promises.proofs.MatchingTold.{built-there, refused-says, verdict-parsed, told-by, told-parsed}
 
 pub read-right : Read-right
 read-right text r t z =
     let l = lines-read (grammar-read text r t z .says) in
     (l .first ∷ l .rest, l .legal, lines-right l)
 
--- what parsing says of the grammar that was read, its text says
+-- WHAT A TEXT SAYS is what parsing says of the grammar that was read
 text-says : {how : Matching} {text gs cs : List ℕ} {v : Verdict} → Read-says text (Grammar gs) → As-parsed how gs cs v → Text-says how text cs v
 text-says {how} {cs = cs} {v} s p =
     let l = lines-read s in
     record { first = l .first; rest = l .rest; legal = l .legal; meant = typed-as (lines-right l) cs how v p }
+
+text-parsed : {how : Matching} {text gs cs : List ℕ} {v : Verdict} → Read-says text (Grammar gs) → Text-says how text cs v → As-parsed how gs cs v
+text-parsed {how} {cs = cs} {v} s t =
+    let l = lines-read s in
+    let same : t .first ∷ t .rest ≡ l .first ∷ l .rest = unambiguous _ _ _ _ (t .legal .reads) (l .legal .reads) in
+    let first : t .first ≡ l .first = cc in
+    let rest : t .rest ≡ l .rest = cc in
+    parsed-as (lines-right l) cs how v (rw (sym first, sym rest) (t .meant))
+
+by-text :
+    {how : Matching} {text gs cs : List ℕ} {v : Verdict} {A B : Type 0} → Read-says text (Grammar gs) → A ↔ (B × As-parsed how gs cs v) →
+    A ↔ (B × Text-says how text cs v)
+by-text s exact =
+    (λ a. let (b, p) = exact .0 a in (b, text-says s p), λ (b, t). exact .1 (b, text-parsed s t))
 
 -- A CALL OF READING THAT RETURNS 0 has read the grammar, and counts its bytes
 module _ (r : ReadGrammar) where
@@ -74,9 +90,8 @@ read-there {text} {grammar} {grammar-now} {answer} t =
     rw front (grammar-read text r (t .says) z .says)
 
 pub typed-told : Typed-told
-typed-told how text grammar grammar-now image image-now capture notes notes-now work work-now returned answered counted answer v bytes reads builds judges is =
-    let (none, parsed) = told-parsed v bytes (built-there builds) judges is in
-    (none, text-says (read-there reads) parsed)
+typed-told how text grammar grammar-now image image-now capture notes notes-now work work-now returned answered counted answer v bytes reads builds judges =
+    by-text (read-there reads) (told-parsed v bytes (built-there builds) judges)
 
 -- BUILDING FROM A TEXT that returns 0 has read it, and has built the image of its grammar
 record Text-built (text image image-now : List ℕ) (counted : List ℕ) : Type 0 where
@@ -92,25 +107,20 @@ text-built (Build-text-says.unread s) w = absurd (omega (arith, text-number s, w
 text-built {r = r} (read {gs = gs} s b) w = record { grammar = gs; reads = s; builds = record { built = r; says = b; tells = w } }
 
 pub built-text-told : Built-text-told
-built-text-told text image image-now capture notes notes-now work work-now returned counted answer v bytes t judges is =
+built-text-told text image image-now capture notes notes-now work work-now returned counted answer v bytes t judges =
     let b = text-built (t .says) (t .tells) in
-    let (none, parsed) = told-parsed v bytes (built-there (b .builds)) judges is in
-    (none, text-says (b .reads) parsed)
+    by-text (b .reads) (told-parsed v bytes (built-there (b .builds)) judges)
 
 -- JUDGING BY A TEXT
 text-verdict :
-    {text cs : List ℕ} {r : Judged} {x y : Lent} (v : Verdict) → Bytes cs → Judge-text-says text cs r x y → of-judged r .verdict ≡ verdict-number v →
-    (of-judged r .refusal ≡ 0) × Text-says Whole text cs v
+    {text cs : List ℕ} {r : Judged} {x y : Lent} (v : Verdict) → Bytes cs → Judge-text-says text cs r x y →
+    (of-judged r .verdict ≡ verdict-number v) ↔ ((of-judged r .refusal ≡ 0) × Text-says Whole text cs v)
 unfolding of-judged
-text-verdict v bytes (Judge-text-says.unread s) e = absurd (some-verdict v e)
-text-verdict v bytes (refused s h) e = absurd (some-verdict v e)
-text-verdict {cs = cs} {r} {x} {y} v bytes (judged {gs = gs} s fine image judges) e =
+text-verdict v bytes (Judge-text-says.unread s) = refused-says v (λ z. omega (arith, text-number s, z))
+text-verdict v bytes (refused s h) = refused-says v h
+text-verdict {cs = cs} {r} {x} {y} v bytes (judged {gs = gs} s fine image judges) =
     let good = lines-right (lines-read s) .good in
-    let (none, parsed) = verdict-parsed Whole gs cs (x .notes) (y .notes) (x .work) (y .work) r v good bytes judges e in
-    (none, text-says s parsed)
+    by-text s (verdict-parsed Whole gs cs (x .notes) (y .notes) (x .work) (y .work) r v good bytes judges)
 
 pub text-told : Text-told
-unfolding cells
-text-told text capture x y returned answer v bytes t is =
-    let (none, says) = text-verdict v bytes (t .says) (ap (λ (l : List ℕ). getD l 1 0) (sym (t .tells .written)) ∙ is) in
-    (t .tells .number ∙ none, says)
+text-told text capture x y returned answer v bytes t = told-by (t .tells) (text-verdict v bytes (t .says))

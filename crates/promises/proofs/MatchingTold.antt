@@ -2,6 +2,7 @@
 use mathlib.Core.Path.{_≡_, refl, sym, ap, subst, _∙_}
 use mathlib.Core.Bool.{cond}
 use mathlib.Core.List.{List}
+use mathlib.Core.Logic.{_↔_}
 use Prim.Native.Nat.{ℕ}
 use native.Mathlib.Decide.{ℕ-discrete}
 use native.Mathlib.Omega.{arith}
@@ -9,14 +10,15 @@ use lib.Dec.{eqb}
 use lib.ListN.{length, getD, take, drop}
 use lib.Seq.{take-at}
 use Rattle.codec.specs.Bytes.{Bytes}
+use Rattle.refusal.specs.declared.Refusal.{Refusal}
+use Rattle.machine.specs.declared.Reply.{Reply}
 use Rattle.machine.specs.declared.Verdict.{Verdict}
 use Rattle.machine.specs.declared.Verdict.the-variants.{Accepted, Ended, Stuck, Looping, Halted}
 use Rattle.machine.specs.Replies.{verdict-number}
 use Rattle.simulator.specs.declared.Judged.{Judged}
-use Rattle.simulator.specs.declared.Judged.the-variants.{Answer, Refused}
-use Rattle.simulator.specs.Calls.{Judge-says}
+use Rattle.simulator.specs.Calls.{judge-refusal, Judge-says}
 use Rattle.simulator.specs.Replies.{of-judged}
-use Rattle.simulator.proofs.Answered.{judged-right, answered-fine}
+use Rattle.simulator.proofs.Answered.{judged-refused, judged-right}
 use Rattle.simulator.proofs.JudgingRight.{verdict-exact}
 use Rattle.grammar.specs.Grammar.{grammar-refusal}
 use Rattle.builder.specs.declared.Matching.{Matching}
@@ -30,7 +32,7 @@ use Rattle.builder.proofs.Answered.{build-refused, build-answered, build-fine}
 use Rattle.builder.proofs.BuiltImage.{built-length-is}
 use Rattle.grammar_judge.specs.TwoCalls.{As-parsed}
 use Rattle.grammar_judge.proofs.TwoCallsHold.{accepts-exact, gets}
-use Rattle.sejimakpu.specs.Cells.{cells}
+use Rattle.sejimakpu.specs.Cells.{cells, Reply-written}
 use Rattle.sejimakpu.specs.Calls.{Judge-tells, Build-tells}
 use Rattle.promises.specs.Matching.{Default-leading, Whole-then-leading, Judged-whole-leading, Built-accepted-told}
 
@@ -64,7 +66,7 @@ of-its-number Halted = refl
 one-number : (v w : Verdict) → verdict-number v ≡ verdict-number w → v ≡ w
 one-number v w e = sym (of-its-number v) ∙ ap of-number e ∙ of-its-number w
 
-pub some-verdict : (v : Verdict) → 0 ≡ verdict-number v → ⊥
+some-verdict : (v : Verdict) → 0 ≡ verdict-number v → ⊥
 unfolding verdict-number
 some-verdict Accepted e = omega arith
 some-verdict Ended e = omega arith
@@ -72,19 +74,39 @@ some-verdict Stuck e = omega arith
 some-verdict Looping e = omega arith
 some-verdict Halted e = omega arith
 
--- a call of judging by a built image that tells a verdict's number says what parsing does
-pub verdict-parsed :
-    (how : Matching) (gs cs a a-now b b-now : List ℕ) (r : Judged) (v : Verdict) → grammar-refusal gs .number ≡ 0 → Bytes cs →
-    Judge-says (built how gs) cs r a a-now b b-now → of-judged r .verdict ≡ verdict-number v →
-    (of-judged r .refusal ≡ 0) × As-parsed how gs cs v
-unfolding of-judged
-verdict-parsed how gs cs a a-now b b-now (Refused f) v good bytes says e = absurd (some-verdict v e)
-verdict-parsed how gs cs a a-now b b-now (Answer j) v good bytes says e =
-    let bs : List ℕ = built how gs in
-    let fine = answered-fine bs cs a a-now b b-now (j .verdict) (j .readings) (j .end) says in
-    let g = gets how gs cs a a-now b b-now (Answer j) good bytes (judged-right bs cs (Answer j) a a-now b b-now fine says) in
-    let same : g .verdict ≡ j .verdict = cc in
-    (refl, subst (As-parsed how gs cs) (same ∙ one-number (j .verdict) v e) (g .parsed))
+-- a refusal tells none
+pub refused-says : (v : Verdict) {n : ℕ} {P : Type 0} → (n ≡ 0 → ⊥) → (0 ≡ verdict-number v) ↔ ((n ≡ 0) × P)
+refused-says v some = (λ e. absurd (some-verdict v e), λ (none, p). absurd (some none))
+
+-- a call of judging by a built image tells a verdict's number exactly if it returns 0 and parsing says so
+module _
+    (how : Matching) (gs cs a a-now b b-now : List ℕ) (r : Judged) (v : Verdict) (good : grammar-refusal gs .number ≡ 0) (bytes : Bytes cs)
+    (says : Judge-says (built how gs) cs r a a-now b b-now)
+  where
+    refusal-of : Refusal
+    refusal-of = judge-refusal (built how gs) cs (length a) (length b)
+
+    answer-parsed : refusal-of .number ≡ 0 → (of-judged r .verdict ≡ verdict-number v) ↔ ((of-judged r .refusal ≡ 0) × As-parsed how gs cs v)
+    unfolding of-judged refusal-of
+    answer-parsed fine =
+        let g = gets how gs cs a a-now b b-now r good bytes (judged-right (built how gs) cs r a a-now b b-now fine says) in
+        rw (g .answers) (
+          λ e. (refl, subst (As-parsed how gs cs) (one-number (g .verdict) v e) (g .parsed)),
+          λ (none, p). ap verdict-number (sym (g .only v p)),
+        )
+
+    refused-parsed :
+        (refusal-of .number ≡ 0 → ⊥) → (of-judged r .verdict ≡ verdict-number v) ↔ ((of-judged r .refusal ≡ 0) × As-parsed how gs cs v)
+    unfolding of-judged refusal-of
+    refused-parsed some =
+        rw (judged-refused (built how gs) cs r a a-now b b-now some says .0) (refused-says v some)
+
+    pub verdict-parsed : (of-judged r .verdict ≡ verdict-number v) ↔ ((of-judged r .refusal ≡ 0) × As-parsed how gs cs v)
+    verdict-parsed = go (ℕ-discrete (refusal-of .number) 0)
+      where
+        go : Dec (refusal-of .number ≡ 0) → (of-judged r .verdict ≡ verdict-number v) ↔ ((of-judged r .refusal ≡ 0) × As-parsed how gs cs v)
+        go (yes fine) = answer-parsed fine
+        go (no some) = refused-parsed some
 
 -- A CALL OF BUILDING THAT RETURNS 0 has built the image, and counts its bytes
 pub record Built-there (how : Matching) (grammar image-now counted : List ℕ) : Type 0 where
@@ -113,20 +135,28 @@ built-there {how} {grammar} {image} {image-now} {counted} t = go (ℕ-discrete (
               ∙ take-at (built how grammar) (drop (built-length grammar) image) (built-length grammar) (built-length-is how grammar);
         }
 
--- and where judging by it tells a verdict, it is as parsing says
+-- A C CALLER'S ANSWER: the number returned and the verdict's cell are the reply's
+pub told-by :
+    {p : Reply} {m returned : ℕ} {answer : List ℕ} {P : Type 0} → Reply-written p returned answer → (p .verdict ≡ m) ↔ ((p .refusal ≡ 0) × P) →
+    (getD answer 1 0 ≡ m) ↔ ((returned ≡ 0) × P)
+unfolding cells
+told-by w exact =
+    let cell = ap (λ (l : List ℕ). getD l 1 0) (w .written) in (
+      λ e. let (none, p) = exact .0 (sym cell ∙ e) in (w .number ∙ none, p),
+      λ (none, p). cell ∙ exact .1 (sym (w .number) ∙ none, p),
+    )
+
+-- judging by it tells a verdict exactly as parsing says
 pub told-parsed :
     {how : Matching} {grammar capture image-now notes notes-now work work-now : List ℕ} {returned : ℕ} {counted answer : List ℕ} (v : Verdict) →
     Bytes capture → Built-there how grammar image-now counted →
-    Judge-tells (take (getD counted 2 0) image-now) capture notes notes-now work work-now returned answer → getD answer 1 0 ≡ verdict-number v →
-    (returned ≡ 0) × As-parsed how grammar capture v
-unfolding cells
-told-parsed {how} {grammar} {capture} {notes = a} {notes-now = a-now} {work = b} {work-now = b-now} v bytes at t is =
+    Judge-tells (take (getD counted 2 0) image-now) capture notes notes-now work work-now returned answer →
+    (getD answer 1 0 ≡ verdict-number v) ↔ ((returned ≡ 0) × As-parsed how grammar capture v)
+told-parsed {how} {grammar} {capture} {notes = a} {notes-now = a-now} {work = b} {work-now = b-now} v bytes at t =
     let says = subst (λ (bs : List ℕ). Judge-says bs capture (t .judged) a a-now b b-now) (at .there) (t .says) in
-    let told = ap (λ (l : List ℕ). getD l 1 0) (sym (t .tells .written)) ∙ is in
-    let (none, parsed) = verdict-parsed how grammar capture a a-now b b-now (t .judged) v (at .good) bytes says told in
-    (t .tells .number ∙ none, parsed)
+    told-by (t .tells) (verdict-parsed how grammar capture a a-now b b-now (t .judged) v (at .good) bytes says)
 
 pub built-accepted-told : Built-accepted-told
 unfolding default-matching verdict-number
 built-accepted-told grammar capture image image-now notes notes-now work work-now returned counted answer bytes judged one =
-    (λ t. told-parsed Accepted bytes (built-there t) judged one .1, λ t. told-parsed Accepted bytes (built-there t) judged one .1)
+    (λ t. told-parsed Accepted bytes (built-there t) judged .0 one .1, λ t. told-parsed Accepted bytes (built-there t) judged .0 one .1)

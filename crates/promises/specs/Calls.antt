@@ -22,14 +22,14 @@ use Rattle.typed.specs.Recursion.{Text-recursion-says}
 use Rattle.typed.specs.TypedCalls.{Text-says}
 use Rattle.sejimakpu.specs.Calls.{Check-tells, Cells-tells, Judge-tells, Run-tells, Build-tells, Check-recursion-tells, Check-text-recursion-tells, Read-grammar-tells, Build-text-tells, Judge-text-tells, Judge-bundle-tells}
 
--- READ, BUILD, JUDGE: who reads a typed grammar, builds of so many bytes as reading counts, by either choice of a match, judges by so many bytes as building counts, and finds a verdict's number in the answer (1: accepted), is never wrong: by that choice the text's first line gives the capture this verdict
+-- READ, BUILD, JUDGE: who reads a typed grammar, builds of so many bytes as reading counts, by either choice of a match, and judges by so many bytes as building counts finds a verdict's number in the answer (1: accepted) exactly if judging returns 0 and, by that choice, the text's first line gives the capture this verdict
 abbrev pub Typed-told : Type 0
 Typed-told =
     (how : Matching) (text grammar grammar-now image image-now capture notes notes-now work work-now : List ℕ) (returned : ℕ)
     (read counted answer : List ℕ) (v : Verdict) → Bytes capture → Read-grammar-tells text grammar grammar-now 0 read →
     Build-tells how (take (getD read 2 0) grammar-now) image image-now 0 counted →
     Judge-tells (take (getD counted 2 0) image-now) capture notes notes-now work work-now returned answer →
-    getD answer 1 0 ≡ verdict-number v → (returned ≡ 0) × Text-says how text capture v
+    (getD answer 1 0 ≡ verdict-number v) ↔ ((returned ≡ 0) × Text-says how text capture v)
 
 -- BUILD FROM A TEXT, JUDGE: the same of who builds by the text, which is for whole matching
 abbrev pub Built-text-told : Type 0
@@ -37,13 +37,14 @@ Built-text-told =
     (text image image-now capture notes notes-now work work-now : List ℕ) (returned : ℕ) (counted answer : List ℕ) (v : Verdict) →
     Bytes capture → Build-text-tells text image image-now 0 counted →
     Judge-tells (take (getD counted 2 0) image-now) capture notes notes-now work work-now returned answer →
-    getD answer 1 0 ≡ verdict-number v → (returned ≡ 0) × Text-says Whole text capture v
+    (getD answer 1 0 ≡ verdict-number v) ↔ ((returned ≡ 0) × Text-says Whole text capture v)
 
 -- JUDGE BY A TEXT, in one call
 abbrev pub Text-told : Type 0
 Text-told =
     (text capture : List ℕ) (before after : Lent) (returned : ℕ) (answer : List ℕ) (v : Verdict) → Bytes capture →
-    Judge-text-tells text capture before after returned answer → getD answer 1 0 ≡ verdict-number v → (returned ≡ 0) × Text-says Whole text capture v
+    Judge-text-tells text capture before after returned answer →
+    (getD answer 1 0 ≡ verdict-number v) ↔ ((returned ≡ 0) × Text-says Whole text capture v)
 
 -- THE CHECK OF AN IMAGE returns the number and leaves the place of the table's row that the image has: 0 exactly if it is right
 abbrev pub Check-told : Type 0

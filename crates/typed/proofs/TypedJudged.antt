@@ -52,12 +52,14 @@ module _ {d : Definition} {ds : List Definition} {gs : List ℕ} (t : Typed-righ
   typed-as how Looping p = λ o m. p o (parses m)
   typed-as how Halted p = p
 
-  parsed-as : (v : Verdict) → As-typed Whole d ds cs v → As-parsed Whole gs cs v
-  parsed-as Accepted m = parses m
-  parsed-as Ended m = m
-  parsed-as Stuck (o, m, other) = (o, parses m, other)
-  parsed-as Looping m = λ o p. m o (means p)
-  parsed-as Halted m = m
+  pub parsed-as : (how : Matching) (v : Verdict) → As-typed how d ds cs v → As-parsed how gs cs v
+  parsed-as Whole Accepted m = parses m
+  parsed-as Leading Accepted (j, m) = (j, parses m)
+  parsed-as how Ended m = m
+  parsed-as Whole Stuck (o, m, other) = (o, parses m, other)
+  parsed-as Leading Stuck m = parses m
+  parsed-as how Looping m = λ o p. m o (means p)
+  parsed-as how Halted m = m
 
 -- THE MACHINE OF A LEGAL TEXT, judged whole
 module _
@@ -71,21 +73,21 @@ module _
         ((c : Config) × Says (machine (built Whole (grammar-of (d ∷ ds))) cs) Accepted c) ↔ Means (d ∷ ds) cs (d .body) 0 (some (length cs))
     typed-accepts =
         let exact = accepts-exact Whole (grammar-of (d ∷ ds)) cs (right .good) bytes in
-        (λ s. typed-as right cs Whole Accepted (exact .0 s), λ m. exact .1 (parsed-as right cs Accepted m))
+        (λ s. typed-as right cs Whole Accepted (exact .0 s), λ m. exact .1 (parsed-as right cs Whole Accepted m))
 
     pub typed-stuck :
         ((c : Config) × Says (machine (built Whole (grammar-of (d ∷ ds))) cs) Stuck c)
         ↔ ((o : Option ℕ) × Means (d ∷ ds) cs (d .body) 0 o × (o ≡ some (length cs) → ⊥))
     typed-stuck =
         let exact = sticks-exact Whole (grammar-of (d ∷ ds)) cs (right .good) bytes in
-        (λ s. typed-as right cs Whole Stuck (exact .0 s), λ m. exact .1 (parsed-as right cs Stuck m))
+        (λ s. typed-as right cs Whole Stuck (exact .0 s), λ m. exact .1 (parsed-as right cs Whole Stuck m))
 
     pub typed-loops :
         length cs ≤ Format.max-capture →
         ((c : Config) × Says (machine (built Whole (grammar-of (d ∷ ds))) cs) Looping c) ↔ ((o : Option ℕ) → Means (d ∷ ds) cs (d .body) 0 o → ⊥)
     typed-loops short =
         let exact = loops-exact Whole (grammar-of (d ∷ ds)) cs (right .good) bytes short in
-        (λ s. typed-as right cs Whole Looping (exact .0 s), λ none-meant. exact .1 (parsed-as right cs Looping none-meant))
+        (λ s. typed-as right cs Whole Looping (exact .0 s), λ none-meant. exact .1 (parsed-as right cs Whole Looping none-meant))
 
 -- THE CALL
 typed-gets : {text gs cs : List ℕ} {r : Judged} → Lines-read text gs → Gets Whole gs cs r → Typed-gets text cs r
@@ -100,7 +102,7 @@ typed-gets {cs = cs} l g =
       end = g .end;
       answers = g .answers;
       meant = typed-as t cs Whole (g .verdict) (g .parsed);
-      only = λ v m. g .only v (parsed-as t cs v m);
+      only = λ v m. g .only v (parsed-as t cs Whole v m);
       few = subst (λ (n : ℕ). g .readings ≤ 6 * n * (length cs + 1) + 2) (rules-needed t) (g .few);
     }
 
