@@ -1,6 +1,5 @@
 //! The other commands: selftest, versions, help and completions.
-mod common;
-use common::*;
+use crate::common::*;
 use std::fs::File;
 
 #[test]

@@ -1,7 +1,6 @@
 //! The four worked dumps of docs/GRAMMARS.md: the good ones pass, the bad ones do not, and neither does a good one that is cut
 //! short, lacks a line or has a line twice. Of the boot log what stands after the prompt is not judged.
-mod common;
-use common::*;
+use crate::common::*;
 use std::fs;
 use std::ops::Range;
 use std::path::PathBuf;

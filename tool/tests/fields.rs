@@ -1,6 +1,5 @@
 //! docs/RECORD.md names every field of a record, and CSV has the fields of JSON lines in the same order.
-mod common;
-use common::*;
+use crate::common::*;
 use serde_json::Value;
 use std::collections::BTreeSet;
 

@@ -1,6 +1,5 @@
 //! The records as JSON, JSON lines and CSV, read back by their own readers: every field of every outcome.
-mod common;
-use common::*;
+use crate::common::*;
 use serde_json::{json, Map, Value};
 use std::ffi::OsStr;
 use std::os::unix::ffi::OsStrExt;

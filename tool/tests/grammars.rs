@@ -1,7 +1,6 @@
 //! `grammar check` and `grammar show`: complaints with their lines, the numbers by their formulas, and texts that read as
 //! the same grammar.
-mod common;
-use common::*;
+use crate::common::*;
 use serde_json::Value;
 use std::collections::BTreeSet;
 

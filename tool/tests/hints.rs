@@ -1,6 +1,5 @@
 //! The hint's text: literal cases of the whole of standard error.
-mod common;
-use common::*;
+use crate::common::*;
 
 /// The hint, from its line and column on, of a capture by a grammar's text.
 #[track_caller]

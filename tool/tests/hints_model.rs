@@ -1,7 +1,6 @@
 //! Verdicts and hints beside a parser of a few lines that was written apart from the tool: pseudo-random grammars and
 //! captures, by whole and leading matching.
-mod common;
-use common::*;
+use crate::common::*;
 use serde_json::Value;
 use std::collections::{BTreeMap, BTreeSet};
 

@@ -1,6 +1,5 @@
 //! The hint's text on a table of damaged ring dumps: every byte replaced, deleted, inserted or swapped, and every length.
-mod common;
-use common::*;
+use crate::common::*;
 
 /// What a ring dump wants at each column of a line: by a typed grammar, and by its bytes.
 const WANTED: [[&str; 2]; 6] = [

@@ -1,6 +1,5 @@
 //! What captures are: files, folders, links, pipes and devices; their names; and how many and how long they may be.
-mod common;
-use common::*;
+use crate::common::*;
 use std::ffi::OsStr;
 use std::os::unix::ffi::OsStrExt;
 use std::process::Stdio;

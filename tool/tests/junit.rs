@@ -1,6 +1,5 @@
 //! JUnit's XML, read back: a test case for each capture and grammar, and what was not judged never looks passed.
-mod common;
-use common::*;
+use crate::common::*;
 use quick_xml::events::{BytesStart, Event};
 use quick_xml::Reader;
 use std::collections::BTreeMap;

@@ -1,7 +1,6 @@
 //! Where the tool writes: standard output and error, files that appear when they are whole, colours, and what happens
 //! where it cannot write.
-mod common;
-use common::*;
+use crate::common::*;
 use std::fs::{self, File};
 use std::io::{BufRead, BufReader, Read};
 use std::os::unix::fs::PermissionsExt;

@@ -1,6 +1,5 @@
 //! Files that are read are not written over: captures, grammars and the plan.
-mod common;
-use common::*;
+use crate::common::*;
 
 /// A file that is judged, or that judges, is not written over.
 #[test]

@@ -1,6 +1,5 @@
 //! What is refused or cannot be read: grammars, images and captures. The status is 2, and nothing is accepted by it.
-mod common;
-use common::*;
+use crate::common::*;
 
 const NO_FILE: &str = "No such file or directory (os error 2)";
 

@@ -1,6 +1,5 @@
 //! A shift by its plan: which rows name a capture, and that nothing which was not judged ever passes.
-mod common;
-use common::*;
+use crate::common::*;
 use serde_json::Value;
 
 const ROW: &str = "[[row]]\ncaptures = \"**\"\ngrammars = [\"ring.peg\"]\n";

@@ -1,6 +1,5 @@
 //! Every status that the tool leaves with, and each way to it. 2 wins over 1, and 1 over 0.
-mod common;
-use common::*;
+use crate::common::*;
 
 const ACCEPTED: &str = "accepted formed.capture\n1 capture: 1 accepted; 174 readings\n";
 const STUCK: &str = "stuck    broken.capture\n1 capture: 0 accepted, 1 stuck; 105 readings\n";

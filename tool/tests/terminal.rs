@@ -1,6 +1,5 @@
 //! On a terminal: colours and progress are there, and only there. The terminal is one of script(1).
-mod common;
-use common::*;
+use crate::common::*;
 
 const LINES: &str = "accepted formed.capture\nstuck    broken.capture\n2 captures: 1 accepted, 1 stuck; 279 readings\n";
 const GREEN: &str = "\x1b[32maccepted\x1b[0m formed.capture";

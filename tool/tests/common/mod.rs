@@ -1,5 +1,4 @@
 //! What all tests use: temporary folders, the tool's real binary, and small grammars, images and captures.
-#![allow(dead_code)]
 use std::ffi::OsStr;
 use std::fs;
 use std::io::Write;
