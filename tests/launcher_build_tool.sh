@@ -20,6 +20,15 @@ cargo_on 'exit 0'
 tool_built 'from the packages' 0 '' "$locking${feed}cargo build $packaged --release"
 tool_built 'another command' 0 '' "$locking${feed}cargo clippy $packaged --release --all-targets -- -D warnings" clippy --release --all-targets -- -D warnings
 
+# the dependencies alone: without the archive, which is not looked for, and whatever cargo leaves with
+mv "$library" "$library.away"
+dependencies="$locking${feed}cargo build $packaged --release --keep-going${feed}cargo clippy $packaged --release --all-targets --keep-going"
+tool_built 'dependencies' 0 '' "$dependencies" dependencies
+cargo_on '' && sed -i 's/ exit 0;/ exit 101;/' "$bench/bin/cargo"
+tool_built 'dependencies, and what needs the archive fails' 0 '' "$dependencies" dependencies
+cargo_on 'exit 0'
+mv "$library.away" "$library"
+
 # no apt-get, and what is there is not enough: from the registry, whose lock stays; one of the packages does not
 cargo_on 'exit 1'
 echo 'checksum = "00"' >"$bench/tool/Cargo.lock"
