@@ -51,8 +51,11 @@ tool_built 'packages are installed' 0 "$installing" "apt-get install noninteract
 tool_built 'packages are there' 0 '' "$locking${feed}cargo build $packaged --release"
 tool_built 'install alone' 1 "build_tool: Debian's packages of the tool's dependencies could not be installed" \
     $'apt-get install noninteractive\napt-get update noninteractive\napt-get install noninteractive' install
-fake dpkg-query <<<'exit 0'
+fake dpkg-query <<<'echo installed'
 tool_built 'install alone, and all are installed' 0 '' '' install
+fake dpkg-query <<<'echo installed; echo config-files'
+rmdir "$registry"
+tool_built 'install alone, and one was removed' 0 "$installing" 'apt-get install noninteractive' install
 fake dpkg-query <<<'exit 1'
 fake id <<<'echo 1000'
 fake sudo <<<'exit 1'
