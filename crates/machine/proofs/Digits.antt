@@ -1,7 +1,7 @@
 -- A number by three digits, (p m + i) g + a: its bound, its digits, and the number of its digits. Rule indices and configuration numbers are such numbers. Assumes nothing.
 use mathlib.Core.Path.{_≡_, ap, _∙_}
-use Prim.Native.Nat.{ℕ, zero, suc, _+_, _*_, _/_, _%_, _<_, _≤_}
-use native.Mathlib.Nat.{mod-lt, div-add-mod', div-lt-iff-lt-mul, mul-zero, zero-mul, zero-lt-suc, add-le-add, mul-le-mul, add-mul, mul-assoc}
+use Prim.Native.Nat.{ℕ, zero, suc, _+_, _*_, _/_, _%_, _<_}
+use native.Mathlib.Nat.{mod-lt, div-add-mod', div-lt-iff-lt-mul, mul-zero, zero-mul, zero-lt-suc, add-mul, mul-assoc}
 use native.Mathlib.Omega.{arith}
 use lib.Arith.{digits-lt, digits-div, digits-mod}
 
@@ -48,11 +48,3 @@ second-positive q (suc m) g h = zero-lt-suc m
 pub third-positive : (q m g : ℕ) {k : ℕ} → k < q * m * g → 0 < g
 third-positive q m zero h = absurd (none-below h (mul-zero (q * m)))
 third-positive q m (suc g) h = zero-lt-suc g
-
--- bounds of such a number and its parts, where each count and digit has one
-pub upper-most : {p i m : ℕ} (P M : ℕ) → p ≤ P → i ≤ M → m ≤ M → p * m + i ≤ P * M + M
-upper-most P M hp hi hm = add-le-add (mul-le-mul hp hm) hi
-
-pub number-most :
-    {p i a m g : ℕ} (P M G : ℕ) → p ≤ P → i ≤ M → m ≤ M → a ≤ G → g ≤ G → (p * m + i) * g + a ≤ (P * M + M) * G + G
-number-most P M G hp hi hm ha hg = add-le-add (mul-le-mul (upper-most P M hp hi hm) hg) ha

@@ -1,7 +1,7 @@
 -- The big-step relation: from a configuration with its entry on top to the configuration whose step removes that entry.
 -- Every configuration on the way has a property P. Assumes nothing.
 use mathlib.Core.Path.{_≡_, _∙_}
-use mathlib.Core.Bool.{Bool, true, false}
+use mathlib.Core.Bool.{Bool}
 use mathlib.Core.List.{List, [], _∷_}
 use mathlib.Core.Option.{some}
 use Prim.Native.Nat.{ℕ, zero, suc, _+_, _-_, _<_, _≤_}
@@ -11,7 +11,7 @@ use native.Mathlib.Omega.{arith}
 use lib.ListN.{length}
 use Rattle.machine.specs.declared.Config.{Config}
 use Rattle.machine.specs.declared.Action.the-variants.{Change, Push, Pop}
-use Rattle.machine.specs.Run.{top, Machine, Valid-config, Entry, entry, Description, returned, config, step, next, after, config-of}
+use Rattle.machine.specs.Run.{top, Machine, Entry, entry, Description, returned, config, step, next, after, config-of}
 use Rattle.machine.specs.Verdicts.{over-base, Ends-with}
 use Rattle.machine.proofs.Runs.{after-zero, after-then, after-front, after-next, config-over, step-change, step-push, step-pop, step-pop-last}
 
@@ -143,22 +143,3 @@ ends-inside {M} {P} (pushes {c} {e} {g} h f x t y) i base (suc k) l =
     let below : List Entry = entry (c .symbol) i ∷ base in
     way-push M P (count x) (count y) c e g i base f (ends-reach x (e .head) below) t
     (λ n b. ends-inside x (e .head) below n b) (λ n b. ends-inside y i base n b) k (omega arith)
-
--- where changes and pushes lead to configurations that are there, and pops to states that are, terminators are there
-module _ (M : Machine)
-    (change-there : (c e : Config) → Valid-config M c → M .action c ≡ Change e → Valid-config M e)
-    (push-there : (c e : Config) → Valid-config M c → M .action c ≡ Push e → Valid-config M e)
-    (pop-there : (c : Config) (p : ℕ) (r : Bool) → Valid-config M c → M .action c ≡ Pop p r → p < M .states) where
-  pub resume-there :
-      (c e g : Config) (p : ℕ) (r : Bool) → Valid-config M c → Valid-config M e → Valid-config M g → M .action g ≡ Pop p r → Valid-config M (resume c e g p r)
-  resume-there c e g p true hc he hg f =
-      record { state-below = pop-there g p true hg f; head-below = he .head-below; symbol-below = hc .symbol-below }
-  resume-there c e g p false hc he hg f =
-      record { state-below = pop-there g p false hg f; head-below = hg .head-below; symbol-below = hc .symbol-below }
-
-  pub ends-there : {P : Config → Type 0} {c d : Config} → Valid-config M c → Ends M P c d → Valid-config M d
-  ends-there h (pops p e) = h
-  ends-there h (changes {c} {e} p f x) = ends-there (change-there c e h f) x
-  ends-there h (pushes {c} {e} {g} {d} {p} {r} q f x t y) =
-      let he = push-there c e h f in
-      ends-there (resume-there c e g p r h he (ends-there he x) t) y

@@ -1,6 +1,6 @@
 -- Configurations and their numbers: each configuration of a machine has its own number below the count, and each such number its configuration. Assumes nothing.
 use mathlib.Core.Path.{_≡_, sym, ap, _∙_}
-use Prim.Native.Nat.{ℕ, _/_, _%_, _<_}
+use Prim.Native.Nat.{ℕ, _<_}
 use Rattle.machine.specs.declared.Config.{Config}
 use Rattle.machine.specs.Run.{Machine, Valid-config, number-by, number, how-many, config-by}
 use Rattle.machine.proofs.Digits.{digits-below, low-digit, middle-digit, high-digit, high-below, middle-below, low-below, number-of-digits, second-positive, third-positive}

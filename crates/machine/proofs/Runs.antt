@@ -9,7 +9,6 @@ use native.Mathlib.Decide.{decLt}
 use native.Mathlib.Omega.{arith}
 use Rattle.machine.specs.declared.Config.{Config}
 use Rattle.machine.specs.declared.Reason.{Reason}
-use Rattle.machine.specs.declared.Reason.the-variants.{Missing}
 use Rattle.machine.specs.declared.Action.{Action}
 use Rattle.machine.specs.declared.Action.the-variants.{Stop, Change, Push, Pop}
 use Rattle.machine.specs.Run.{Machine, Entry, entry, Description, description, Outcome, stopped, over, next, returned, step-by, step-on, step, start, only-next, further, after, top, config-of}
@@ -119,11 +118,6 @@ pub step-pop-last :
     step M (over-base c i []) ≡ over p (returned r i (c .head))
 unfolding step step-on step-by
 step-pop-last M c i h = ap (λ (a : Action). step-by a (c .head) (entry (c .symbol) i) []) h
-
--- with no entry left there is no step
-pub step-none : (M : Machine) (p i : ℕ) → step M (description p i []) ≡ stopped Missing
-unfolding step step-on
-step-none M p i = refl
 
 -- TERMINATED: there is no next step
 abbrev pub Terminated : Machine → Description → Type 0

@@ -68,9 +68,6 @@ big-step M c d i w = go (ends-or-kept M (w .steps) c)
         let l : 1 < length (w .place .stack) = on .stays p (popped .returns) (popped .action-is) in
         absurd (omega arith)
 
-pub ends-unique : {M : Machine} {P Q : Config → Type 0} {c d e : Config} → Ends M P c d → Ends M Q c e → d ≡ e
-ends-unique {M} {c} {d} {e} x y = same-end M c d e 0 (ends-at x 0) (ends-at y 0)
-
 pub one-end :
     (M : Machine) (c d e : Config) (i j : ℕ) → Ends-with M c i d → Ends-with M c j d × (Ends-with M c j e → d ≡ e)
 one-end M c d e i j v =

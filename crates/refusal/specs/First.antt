@@ -1,6 +1,6 @@
 -- A refusal, by its number in the table and the place that it blames; and the first of several. Assumes nothing: these are definitions.
 use mathlib.Core.Bool.{Bool, cond}
-use Prim.Native.Nat.{ℕ, _-_}
+use Prim.Native.Nat.{ℕ}
 use lib.Dec.{eqb}
 use Rattle.refusal.specs.declared.Refusal.{Refusal}
 

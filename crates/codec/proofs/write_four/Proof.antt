@@ -6,23 +6,11 @@ use borrow.Author.Needs.{needs}
 use Rattle.codec.proofs.write_four.Statement.{statement}
 use Rattle.codec.proofs.write_four.Tie as tie
 
-slice-write-bytes : tie.Need-slice-write-bytes
-slice-write-bytes c = search needs
-
-add-bytes : tie.Need-add-bytes
-add-bytes c = search needs
-
 slice-write-bytes-2 : tie.Need-slice-write-bytes-2
 slice-write-bytes-2 c = simp length-set (omega arith)
 
-add-bytes-2 : tie.Need-add-bytes-2
-add-bytes-2 c = search needs
-
 slice-write-bytes-3 : tie.Need-slice-write-bytes-3
 slice-write-bytes-3 c = simp length-set (omega arith)
-
-add-bytes-3 : tie.Need-add-bytes-3
-add-bytes-3 c = search needs
 
 slice-write-bytes-4 : tie.Need-slice-write-bytes-4
 slice-write-bytes-4 c = simp length-set (omega arith)
@@ -37,12 +25,12 @@ pub write-four-spec : {M : Type 1} → statement M
 write-four-spec =
     tie.close
     (tie.spec
-    slice-write-bytes
-    add-bytes
+    (λ c. search needs)
+    (λ c. search needs)
     slice-write-bytes-2
-    add-bytes-2
+    (λ c. search needs)
     slice-write-bytes-3
-    add-bytes-3
+    (λ c. search needs)
     slice-write-bytes-4
     same-length
     returns)

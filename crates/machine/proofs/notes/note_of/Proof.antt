@@ -1,5 +1,4 @@
 -- `machine::notes::note_of` meets its contract. Assumes nothing.
-use mathlib.Core.Path.{refl}
 use borrow.Author.Needs.{needs}
 use Rattle.machine.specs.Verdicts.{note-of}
 use Rattle.machine.proofs.RightNotes.{closed-note}
@@ -14,11 +13,8 @@ returns-2 : tie.Need-returns-2
 unfolding note-of
 returns-2 c = search needs
 
-sub-t3 : tie.Need-sub-t3
-sub-t3 c = search needs
-
 returns-3 : tie.Need-returns-3
 returns-3 c = closed-note _ (c .before .if1 .left) (c .if2 .left)
 
 pub note-of-spec : {M : Type 1} → statement M
-note-of-spec = tie.close (tie.spec returns returns-2 sub-t3 returns-3)
+note-of-spec = tie.close (tie.spec returns returns-2 (λ c. search needs) returns-3)

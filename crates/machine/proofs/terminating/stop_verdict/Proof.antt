@@ -5,12 +5,6 @@ use Rattle.machine.specs.Terminating.{stop-verdict}
 use Rattle.machine.proofs.terminating.stop_verdict.Statement.{statement}
 use Rattle.machine.proofs.terminating.stop_verdict.Tie as tie
 
-enum-told : tie.Need-enum-told
-enum-told c = search needs
-
-enum-told-2 : tie.Need-enum-told-2
-enum-told-2 c = search needs
-
 returns : tie.Need-returns
 unfolding stop-verdict
 returns c = rw (c .enum-told .given .1) refl
@@ -20,4 +14,4 @@ unfolding stop-verdict
 returns-2 c = rw (c .enum-told2 .given .1) refl
 
 pub stop-verdict-spec : {M : Type 1} → statement M
-stop-verdict-spec = tie.close (tie.spec enum-told enum-told-2 returns returns-2)
+stop-verdict-spec = tie.close (tie.spec (λ c. search needs) (λ c. search needs) returns returns-2)

@@ -5,15 +5,6 @@ use Rattle.machine.specs.Terminating.{termination-verdict}
 use Rattle.machine.proofs.terminating.termination_verdict.Statement.{statement}
 use Rattle.machine.proofs.terminating.termination_verdict.Tie as tie
 
-enum-known-termination : tie.Need-enum-known-termination
-enum-known-termination c = search needs
-
-enum-known-termination-2 : tie.Need-enum-known-termination-2
-enum-known-termination-2 c = search needs
-
-stop-verdict-requires : tie.Need-stop-verdict-requires
-stop-verdict-requires c κs = search needs
-
 returns : tie.Need-returns
 unfolding termination-verdict
 returns c = rw (c .before .before .termination .given .1, c .if1 .taken) refl
@@ -29,4 +20,4 @@ returns-3 c = rw (c .before .before .termination2 .given .1) (c .stop-verdict .e
 pub termination-verdict-spec : {M : Type 1} → statement M
 termination-verdict-spec =
     tie.close
-    (tie.spec enum-known-termination enum-known-termination-2 stop-verdict-requires returns returns-2 returns-3)
+    (tie.spec (λ c. search needs) (λ c. search needs) (λ c κs. search needs) returns returns-2 returns-3)
