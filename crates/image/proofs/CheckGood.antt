@@ -7,7 +7,6 @@ use native.Mathlib.Omega.{arith}
 use lib.Dec.{ltb, eqb}
 use lib.ListN.{length}
 use borrow.Author.Tests.{ltb-true, ltb-false, eqb-false}
-use Rattle.image.specs.Format
 use Rattle.refusal.specs.declared.Refusal.{Refusal}
 use Rattle.image.specs.Format
 use Rattle.codec.specs.Bytes.{byte}

@@ -11,7 +11,7 @@ use Rattle.machine.specs.declared.Config.{Config}
 use Rattle.machine.specs.declared.Action.{Action}
 use Rattle.machine.specs.declared.Action.the-variants.{Stop, Change, Push, Pop}
 use Rattle.machine.specs.Run.{Machine, Valid-config}
-use Rattle.image.specs.Image.{Rule, states, class-under, moved, led-to, stop-reason, rule-of, action-by, action, machine}
+use Rattle.image.specs.Image.{Rule, class-under, moved, led-to, stop-reason, rule-of, action-by, action, machine}
 use Rattle.image.specs.Refusals.{move-off, Unrefused}
 use Rattle.image.proofs.Rules.{good, class-right, on-right, head-there, rule-there}
 use Rattle.machine.proofs.Reach.{Inside}

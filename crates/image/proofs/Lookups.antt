@@ -5,7 +5,6 @@ use Prim.Native.Nat.{ℕ, _+_, _*_, _≤_}
 use native.Mathlib.Nat.{mul-le-mul}
 use native.Mathlib.Omega.{arith}
 use lib.Dec.{eqb}
-use lib.ListN.{length}
 use borrow.Author.Tests.{eq-eqb, ne-eqb}
 use Rattle.machine.proofs.Digits.{digits-apart}
 use Rattle.machine.specs.declared.Config.{Config}
@@ -25,10 +24,6 @@ kept-classes bs cs e = ap (λ (x : Sizes). x .classes) e
 pub kept-symbols : (bs cs : List ℕ) {s : Sizes} → s ≡ sizes-of bs cs → s .symbols ≡ symbols bs
 unfolding sizes-of
 kept-symbols bs cs e = ap (λ (x : Sizes). x .symbols) e
-
-pub kept-places : (bs cs : List ℕ) {s : Sizes} → s ≡ sizes-of bs cs → s .places ≡ length cs + 2
-unfolding sizes-of
-kept-places bs cs e = ap (λ (x : Sizes). x .places) e
 
 kept-rules : (bs cs : List ℕ) {s : Sizes} → s ≡ sizes-of bs cs → s .rules ≡ (s .classes + 2) * s .symbols
 unfolding sizes-of

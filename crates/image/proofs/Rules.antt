@@ -9,7 +9,6 @@ use native.Mathlib.Omega.{arith}
 use lib.Dec.{ltb, eqb}
 use lib.ListN.{length}
 use borrow.Author.Tests.{lt-ltb, le-ltb, eq-eqb}
-use Rattle.image.specs.Format
 use Rattle.machine.specs.declared.Config.{Config}
 use Rattle.image.specs.Format
 use Rattle.machine.specs.Run.{Valid-config}

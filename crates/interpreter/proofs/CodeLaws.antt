@@ -1,5 +1,5 @@
 -- What each way through the code's functions answers, as the definitions of one step say it. Assumes nothing.
-use mathlib.Core.Path.{_≡_, refl, sym, ap, _∙_}
+use mathlib.Core.Path.{_≡_, refl, ap, _∙_}
 use mathlib.Core.Bool.{Bool, true, false}
 use mathlib.Core.List.{List}
 use Prim.Native.Nat.{ℕ, _+_, _*_, _-_, _/_, _%_, _≤_, _<_}
@@ -21,7 +21,7 @@ use Rattle.interpreter.specs.declared.Exit.the-variants.{Terminated, Dee
 use Rattle.interpreter.specs.declared.RunState.{RunState}
 use Rattle.interpreter.specs.declared.StepResult.{StepResult}
 use Rattle.interpreter.specs.declared.StepResult.the-variants.{On, Exited}
-use Rattle.interpreter.specs.code.Stepping.{cell-symbols, cell-of, run-state, change-result, push-result, popped-to, pop-head, pop-result, take-result, spent-exit, result-by, cells-pushed, cells-taken, cells-by, Stepped, Push-says, Take-says, Plain-step-says}
+use Rattle.interpreter.specs.code.Stepping.{cell-symbols, cell-of, run-state, change-result, push-result, popped-to, pop-head, pop-result, take-result, spent-exit, result-by, cells-pushed, cells-taken, cells-by, Push-says, Take-says, Plain-step-says}
 
 -- A PUSH, and a push that is too deep
 module _ (s : RunState) (c : Config) (ks : List ℕ) where

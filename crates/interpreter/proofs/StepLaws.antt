@@ -13,7 +13,7 @@ use Rattle.machine.specs.declared.Action.{Action}
 use Rattle.machine.specs.declared.Action.the-variants.{Stop, Change, Push, Pop}
 use Rattle.machine.specs.declared.Reason.{Reason}
 use Rattle.machine.specs.declared.Termination.the-variants.{Over, Stopped}
-use Rattle.machine.specs.Run.{Machine, Entry, over, next, step, config, config-of, returned}
+use Rattle.machine.specs.Run.{Machine, Entry, over, next, step, config, config-of}
 use Rattle.machine.specs.Verdicts.{over-base}
 use Rattle.machine.proofs.Runs.{config-over, step-stop, step-change, step-push, step-pop, step-pop-last}
 use Rattle.interpreter.specs.declared.Exit.the-variants.{Terminated, Deep}

@@ -10,9 +10,6 @@ use refusal::Refusal;
 use validator::check::capture_refusal;
 ghost use mathlib.Core.Path.{_≡_};
 ghost use lib.ListN.{length, replicate};
-ghost use Rattle.machine.specs.Run.{start};
-ghost use Rattle.image.specs.Image.{machine};
-ghost use Rattle.interpreter.specs.PlainRun.{run-on};
 ghost use Rattle.interpreter.specs.Calls.{answer, run-refusal, Run-says};
 ghost use Rattle.interpreter.specs.code.Stepping.{Run-ready, Run-answers};
 

@@ -10,7 +10,6 @@ use machine::Action;
 use machine::Config;
 use machine::Termination;
 ghost use mathlib.Core.Path.{_≡_};
-ghost use Prim.Native.Nat.{_<_};
 ghost use Rattle.machine.specs.Terminating.{accepts-by};
 ghost use Rattle.interpreter.specs.code.Stepping.{spent-exit, pop-result, Push-says, Take-says, Plain-step-says, Push-ready, Pop-ready, Take-ready, Plain-step-ready};
 

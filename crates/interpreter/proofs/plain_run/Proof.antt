@@ -7,9 +7,6 @@ use Rattle.interpreter.proofs.RefusalLaws.{run-ready, says-refused, say
 use Rattle.interpreter.proofs.plain_run.Statement.{statement}
 use Rattle.interpreter.proofs.plain_run.Tie as tie
 
-refusal-of-requires : tie.Need-refusal-of-requires
-refusal-of-requires c κs = search needs
-
 returns : tie.Need-returns
 returns c = says-refused _ _ _ _ _ (c .before .before .refusal-of .ensures) (c .if1 .taken)
 
@@ -18,12 +15,6 @@ run-requires c κs =
     let checked = c .before .before .before in
     run-ready _ _ _ (ap (λ r. r .number) (sym (checked .refusal-of .ensures)) ∙ c .before .if1 .left)
     (λ i. checked .before .before .shared-slice-known2 .given i .fits)
-
-clear-requires : tie.Need-clear-requires
-clear-requires c κs = search needs
-
-same-length : tie.Need-same-length
-same-length c = search needs
 
 returns-2 : tie.Need-returns-2
 returns-2 c =
@@ -36,4 +27,4 @@ returns-2 c =
 pub plain-run-spec : {M : Type 1} → statement M
 plain-run-spec =
     tie.close
-    (tie.spec refusal-of-requires returns run-requires clear-requires same-length returns-2)
+    (tie.spec (λ c κs. search needs) returns run-requires (λ c κs. search needs) (λ c. search needs) returns-2)

@@ -4,9 +4,6 @@ use borrow.Author.Needs.{needs}
 use Rattle.interpreter.proofs.refusal_of.Statement.{statement}
 use Rattle.interpreter.proofs.refusal_of.Tie as tie
 
-capture-refusal-requires : tie.Need-capture-refusal-requires
-capture-refusal-requires c κs = search needs
-
 returns : tie.Need-returns
 returns c = refused-capture _ _ _ _ (c .before .before .capture-refusal .ensures) (c .if1 .taken)
 
@@ -17,4 +14,4 @@ returns-3 : tie.Need-returns-3
 returns-3 c = refused-not _ _ _ _ (c .before .before .before .capture-refusal .ensures) (c .before .if1 .left) (c .if2 .left)
 
 pub refusal-of-spec : {M : Type 1} → statement M
-refusal-of-spec = tie.close (tie.spec capture-refusal-requires returns returns-2 returns-3)
+refusal-of-spec = tie.close (tie.spec (λ c κs. search needs) returns returns-2 returns-3)

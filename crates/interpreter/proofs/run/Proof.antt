@@ -2,7 +2,6 @@
 use mathlib.Core.Path.{_∙_}
 use Prim.Native.Nat.{_-_}
 use borrow.Author.Needs.{needs}
-use Rattle.image.specs.Image.{machine}
 use Rattle.interpreter.proofs.MachineLaws.{image-long}
 use Rattle.interpreter.proofs.WalkLaws.{Walked, walk-starts, goes-on, walks-on, walks-less, answers}
 use Rattle.interpreter.proofs.run.Statement.{statement}
@@ -28,9 +27,6 @@ loop-holds c =
 step-requires : tie.Need-step-requires Inv-loop μ-loop
 step-requires c κs = c .before .loop .inv .needs
 
-enum-known-result : tie.Need-enum-known-result Inv-loop μ-loop
-enum-known-result c = search needs
-
 loop-less : tie.Need-loop-less Inv-loop μ-loop
 loop-less c =
     let matched = c .before in
@@ -43,9 +39,6 @@ loop-again c =
     let stepped = matched .before .before .before .before in
     let here = stepped .before .before in
     walks-on (here .loop .inv) (goes-on (here .loop .inv) (matched .result .given .1) (stepped .step .ensures))
-
-enum-known-result-2 : tie.Need-enum-known-result-2 Inv-loop μ-loop
-enum-known-result-2 c = search needs
 
 same-length : tie.Need-same-length Inv-loop μ-loop
 same-length c =
@@ -69,9 +62,9 @@ run-spec =
     finals-of-requires
     loop-holds
     step-requires
-    enum-known-result
+    (λ c. search needs)
     loop-less
     loop-again
-    enum-known-result-2
+    (λ c. search needs)
     same-length
     returns)

@@ -5,12 +5,6 @@ use Rattle.machine.specs.Terminating.{accepts-by}
 use Rattle.image.proofs.lookup.accepts.Statement.{statement}
 use Rattle.image.proofs.lookup.accepts.Tie as tie
 
-shr-bit : tie.Need-shr-bit
-shr-bit c = search needs
-
-add-next : tie.Need-add-next
-add-next c = search needs
-
 returns : tie.Need-returns
 unfolding accepts-by
 returns c = simp (eq-eqb _ _ (c .if1 .taken))
@@ -20,4 +14,4 @@ unfolding accepts-by
 returns-2 c = simp (ne-eqb _ _ (c .if1 .left))
 
 pub accepts-spec : {M : Type 1} → statement M
-accepts-spec = tie.close (tie.spec shr-bit add-next returns returns-2)
+accepts-spec = tie.close (tie.spec (λ c. search needs) (λ c. search needs) returns returns-2)

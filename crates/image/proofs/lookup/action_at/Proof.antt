@@ -8,39 +8,15 @@ use Rattle.image.proofs.Lookups.{pop-is}
 use Rattle.image.proofs.lookup.action_at.Statement.{statement}
 use Rattle.image.proofs.lookup.action_at.Tie as tie
 
-shared-slice-read-kind : tie.Need-shared-slice-read-kind
-shared-slice-read-kind c = search needs
-
-led-to-requires : tie.Need-led-to-requires
-led-to-requires c κs = search needs
-
 returns : tie.Need-returns
 unfolding rule-from action-by
 returns c = simp (eq-eqb _ _ (c .before .if1 .taken)) (ap Change (c .led-to .ensures))
-
-led-to-requires-2 : tie.Need-led-to-requires-2
-led-to-requires-2 c κs = search needs
 
 returns-2 : tie.Need-returns-2
 unfolding rule-from action-by
 returns-2 c =
     simp (ne-eqb _ _ (c .before .before .if1 .left), eq-eqb _ _ (c .before .if2 .taken))
     (ap Push (c .led-to2 .ensures))
-
-add-wide : tie.Need-add-wide
-add-wide c = search needs
-
-shared-slice-read-wide : tie.Need-shared-slice-read-wide
-shared-slice-read-wide c = search needs
-
-wide-requires : tie.Need-wide-requires
-wide-requires c κs = search needs
-
-add-returns : tie.Need-add-returns
-add-returns c = search needs
-
-shared-slice-read-returns : tie.Need-shared-slice-read-returns
-shared-slice-read-returns c = search needs
 
 returns-3 : tie.Need-returns-3
 unfolding rule-from
@@ -50,9 +26,6 @@ returns-3 c =
     let start = at-first .before .before .before in
     let rule = rule-from (start .args .image .now) (start .args .offset) in
     pop-is rule _ _ (at-first .if1 .left) (at-kind .before .if2 .left) (at-kind .if3 .taken) (c .before .wide .ensures)
-
-reason-of-requires : tie.Need-reason-of-requires
-reason-of-requires c κs = search needs
 
 returns-4 : tie.Need-returns-4
 unfolding rule-from action-by
@@ -64,16 +37,16 @@ pub action-at-spec : {M : Type 1} → statement M
 action-at-spec =
     tie.close
     (tie.spec
-    shared-slice-read-kind
-    led-to-requires
+    (λ c. search needs)
+    (λ c κs. search needs)
     returns
-    led-to-requires-2
+    (λ c κs. search needs)
     returns-2
-    add-wide
-    shared-slice-read-wide
-    wide-requires
-    add-returns
-    shared-slice-read-returns
+    (λ c. search needs)
+    (λ c. search needs)
+    (λ c κs. search needs)
+    (λ c. search needs)
+    (λ c. search needs)
     returns-3
-    reason-of-requires
+    (λ c κs. search needs)
     returns-4)

@@ -4,9 +4,6 @@ use Rattle.image.proofs.Lookups.{rule-fits, rule-ready, action-is}
 use Rattle.image.proofs.lookup.action_of.Statement.{statement}
 use Rattle.image.proofs.lookup.action_of.Tie as tie
 
-class-under-requires : tie.Need-class-under-requires
-class-under-requires c κs = search needs
-
 rule-offset-requires : tie.Need-rule-offset-requires
 rule-offset-requires c κs = rule-fits (c .before .before .before .pre) (c .class-under .ensures)
 
@@ -21,4 +18,4 @@ returns c =
 
 pub action-of-spec : {M : Type 1} → statement M
 action-of-spec =
-    tie.close (tie.spec class-under-requires rule-offset-requires action-at-requires returns)
+    tie.close (tie.spec (λ c κs. search needs) rule-offset-requires action-at-requires returns)

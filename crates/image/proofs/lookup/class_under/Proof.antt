@@ -11,15 +11,6 @@ use Rattle.image.proofs.lookup.class_under.Tie as tie
 returns : tie.Need-returns
 returns c = kept-classes _ _ (c .before .before .before .pre .counts) ∙ sym (class-left _ _ _ (c .if1 .taken))
 
-sub-i : tie.Need-sub-i
-sub-i c = search needs
-
-cast-i : tie.Need-cast-i
-cast-i c = search needs
-
-shared-slice-read-entry : tie.Need-shared-slice-read-entry
-shared-slice-read-entry c = search needs
-
 cast-entry : tie.Need-cast-entry
 cast-entry c =
     let at-byte = c .before .before in
@@ -37,9 +28,6 @@ shared-slice-read-wide c =
     let at-byte = c .before .before .before in
     let start = at-byte .before .before .before in
     omega (arith, start .pre .unrefused .bytes (start .args .head - 1), good (start .pre .unrefused) .long)
-
-wide-requires : tie.Need-wide-requires
-wide-requires c κs = search needs
 
 add-result : tie.Need-add-result
 add-result c =
@@ -60,13 +48,13 @@ class-under-spec =
     tie.close
     (tie.spec
     returns
-    sub-i
-    cast-i
-    shared-slice-read-entry
+    (λ c. search needs)
+    (λ c. search needs)
+    (λ c. search needs)
     cast-entry
     add-entry
     shared-slice-read-wide
-    wide-requires
+    (λ c κs. search needs)
     add-result
     returns-2
     returns-3)

@@ -5,9 +5,6 @@ use Rattle.image.specs.Image.{moved}
 use Rattle.image.proofs.lookup.moved_head.Statement.{statement}
 use Rattle.image.proofs.lookup.moved_head.Tie as tie
 
-add-result : tie.Need-add-result
-add-result c = search needs
-
 sub-result : tie.Need-sub-result
 sub-result c = c .before .before .pre .left-room (c .if2 .taken)
 
@@ -24,4 +21,4 @@ unfolding moved
 returns-3 c = simp (ne-eqb _ _ (c .before .if1 .left), ne-eqb _ _ (c .if2 .left))
 
 pub moved-head-spec : {M : Type 1} → statement M
-moved-head-spec = tie.close (tie.spec add-result sub-result returns returns-2 returns-3)
+moved-head-spec = tie.close (tie.spec (λ c. search needs) sub-result returns returns-2 returns-3)

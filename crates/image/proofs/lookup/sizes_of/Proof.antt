@@ -7,25 +7,13 @@ use Rattle.image.proofs.Lookups.{rules-few}
 use Rattle.image.proofs.lookup.sizes_of.Statement.{statement}
 use Rattle.image.proofs.lookup.sizes_of.Tie as tie
 
-cast-n : tie.Need-cast-n
-cast-n c = search needs
-
-add-places : tie.Need-add-places
-add-places c = search needs
-
 shared-slice-read-wide : tie.Need-shared-slice-read-wide
 shared-slice-read-wide c = omega (arith, good (c .before .before .before .pre) .long)
-
-wide-requires : tie.Need-wide-requires
-wide-requires c κs = search needs
 
 shared-slice-read-wide-2 : tie.Need-shared-slice-read-wide-2
 shared-slice-read-wide-2 c =
     let at-places = c .before .before in
     omega (arith, good (at-places .before .before .before .pre) .long)
-
-wide-requires-2 : tie.Need-wide-requires-2
-wide-requires-2 c κs = search needs
 
 add-rules : tie.Need-add-rules
 unfolding classes
@@ -49,12 +37,12 @@ pub sizes-of-spec : {M : Type 1} → statement M
 sizes-of-spec =
     tie.close
     (tie.spec
-    cast-n
-    add-places
+    (λ c. search needs)
+    (λ c. search needs)
     shared-slice-read-wide
-    wide-requires
+    (λ c κs. search needs)
     shared-slice-read-wide-2
-    wide-requires-2
+    (λ c κs. search needs)
     add-rules
     mul-rules
     returns)

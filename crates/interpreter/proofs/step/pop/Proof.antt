@@ -5,12 +5,6 @@ use Rattle.interpreter.proofs.CodeLaws.{returned-below, pop-over, pop-m
 use Rattle.interpreter.proofs.step.pop.Statement.{statement}
 use Rattle.interpreter.proofs.step.pop.Tie as tie
 
-add-after : tie.Need-add-after
-add-after c = search needs
-
-returned-requires : tie.Need-returned-requires
-returned-requires c κs = search needs
-
 accepts-requires : tie.Need-accepts-requires
 accepts-requires c κs =
     let start = c .before .before .before .before in
@@ -20,15 +14,6 @@ accepts-requires c κs =
 returns : tie.Need-returns
 returns c = pop-over _ _ _ _ _ _ (c .before .before .returned .ensures) _ (c .before .if1 .taken) (c .accepts .ensures)
 
-sub-last : tie.Need-sub-last
-sub-last c = search needs
-
-mul-cell : tie.Need-mul-cell
-mul-cell c = search needs
-
-shared-slice-read-cell : tie.Need-shared-slice-read-cell
-shared-slice-read-cell c = search needs
-
 returns-2 : tie.Need-returns-2
 returns-2 c = pop-made _ _ _ _ _ _ (c .before .before .returned .ensures) _ refl (c .before .if1 .left)
 
@@ -36,11 +21,11 @@ pub pop-spec : {M : Type 1} → statement M
 pop-spec =
     tie.close
     (tie.spec
-    add-after
-    returned-requires
+    (λ c. search needs)
+    (λ c κs. search needs)
     accepts-requires
     returns
-    sub-last
-    mul-cell
-    shared-slice-read-cell
+    (λ c. search needs)
+    (λ c. search needs)
+    (λ c. search needs)
     returns-2)

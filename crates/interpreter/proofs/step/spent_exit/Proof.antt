@@ -25,9 +25,6 @@ no-stop (Change c) h = refl
 no-stop (Push c) h = refl
 no-stop (Pop p r) h = refl
 
-enum-known-action : tie.Need-enum-known-action
-enum-known-action c = search needs
-
 returns : tie.Need-returns
 unfolding spent-exit
 returns c = rw (c .before .action .given .1) refl
@@ -36,4 +33,4 @@ returns-2 : tie.Need-returns-2
 returns-2 c = no-stop _ (c .match .keys2)
 
 pub spent-exit-spec : {M : Type 1} → statement M
-spent-exit-spec = tie.close (tie.spec enum-known-action returns returns-2)
+spent-exit-spec = tie.close (tie.spec (λ c. search needs) returns returns-2)

@@ -5,17 +5,8 @@ use Rattle.interpreter.proofs.MachineLaws.{take-ready}
 use Rattle.interpreter.proofs.step.step.Statement.{statement}
 use Rattle.interpreter.proofs.step.step.Tie as tie
 
-action-of-requires : tie.Need-action-of-requires
-action-of-requires c κs = search needs
-
-spent-exit-requires : tie.Need-spent-exit-requires
-spent-exit-requires c κs = search needs
-
 returns : tie.Need-returns
 returns c = spent-stepped _ _ _ _ _ _ (c .before .action-of .ensures) _ (c .before .before .if1 .taken) (c .spent-exit .ensures)
-
-action-of-requires-2 : tie.Need-action-of-requires-2
-action-of-requires-2 c κs = search needs
 
 take-requires : tie.Need-take-requires
 take-requires c κs =
@@ -23,9 +14,6 @@ take-requires c κs =
     let tested = looked .before in
     let start = tested .before .before .before .before in
     rw (looked .action-of2 .ensures) (take-ready (start .pre) (search needs))
-
-same-length : tie.Need-same-length
-same-length c = search needs
 
 returns-2 : tie.Need-returns-2
 returns-2 c =
@@ -39,4 +27,4 @@ returns-2 c =
 pub step-spec : {M : Type 1} → statement M
 step-spec =
     tie.close
-    (tie.spec action-of-requires spent-exit-requires returns action-of-requires-2 take-requires same-length returns-2)
+    (tie.spec (λ c κs. search needs) (λ c κs. search needs) returns (λ c κs. search needs) take-requires (λ c. search needs) returns-2)
