@@ -1,5 +1,5 @@
 -- `validator::check::body_refusal` meets its contract: each return is the first refusal in the order of the table. Assumes nothing.
-use mathlib.Core.Path.{_≡_, _∙_, ap}
+use mathlib.Core.Path.{_∙_, ap}
 use Prim.Native.Nat.{ℕ, _+_, _*_}
 use borrow.Author.Tests.{eq-eqb, ne-eqb}
 use borrow.Author.Needs.{needs}
@@ -8,23 +8,8 @@ use Rattle.refusal.specs.First.{or-else}
 use Rattle.validator.proofs.check.body_refusal.Statement.{statement}
 use Rattle.validator.proofs.check.body_refusal.Tie as tie
 
-rule-count-requires : tie.Need-rule-count-requires
-rule-count-requires c κs = search needs
-
-cast-count : tie.Need-cast-count
-cast-count c = search needs
-
-mul-expected : tie.Need-mul-expected
-mul-expected c = search needs
-
-add-expected : tie.Need-add-expected
-add-expected c = search needs
-
 returns : tie.Need-returns
 returns c = simp (← c .before .rule-count .ensures, ne-eqb _ _ (c .if1 .taken))
-
-class-map-requires : tie.Need-class-map-requires
-class-map-requires c κs = search needs
 
 returns-2 : tie.Need-returns-2
 unfolding or-else
@@ -61,12 +46,12 @@ pub body-refusal-spec : {M : Type 1} → statement M
 body-refusal-spec =
     tie.close
     (tie.spec
-    rule-count-requires
-    cast-count
-    mul-expected
-    add-expected
+    (λ c κs. search needs)
+    (λ c. search needs)
+    (λ c. search needs)
+    (λ c. search needs)
     returns
-    class-map-requires
+    (λ c κs. search needs)
     returns-2
     rules-requires
     returns-3)

@@ -5,9 +5,6 @@ use Rattle.refusal.specs.Checking.{checked}
 use Rattle.validator.proofs.check.check_image.Statement.{statement}
 use Rattle.validator.proofs.check.check_image.Tie as tie
 
-first-refusal-requires : tie.Need-first-refusal-requires
-first-refusal-requires c κs = search needs
-
 returns : tie.Need-returns
 unfolding checked
 returns c = simp (← c .before .before .first-refusal .ensures, eq-eqb _ _ (c .if1 .taken))
@@ -17,4 +14,4 @@ unfolding checked
 returns-2 c = simp (← c .before .before .first-refusal .ensures, ne-eqb _ _ (c .if1 .left))
 
 pub check-image-spec : {M : Type 1} → statement M
-check-image-spec = tie.close (tie.spec first-refusal-requires returns returns-2)
+check-image-spec = tie.close (tie.spec (λ c κs. search needs) returns returns-2)

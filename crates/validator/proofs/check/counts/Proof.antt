@@ -9,21 +9,9 @@ use Rattle.image.proofs.CheckGood.{count-right}
 use Rattle.validator.proofs.check.counts.Statement.{statement}
 use Rattle.validator.proofs.check.counts.Tie as tie
 
-shared-slice-read-states : tie.Need-shared-slice-read-states
-shared-slice-read-states c = search needs
-
-count-wrong-requires : tie.Need-count-wrong-requires
-count-wrong-requires c κs = search needs
-
 returns : tie.Need-returns
 unfolding counts states
 returns c = simp (← c .before .count-wrong .ensures, c .if1 .taken)
-
-shared-slice-read-count-wrong : tie.Need-shared-slice-read-count-wrong
-shared-slice-read-count-wrong c = search needs
-
-count-wrong-requires-2 : tie.Need-count-wrong-requires-2
-count-wrong-requires-2 c κs = search needs
 
 returns-2 : tie.Need-returns-2
 unfolding counts states classes
@@ -34,12 +22,6 @@ returns-2 c =
       ← c .before .count-wrong2 .ensures,
       c .if2 .taken,
     )
-
-shared-slice-read-count-wrong-2 : tie.Need-shared-slice-read-count-wrong-2
-shared-slice-read-count-wrong-2 c = search needs
-
-count-wrong-requires-3 : tie.Need-count-wrong-requires-3
-count-wrong-requires-3 c κs = search needs
 
 returns-3 : tie.Need-returns-3
 unfolding counts states classes symbols
@@ -56,9 +38,6 @@ returns-3 c =
       ← c .before .count-wrong3 .ensures,
       c .if3 .taken,
     )
-
-shared-slice-read-zero : tie.Need-shared-slice-read-zero
-shared-slice-read-zero c = search needs
 
 returns-4 : tie.Need-returns-4
 unfolding counts states classes symbols
@@ -79,9 +58,6 @@ returns-4 c =
       ne-eqb _ _ (c .if4 .taken),
     )
 
-read-u32-requires : tie.Need-read-u32-requires
-read-u32-requires c κs = search needs
-
 within-requires : tie.Need-within-requires
 within-requires c κs =
     let before-end = c .before .before .before .before in
@@ -90,9 +66,6 @@ within-requires c κs =
     let at-count-wrong = at-if1 .before in
     count-right _ Format.max-states
     (sym (at-count-wrong .count-wrong .ensures) ∙ at-if1 .if1 .left) .1
-
-refuse-unless-requires : tie.Need-refuse-unless-requires
-refuse-unless-requires c κs = search needs
 
 returns-5 : tie.Need-returns-5
 unfolding counts states classes symbols
@@ -122,18 +95,18 @@ pub counts-spec : {M : Type 1} → statement M
 counts-spec =
     tie.close
     (tie.spec
-    shared-slice-read-states
-    count-wrong-requires
+    (λ c. search needs)
+    (λ c κs. search needs)
     returns
-    shared-slice-read-count-wrong
-    count-wrong-requires-2
+    (λ c. search needs)
+    (λ c κs. search needs)
     returns-2
-    shared-slice-read-count-wrong-2
-    count-wrong-requires-3
+    (λ c. search needs)
+    (λ c κs. search needs)
     returns-3
-    shared-slice-read-zero
+    (λ c. search needs)
     returns-4
-    read-u32-requires
+    (λ c κs. search needs)
     within-requires
-    refuse-unless-requires
+    (λ c κs. search needs)
     returns-5)

@@ -5,15 +5,9 @@ use Rattle.image.specs.Refusals.{directory}
 use Rattle.validator.proofs.check.directory.Statement.{statement}
 use Rattle.validator.proofs.check.directory.Tie as tie
 
-pair-is-requires : tie.Need-pair-is-requires
-pair-is-requires c κs = search needs
-
 returns : tie.Need-returns
 unfolding directory
 returns c = simp (← c .before .pair-is .ensures, c .if1 .taken)
-
-pair-is-requires-2 : tie.Need-pair-is-requires-2
-pair-is-requires-2 c κs = search needs
 
 returns-2 : tie.Need-returns-2
 unfolding directory
@@ -35,12 +29,6 @@ returns-3 c =
       c .before .if2 .left,
       lt-leb _ _ (c .if3 .taken),
     )
-
-pair-is-requires-3 : tie.Need-pair-is-requires-3
-pair-is-requires-3 c κs = search needs
-
-refuse-unless-requires : tie.Need-refuse-unless-requires
-refuse-unless-requires c κs = search needs
 
 returns-4 : tie.Need-returns-4
 unfolding directory
@@ -64,11 +52,11 @@ pub directory-spec : {M : Type 1} → statement M
 directory-spec =
     tie.close
     (tie.spec
-    pair-is-requires
+    (λ c κs. search needs)
     returns
-    pair-is-requires-2
+    (λ c κs. search needs)
     returns-2
     returns-3
-    pair-is-requires-3
-    refuse-unless-requires
+    (λ c κs. search needs)
+    (λ c κs. search needs)
     returns-4)

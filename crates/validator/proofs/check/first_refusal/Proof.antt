@@ -14,9 +14,6 @@ returns : tie.Need-returns
 unfolding image-refusal
 returns c = simp (lt-ltb _ _ (c .if1 .taken))
 
-directory-requires : tie.Need-directory-requires
-directory-requires c κs = search needs
-
 returns-2 : tie.Need-returns-2
 unfolding image-refusal or-else
 returns-2 c =
@@ -25,9 +22,6 @@ returns-2 c =
       ← c .before .before .directory .ensures,
       ne-eqb _ _ (c .if2 .taken),
     )
-
-counts-requires : tie.Need-counts-requires
-counts-requires c κs = search needs
 
 returns-3 : tie.Need-returns-3
 unfolding image-refusal or-else
@@ -64,9 +58,9 @@ first-refusal-spec =
     tie.close
     (tie.spec
     returns
-    directory-requires
+    (λ c κs. search needs)
     returns-2
-    counts-requires
+    (λ c κs. search needs)
     returns-3
     body-refusal-requires
     returns-4)

@@ -4,15 +4,6 @@ use Rattle.validator.proofs.CheckParts.{offset-right, offset-wrong}
 use Rattle.validator.proofs.check.pair_is.Statement.{statement}
 use Rattle.validator.proofs.check.pair_is.Tie as tie
 
-read-pair-requires : tie.Need-read-pair-requires
-read-pair-requires c κs = search needs
-
-cast-first : tie.Need-cast-first
-cast-first c = search needs
-
-cast-second : tie.Need-cast-second
-cast-second c = search needs
-
 returns : tie.Need-returns
 returns c = offset-right _ _ _ _ _ (c .before .before .before .read-pair .ensures) (c .if1 .taken)
 
@@ -20,4 +11,4 @@ returns-2 : tie.Need-returns-2
 returns-2 c = offset-wrong _ _ _ _ _ (c .before .before .before .read-pair .ensures) (c .if1 .left)
 
 pub pair-is-spec : {M : Type 1} → statement M
-pair-is-spec = tie.close (tie.spec read-pair-requires cast-first cast-second returns returns-2)
+pair-is-spec = tie.close (tie.spec (λ c κs. search needs) (λ c. search needs) (λ c. search needs) returns returns-2)

@@ -9,20 +9,11 @@ use Rattle.validator.proofs.CheckParts.{two-counts, three-counts}
 use Rattle.validator.proofs.check.rule_count.Statement.{statement}
 use Rattle.validator.proofs.check.rule_count.Tie as tie
 
-shared-slice-read-states : tie.Need-shared-slice-read-states
-shared-slice-read-states c = search needs
-
 cast-states : tie.Need-cast-states
 cast-states c = omega (arith, c .shared-slice-known .given Format.states-offset)
 
-shared-slice-read-classes : tie.Need-shared-slice-read-classes
-shared-slice-read-classes c = search needs
-
 cast-classes : tie.Need-cast-classes
 cast-classes c = omega (arith, c .shared-slice-known2 .given Format.classes-offset)
-
-shared-slice-read-symbols : tie.Need-shared-slice-read-symbols
-shared-slice-read-symbols c = search needs
 
 cast-symbols : tie.Need-cast-symbols
 cast-symbols c = omega (arith, c .shared-slice-known3 .given Format.symbols-offset)
@@ -36,9 +27,10 @@ mul-result c =
 
 mul-result-2 : tie.Need-mul-result-2
 mul-result-2 c =
+    let known = c .shared-slice-known3 in
     omega (
       arith,
-      three-counts _ _ _ (c .shared-slice-known3 .given Format.states-offset .fits) (c .shared-slice-known3 .given Format.classes-offset .fits) (c .shared-slice-known3 .given Format.symbols-offset .fits),
+      three-counts _ _ _ (known .given Format.states-offset .fits) (known .given Format.classes-offset .fits) (known .given Format.symbols-offset .fits),
     )
 
 returns : tie.Need-returns
@@ -49,11 +41,11 @@ pub rule-count-spec : {M : Type 1} → statement M
 rule-count-spec =
     tie.close
     (tie.spec
-    shared-slice-read-states
+    (λ c. search needs)
     cast-states
-    shared-slice-read-classes
+    (λ c. search needs)
     cast-classes
-    shared-slice-read-symbols
+    (λ c. search needs)
     cast-symbols
     add-result
     mul-result

@@ -6,11 +6,8 @@ use Rattle.validator.proofs.CheckParts.{no-quotient}
 use Rattle.validator.proofs.check.within.Statement.{statement}
 use Rattle.validator.proofs.check.within.Tie as tie
 
-shr-rest : tie.Need-shr-rest
-shr-rest c = search needs
-
 returns : tie.Need-returns
 returns c = rw (no-quotient (c .args .finals) (2 ^ c .args .states) (pow-pos _))
 
 pub within-spec : {M : Type 1} → statement M
-within-spec = tie.close (tie.spec shr-rest returns)
+within-spec = tie.close (tie.spec (λ c. search needs) returns)

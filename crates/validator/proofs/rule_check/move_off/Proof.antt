@@ -9,9 +9,6 @@ use Rattle.validator.proofs.CheckParts.{at-left}
 use Rattle.validator.proofs.rule_check.move_off.Statement.{statement}
 use Rattle.validator.proofs.rule_check.move_off.Tie as tie
 
-shared-slice-read-left : tie.Need-shared-slice-read-left
-shared-slice-read-left c = search needs
-
 cast-left : tie.Need-cast-left
 cast-left c = omega (arith, c .shared-slice-known .given Format.classes-offset)
 
@@ -32,4 +29,4 @@ returns-3 c = simp (ne-eqb _ _ (c .before .if1 .left), ne-eqb _ _ (c .if2 .left)
 
 pub move-off-spec : {M : Type 1} → statement M
 move-off-spec =
-    tie.close (tie.spec shared-slice-read-left cast-left returns add-right returns-2 returns-3)
+    tie.close (tie.spec (λ c. search needs) cast-left returns add-right returns-2 returns-3)

@@ -8,45 +8,15 @@ use Rattle.validator.proofs.RuleCases.{stopping, beyond-states, popping
 use Rattle.validator.proofs.rule_check.rule_bad.Statement.{statement}
 use Rattle.validator.proofs.rule_check.rule_bad.Tie as tie
 
-shared-slice-read-kind : tie.Need-shared-slice-read-kind
-shared-slice-read-kind c = search needs
-
-add-state : tie.Need-add-state
-add-state c = search needs
-
-shared-slice-read-state : tie.Need-shared-slice-read-state
-shared-slice-read-state c = search needs
-
-add-symbol : tie.Need-add-symbol
-add-symbol c = search needs
-
-shared-slice-read-symbol : tie.Need-shared-slice-read-symbol
-shared-slice-read-symbol c = search needs
-
-add-direction : tie.Need-add-direction
-add-direction c = search needs
-
-shared-slice-read-direction : tie.Need-shared-slice-read-direction
-shared-slice-read-direction c = search needs
-
 returns : tie.Need-returns
 unfolding rule-bad rule-from
 returns c = simp (lt-ltb _ _ (c .if1 .taken))
-
-stops-run-requires : tie.Need-stops-run-requires
-stops-run-requires c κs = search needs
-
-says-more-requires : tie.Need-says-more-requires
-says-more-requires c κs = search needs
 
 returns-2 : tie.Need-returns-2
 unfolding rule-from
 returns-2 c =
     c .says-more .ensures
     ∙ sym (stopping _ _ _ (le-ltb _ _ (c .before .before .before .if1 .left)) (sym (c .before .before .stops-run .ensures) ∙ c .before .if2 .taken))
-
-shared-slice-read-states : tie.Need-shared-slice-read-states
-shared-slice-read-states c = search needs
 
 returns-3 : tie.Need-returns-3
 unfolding rule-from states
@@ -56,9 +26,6 @@ returns-3 c =
     (le-ltb _ _ (c .before .before .before .before .if1 .left))
     (sym (c .before .before .before .stops-run .ensures) ∙ c .before .before .if2 .left)
     (le-leb _ _ (c .if3 .taken)))
-
-pop-wrong-requires : tie.Need-pop-wrong-requires
-pop-wrong-requires c κs = search needs
 
 returns-4 : tie.Need-returns-4
 unfolding rule-from states
@@ -73,9 +40,6 @@ returns-4 c =
     (sym (at-stops .stops-run .ensures) ∙ at-if2 .if2 .left)
     (lt-leb _ _ (at-if3 .if3 .left))
     (eq-eqb _ _ (c .before .if4 .taken)))
-
-shared-slice-read-symbols : tie.Need-shared-slice-read-symbols
-shared-slice-read-symbols c = search needs
 
 returns-5 : tie.Need-returns-5
 unfolding rule-from states symbols
@@ -108,9 +72,6 @@ returns-6 c =
     (lt-leb _ _ (c .before .if5 .left))
     (lt-ltb _ _ (c .if6 .taken)))
 
-move-off-requires : tie.Need-move-off-requires
-move-off-requires c κs = search needs
-
 returns-7 : tie.Need-returns-7
 unfolding rule-from states symbols
 returns-7 c =
@@ -133,23 +94,23 @@ pub rule-bad-spec : {M : Type 1} → statement M
 rule-bad-spec =
     tie.close
     (tie.spec
-    shared-slice-read-kind
-    add-state
-    shared-slice-read-state
-    add-symbol
-    shared-slice-read-symbol
-    add-direction
-    shared-slice-read-direction
+    (λ c. search needs)
+    (λ c. search needs)
+    (λ c. search needs)
+    (λ c. search needs)
+    (λ c. search needs)
+    (λ c. search needs)
+    (λ c. search needs)
     returns
-    stops-run-requires
-    says-more-requires
+    (λ c κs. search needs)
+    (λ c κs. search needs)
     returns-2
-    shared-slice-read-states
+    (λ c. search needs)
     returns-3
-    pop-wrong-requires
+    (λ c κs. search needs)
     returns-4
-    shared-slice-read-symbols
+    (λ c. search needs)
     returns-5
     returns-6
-    move-off-requires
+    (λ c κs. search needs)
     returns-7)

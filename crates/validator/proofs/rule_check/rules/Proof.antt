@@ -33,9 +33,6 @@ shared-slice-read-symbols c = omega arith
 cast-symbols : tie.Need-cast-symbols Inv-loop μ-loop
 cast-symbols c = omega (arith, c .shared-slice-known3 .given Format.symbols-offset)
 
-first-requires : tie.Need-first-requires Inv-loop μ-loop
-first-requires c κs = search needs
-
 loop-holds : tie.Need-loop-holds Inv-loop μ-loop
 loop-holds c = left-as (c .first .ensures) (rules-start _ (c .before .before .before .before .pre .some-symbol))
 
@@ -104,7 +101,7 @@ rules-spec =
     add-columns
     shared-slice-read-symbols
     cast-symbols
-    first-requires
+    (λ c κs. search needs)
     loop-holds
     rule-bad-requires
     returns
