@@ -186,7 +186,8 @@ module _ {bs cs : List ℕ} {E : Environment} {r : Registers} {ns ws : List ℕ}
 
 -- a terminator that is known can be resumed from
 pub closed-resumes :
-    {bs cs : List ℕ} {E : Environment} {r : Registers} {d : Config} {k : ℕ} {ns ws : List ℕ} → Closable bs cs E r d k ns ws → {a : Action} → a ≡ action bs cs d → Resumable E d k a (r .at .head) (r .depth) ns ws
+    {bs cs : List ℕ} {E : Environment} {r : Registers} {d : Config} {k : ℕ} {ns ws : List ℕ} → Closable bs cs E r d k ns ws →
+    {a : Action} → a ≡ action bs cs d → Resumable E d k a (r .at .head) (r .depth) ns ws
 closed-resumes y f =
     record {
       terminator = y .terminator;

@@ -1,7 +1,6 @@
 // The note of an open configuration: made, and taken apart. Its layout stands in specs/Cells.antt.
 use machine::Config;
 ghost use mathlib.Core.Path.{_≡_};
-ghost use Prim.Native.Nat.{_<_};
 ghost use Rattle.chain.specs.Cells;
 ghost use Rattle.chain.specs.code.CellParts.{Note-fits};
 

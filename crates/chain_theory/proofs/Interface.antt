@@ -1,4 +1,4 @@
--- What the call `judge` takes from the theory of the chain: it is correct, up to its verdict every state is ready for a step, and every state keeps its configuration's number. Assumes nothing.
+-- What the call `judge` takes from the theory of the chain: it is correct, and up to its verdict every state is ready for a step. Assumes nothing.
 use mathlib.Core.Path.{_≡_, sym, _∙_}
 use mathlib.Core.List.{List}
 use mathlib.Core.Option.{none, some}
@@ -9,9 +9,7 @@ use Rattle.image.specs.Refusals.{Unrefused}
 use Rattle.chain.specs.declared.JudgeState.{JudgeState}
 use Rattle.chain.specs.Chain.{Chain-correct, chain, reached}
 use Rattle.chain.specs.code.Ready.{Ready}
-use Rattle.chain.specs.NumberKept.{Number-kept}
 use Rattle.chain_theory.proofs.ChainJudges as Theory
-use Rattle.chain_theory.proofs.NumberKept as Kept
 
 pub chain-judges : (bs cs : List ℕ) → Unrefused bs cs → Chain-correct JudgeState chain bs cs
 chain-judges bs cs u = Theory.chain-judges bs cs u
@@ -32,6 +30,3 @@ pub chain-ready :
     Ready bs cs (reached chain bs cs n .state .environment) (reached chain bs cs n .state .registers) (reached chain bs cs n .notes) (reached chain bs cs n .work)
 unfolding Theory.registers-at
 chain-ready bs cs u n h = rw (Theory.environment-at bs cs n) (Theory.ready-at bs cs u n (omega (arith, steps-early bs cs u)))
-
-pub number-kept : Number-kept chain (λ (s : JudgeState). s .registers .number) (λ (s : JudgeState). s .registers .at)
-number-kept = Kept.number-kept

@@ -4,15 +4,6 @@ use borrow.Author.Needs.{needs}
 use Rattle.chain.proofs.numbers.moved_number.Statement.{statement}
 use Rattle.chain.proofs.numbers.moved_number.Tie as tie
 
-add-back : tie.Need-add-back
-add-back c = search needs
-
-sub-back : tie.Need-sub-back
-sub-back c = search needs
-
-row-of-requires : tie.Need-row-of-requires
-row-of-requires c κs = search needs
-
 add-row : tie.Need-add-row
 add-row c = row-room (c .before .before .before .before .pre) (c .row-of .ensures)
 
@@ -26,9 +17,11 @@ in-row-requires : tie.Need-in-row-requires
 in-row-requires c κs = moved-fits (c .before .before .before .before .pre) (c .row-of .ensures)
 
 returns : tie.Need-returns
-returns c = let rowed = c .before in moved-is (rowed .before .before .before .before .pre) (rowed .row-of .ensures) (c .in-row .ensures)
+returns c =
+    let rowed = c .before in
+    moved-is (rowed .before .before .before .before .pre) (rowed .row-of .ensures) (c .in-row .ensures)
 
 pub moved-number-spec : {M : Type 1} → statement M
 moved-number-spec =
     tie.close
-    (tie.spec add-back sub-back row-of-requires add-row mul-row sub-row in-row-requires returns)
+    (tie.spec (λ c. search needs) (λ c. search needs) (λ c κs. search needs) add-row mul-row sub-row in-row-requires returns)

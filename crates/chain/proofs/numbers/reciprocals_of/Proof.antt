@@ -6,21 +6,12 @@ use borrow.Author.Needs.{needs}
 use Rattle.chain.proofs.numbers.reciprocals_of.Statement.{statement}
 use Rattle.chain.proofs.numbers.reciprocals_of.Tie as tie
 
-div-over-symbols : tie.Need-div-over-symbols
-div-over-symbols c = search needs
-
 add-over-symbols : tie.Need-add-over-symbols
 add-over-symbols c = omega (arith, div-le-self symbols-scale (c .args .symbols))
-
-div-over-stride : tie.Need-div-over-stride
-div-over-stride c = search needs
 
 add-over-stride : tie.Need-add-over-stride
 add-over-stride c = omega (arith, div-le-self stride-scale (c .args .stride))
 
-returns : tie.Need-returns
-returns c = search needs
-
 pub reciprocals-of-spec : {M : Type 1} → statement M
 reciprocals-of-spec =
-    tie.close (tie.spec div-over-symbols add-over-symbols div-over-stride add-over-stride returns)
+    tie.close (tie.spec (λ c. search needs) add-over-symbols (λ c. search needs) add-over-stride (λ c. search needs))

@@ -4,17 +4,11 @@ use borrow.Author.Needs.{needs}
 use Rattle.chain.proofs.step.cleared.Statement.{statement}
 use Rattle.chain.proofs.step.cleared.Tie as tie
 
-registers-of-requires : tie.Need-registers-of-requires
-registers-of-requires c κs = search needs
-
 returns : tie.Need-returns
 returns c = simp (eq-eqb _ _ (c .before .if1 .taken)) (c .registers-of .ensures)
-
-registers-of-requires-2 : tie.Need-registers-of-requires-2
-registers-of-requires-2 c κs = search needs
 
 returns-2 : tie.Need-returns-2
 returns-2 c = simp (ne-eqb _ _ (c .before .if1 .left)) (c .registers-of2 .ensures)
 
 pub cleared-spec : {M : Type 1} → statement M
-cleared-spec = tie.close (tie.spec registers-of-requires returns registers-of-requires-2 returns-2)
+cleared-spec = tie.close (tie.spec (λ c κs. search needs) returns (λ c κs. search needs) returns-2)

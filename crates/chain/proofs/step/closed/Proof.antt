@@ -7,9 +7,6 @@ use borrow.Author.Needs.{needs}
 use Rattle.chain.proofs.step.closed.Statement.{statement}
 use Rattle.chain.proofs.step.closed.Tie as tie
 
-action-of-requires : tie.Need-action-of-requires
-action-of-requires c κs = search needs
-
 resumed-requires : tie.Need-resumed-requires
 resumed-requires c κs =
     let back4 = c .before .before .before .before in
@@ -18,9 +15,6 @@ resumed-requires c κs =
 returns : tie.Need-returns
 unfolding Step.closed machine
 returns c = simp (c .before .before .if1 .taken) (rw (c .resumed .ensures, c .before .action-of .ensures))
-
-registers-of-requires : tie.Need-registers-of-requires
-registers-of-requires c κs = search needs
 
 returns-2 : tie.Need-returns-2
 unfolding Step.closed machine
@@ -31,4 +25,4 @@ returns-2 c =
 pub closed-spec : {M : Type 1} → statement M
 closed-spec =
     tie.close
-    (tie.spec action-of-requires resumed-requires returns registers-of-requires returns-2)
+    (tie.spec (λ c κs. search needs) resumed-requires returns (λ c κs. search needs) returns-2)

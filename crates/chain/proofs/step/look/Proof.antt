@@ -5,12 +5,6 @@ use borrow.Author.Needs.{needs}
 use Rattle.chain.proofs.step.look.Statement.{statement}
 use Rattle.chain.proofs.step.look.Tie as tie
 
-cast-i : tie.Need-cast-i
-cast-i c = search needs
-
-mul-cell : tie.Need-mul-cell
-mul-cell c = search needs
-
 slice-read-cell : tie.Need-slice-read-cell
 slice-read-cell c =
     let back4 = c .before .before .before .before in
@@ -27,12 +21,6 @@ first-look-requires c κs =
     let back8 = back4 .before .before .before .before in
     first-ready (back8 .before .before .before .pre .ready) (c .before .before .before .if1 .taken) (c .before .before .action-of .ensures)
 
-same-length : tie.Need-same-length
-same-length c = search needs
-
-same-length-2 : tie.Need-same-length-2
-same-length-2 c = search needs
-
 returns : tie.Need-returns
 returns c =
     let back4 = c .before .before .before .before in
@@ -40,9 +28,6 @@ returns c =
     let acted4 = acted .before .before .before .before in
     let acted8 = acted4 .before .before .before .before in
     look-unseen (acted8 .before .pre .ready .number-is) (note-unseen (acted .before .if1 .taken)) (acted .action-of .ensures) (c .before .before .before .before .first-look .ensures)
-
-registers-of-requires : tie.Need-registers-of-requires
-registers-of-requires c κs = search needs
 
 returns-2 : tie.Need-returns-2
 returns-2 c =
@@ -70,37 +55,32 @@ closed-requires c κs =
     let start = tested8 .before in
     closable (start .pre .ready) _ (note-closed _ (tested .before .if1 .left) (start .pre .told _) (tested .if2 .left)) (c .before .before .config-from .ensures)
 
-same-length-3 : tie.Need-same-length-3
-same-length-3 c = search needs
-
-same-length-4 : tie.Need-same-length-4
-same-length-4 c = search needs
-
 returns-3 : tie.Need-returns-3
 returns-3 c =
     let tested = c .before .before .before .before in
     let tested4 = tested .before .before .before .before in
     let tested8 = tested4 .before .before .before .before in
     let start = tested8 .before in
-    look-closed (start .pre .ready .number-is) (note-closed _ (tested .before .if1 .left) (start .pre .told _) (tested .if2 .left)) (c .before .before .before .config-from .ensures) (c .closed .ensures)
+    let note = note-closed _ (tested .before .if1 .left) (start .pre .told _) (tested .if2 .left) in
+    look-closed (start .pre .ready .number-is) note (c .before .before .before .config-from .ensures) (c .closed .ensures)
 
 pub look-spec : {M : Type 1} → statement M
 look-spec =
     tie.close
     (tie.spec
-    cast-i
-    mul-cell
+    (λ c. search needs)
+    (λ c. search needs)
     slice-read-cell
     action-of-requires
     first-look-requires
-    same-length
-    same-length-2
+    (λ c. search needs)
+    (λ c. search needs)
     returns
-    registers-of-requires
+    (λ c κs. search needs)
     returns-2
     sub-number
     config-from-requires
     closed-requires
-    same-length-3
-    same-length-4
+    (λ c. search needs)
+    (λ c. search needs)
     returns-3)

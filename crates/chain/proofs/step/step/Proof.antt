@@ -4,42 +4,21 @@ use borrow.Author.Needs.{needs}
 use Rattle.chain.proofs.step.step.Statement.{statement}
 use Rattle.chain.proofs.step.step.Tie as tie
 
-enum-told : tie.Need-enum-told
-enum-told c = search needs
-
 look-requires : tie.Need-look-requires
 look-requires c κs =
     let back4 = c .before .before .before .before in
     look-ready (back4 .before .before .before .before .pre) (c .before .before .enum-told .given .1)
-
-enum-told-2 : tie.Need-enum-told-2
-enum-told-2 c = search needs
 
 unwind-requires : tie.Need-unwind-requires
 unwind-requires c κs =
     let back4 = c .before .before .before .before in
     unwind-ready (back4 .before .before .before .before .pre) (c .before .before .enum-told2 .given .1)
 
-enum-known-mode : tie.Need-enum-known-mode
-enum-known-mode c = search needs
-
 clear-requires : tie.Need-clear-requires
 clear-requires c κs =
     let back4 = c .before .before .before .before in
     let back8 = back4 .before .before .before .before in
     clear-ready (back8 .before .pre) (c .before .before .before .mode .given .1)
-
-enum-told-3 : tie.Need-enum-told-3
-enum-told-3 c = search needs
-
-unmoved-requires : tie.Need-unmoved-requires
-unmoved-requires c κs = search needs
-
-same-length : tie.Need-same-length
-same-length c = search needs
-
-same-length-2 : tie.Need-same-length-2
-same-length-2 c = search needs
 
 returns : tie.Need-returns
 returns c =
@@ -48,24 +27,12 @@ returns c =
     let looked8 = looked4 .before .before .before .before in
     says-by (looked8 .before .pre) (looked .before .before .before .enum-told .given .1) (looked .look .ensures)
 
-same-length-3 : tie.Need-same-length-3
-same-length-3 c = search needs
-
-same-length-4 : tie.Need-same-length-4
-same-length-4 c = search needs
-
 returns-2 : tie.Need-returns-2
 returns-2 c =
     let unwound = c .before .before .before .before in
     let unwound4 = unwound .before .before .before .before in
     let unwound8 = unwound4 .before .before .before .before in
     says-by (unwound8 .before .pre) (unwound .before .before .before .enum-told2 .given .1) (unwound .unwind .ensures)
-
-same-length-5 : tie.Need-same-length-5
-same-length-5 c = search needs
-
-same-length-6 : tie.Need-same-length-6
-same-length-6 c = search needs
 
 returns-3 : tie.Need-returns-3
 returns-3 c =
@@ -83,21 +50,21 @@ pub step-spec : {M : Type 1} → statement M
 step-spec =
     tie.close
     (tie.spec
-    enum-told
+    (λ c. search needs)
     look-requires
-    enum-told-2
+    (λ c. search needs)
     unwind-requires
-    enum-known-mode
+    (λ c. search needs)
     clear-requires
-    enum-told-3
-    unmoved-requires
-    same-length
-    same-length-2
+    (λ c. search needs)
+    (λ c κs. search needs)
+    (λ c. search needs)
+    (λ c. search needs)
     returns
-    same-length-3
-    same-length-4
+    (λ c. search needs)
+    (λ c. search needs)
     returns-2
-    same-length-5
-    same-length-6
+    (λ c. search needs)
+    (λ c. search needs)
     returns-3
     returns-4)

@@ -7,12 +7,6 @@ use borrow.Author.Needs.{needs}
 use Rattle.chain.proofs.step.unwind.Statement.{statement}
 use Rattle.chain.proofs.step.unwind.Tie as tie
 
-sub-depth : tie.Need-sub-depth
-sub-depth c = search needs
-
-mul-i : tie.Need-mul-i
-mul-i c = search needs
-
 slice-read-i : tie.Need-slice-read-i
 slice-read-i c =
     let back4 = c .before .before .before .before in
@@ -48,22 +42,10 @@ slice-write-notes c =
     let back4 = c .before .before .before .before in
     newest-now (back4 .before .before .before .before .pre) .note-there
 
-mul-work : tie.Need-mul-work
-mul-work c = search needs
-
 slice-write-work : tie.Need-slice-write-work
 slice-write-work c =
     let back4 = c .before .before .before .before in
     newest-now (back4 .before .before .before .before .pre) .work-there
-
-registers-of-requires : tie.Need-registers-of-requires
-registers-of-requires c κs = search needs
-
-same-length : tie.Need-same-length
-same-length c = search needs
-
-same-length-2 : tie.Need-same-length-2
-same-length-2 c = search needs
 
 returns : tie.Need-returns
 returns c =
@@ -77,21 +59,12 @@ action-of-requires c κs =
     let back8 = back4 .before .before .before .before in
     at-lookup (back8 .before .pre .ready)
 
-head-told-requires : tie.Need-head-told-requires
-head-told-requires c κs = search needs
-
 resumed-requires : tie.Need-resumed-requires
 resumed-requires c κs =
     let told = c .before .before in
     let told4 = told .before .before .before .before in
     let told8 = told4 .before .before .before .before in
     unwind-resumes (told8 .before .before .before .pre) (told .before .action-of .ensures) (told .head-told .ensures)
-
-same-length-3 : tie.Need-same-length-3
-same-length-3 c = search needs
-
-same-length-4 : tie.Need-same-length-4
-same-length-4 c = search needs
 
 returns-2 : tie.Need-returns-2
 returns-2 c =
@@ -104,8 +77,8 @@ pub unwind-spec : {M : Type 1} → statement M
 unwind-spec =
     tie.close
     (tie.spec
-    sub-depth
-    mul-i
+    (λ c. search needs)
+    (λ c. search needs)
     slice-read-i
     cast-i
     mul-told
@@ -113,15 +86,15 @@ unwind-spec =
     add-note
     mul-notes
     slice-write-notes
-    mul-work
+    (λ c. search needs)
     slice-write-work
-    registers-of-requires
-    same-length
-    same-length-2
+    (λ c κs. search needs)
+    (λ c. search needs)
+    (λ c. search needs)
     returns
     action-of-requires
-    head-told-requires
+    (λ c κs. search needs)
     resumed-requires
-    same-length-3
-    same-length-4
+    (λ c. search needs)
+    (λ c. search needs)
     returns-2)
