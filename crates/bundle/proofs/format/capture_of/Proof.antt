@@ -10,25 +10,10 @@ place-of-requires c κs = listed-few (c .before .pre)
 read-pair-requires : tie.Need-read-pair-requires
 read-pair-requires c κs = listed-room (c .before .before .pre) (c .place-of .ensures)
 
-cast-offset : tie.Need-cast-offset
-cast-offset c = search needs
-
-cast-long : tie.Need-cast-long
-cast-long c = search needs
-
-add-result : tie.Need-add-result
-add-result c = search needs
-
-sub-result : tie.Need-sub-result
-sub-result c = search needs
-
-part-result-start : tie.Need-part-result-start
-part-result-start c = search needs
-
 part-result-end : tie.Need-part-result-end
 part-result-end c =
-    let back4 = c .before .before .before .before in
-    part-inside (back4 .before .pre) (c .before .before .before .place-of .ensures) (c .before .before .read-pair .ensures)
+    let at-place-of = c .before .before .before in
+    part-inside (at-place-of .before .before .pre) (at-place-of .place-of .ensures) (c .before .before .read-pair .ensures)
 
 returns : tie.Need-returns
 returns c = part-is _ _ (c .before .before .before .before .place-of .ensures) (c .before .before .before .read-pair .ensures)
@@ -39,10 +24,10 @@ capture-of-spec =
     (tie.spec
     place-of-requires
     read-pair-requires
-    cast-offset
-    cast-long
-    add-result
-    sub-result
-    part-result-start
+    (λ c. search needs)
+    (λ c. search needs)
+    (λ c. search needs)
+    (λ c. search needs)
+    (λ c. search needs)
     part-result-end
     returns)

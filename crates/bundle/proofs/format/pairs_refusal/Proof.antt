@@ -24,50 +24,38 @@ place-of-requires-2 c κs = omega (arith, c .before .before .before .before .pre
 
 read-pair-requires : tie.Need-read-pair-requires Inv-loop μ-loop
 read-pair-requires c κs =
-    let back4 = c .before .before .before .before in
-    pair-room (back4 .before .pre .1) (c .before .loop-test .taken) (c .place-of2 .ensures)
-
-cast-offset : tie.Need-cast-offset Inv-loop μ-loop
-cast-offset c = search needs
-
-cast-long : tie.Need-cast-long Inv-loop μ-loop
-cast-long c = search needs
-
-add-end : tie.Need-add-end Inv-loop μ-loop
-add-end c = search needs
-
-refused-requires : tie.Need-refused-requires Inv-loop μ-loop
-refused-requires c κs = search needs
+    let at-loop-test = c .before in
+    pair-room (at-loop-test .before .before .before .before .pre .1) (at-loop-test .loop-test .taken) (c .place-of2 .ensures)
 
 returns : tie.Need-returns Inv-loop μ-loop
 returns c =
-    let back4 = c .before .before .before .before in
-    starts-early (back4 .before .before .before .loop .inv) (back4 .before .before .loop-test .taken) (back4 .before .place-of2 .ensures) (back4 .read-pair .ensures) (c .before .if1 .taken) (c .refused .ensures)
-
-refused-requires-2 : tie.Need-refused-requires-2 Inv-loop μ-loop
-refused-requires-2 c κs = search needs
+    let at-read-pair = c .before .before .before .before in
+    starts-early (at-read-pair .before .before .before .loop .inv) (at-read-pair .before .before .loop-test .taken)
+    (at-read-pair .before .place-of2 .ensures) (at-read-pair .read-pair .ensures) (c .before .if1 .taken) (c .refused .ensures)
 
 returns-2 : tie.Need-returns-2 Inv-loop μ-loop
 returns-2 c =
-    let back4 = c .before .before .before .before in
-    let back8 = back4 .before .before .before .before in
-    ends-late (back8 .loop .inv) (back4 .before .before .before .loop-test .taken) (back4 .before .before .place-of2 .ensures) (back4 .before .read-pair .ensures) (c .before .before .if1 .left) (c .before .if2 .taken) (c .refused2 .ensures)
+    let at-if1 = c .before .before in
+    let at-place-of2 = at-if1 .before .before .before .before in
+    ends-late (at-place-of2 .before .before .loop .inv) (at-place-of2 .before .loop-test .taken) (at-place-of2 .place-of2 .ensures)
+    (at-if1 .before .before .before .read-pair .ensures) (at-if1 .if1 .left) (c .before .if2 .taken) (c .refused2 .ensures)
 
 add-i : tie.Need-add-i Inv-loop μ-loop
 add-i c =
-    let back4 = c .before .before .before .before in
-    let back8 = back4 .before .before .before .before in
-    omega (arith, back4 .before .before .loop-test .taken, back8 .before .before .pre .0)
+    let at-read-pair = c .before .before .before .before in
+    let at-loop-test = at-read-pair .before .before in
+    omega (arith, at-loop-test .loop-test .taken, at-loop-test .before .before .before .before .pre .0)
 
 loop-less : tie.Need-loop-less Inv-loop μ-loop
 loop-less c =
-    let back4 = c .before .before .before .before in
-    omega (arith, back4 .before .before .loop-test .taken)
+    let at-read-pair = c .before .before .before .before in
+    omega (arith, at-read-pair .before .before .loop-test .taken)
 
 loop-again : tie.Need-loop-again Inv-loop μ-loop
 loop-again c =
-    let back4 = c .before .before .before .before in
-    next-left (back4 .before .before .before .loop .inv) (back4 .before .before .loop-test .taken) (back4 .before .place-of2 .ensures) (back4 .read-pair .ensures) (c .before .if1 .left) (c .if2 .left)
+    let at-read-pair = c .before .before .before .before in
+    next-left (at-read-pair .before .before .before .loop .inv) (at-read-pair .before .before .loop-test .taken)
+    (at-read-pair .before .place-of2 .ensures) (at-read-pair .read-pair .ensures) (c .before .if1 .left) (c .if2 .left)
 
 returns-3 : tie.Need-returns-3 Inv-loop μ-loop
 returns-3 c = none-left (c .before .loop .inv) (c .loop-test .left)
@@ -82,12 +70,12 @@ pairs-refusal-spec =
     loop-holds
     place-of-requires-2
     read-pair-requires
-    cast-offset
-    cast-long
-    add-end
-    refused-requires
+    (λ c. search needs)
+    (λ c. search needs)
+    (λ c. search needs)
+    (λ c κs. search needs)
     returns
-    refused-requires-2
+    (λ c κs. search needs)
     returns-2
     add-i
     loop-less

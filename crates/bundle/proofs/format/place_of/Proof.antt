@@ -5,15 +5,9 @@ use borrow.Author.Needs.{needs}
 use Rattle.bundle.proofs.format.place_of.Statement.{statement}
 use Rattle.bundle.proofs.format.place_of.Tie as tie
 
-mul-result : tie.Need-mul-result
-mul-result c = search needs
-
-add-result : tie.Need-add-result
-add-result c = search needs
-
 returns : tie.Need-returns
 unfolding pair-place
 returns c = refl
 
 pub place-of-spec : {M : Type 1} → statement M
-place-of-spec = tie.close (tie.spec mul-result add-result returns)
+place-of-spec = tie.close (tie.spec (λ c. search needs) (λ c. search needs) returns)

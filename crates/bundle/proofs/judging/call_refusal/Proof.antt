@@ -4,18 +4,12 @@ use borrow.Author.Needs.{needs}
 use Rattle.bundle.proofs.judging.call_refusal.Statement.{statement}
 use Rattle.bundle.proofs.judging.call_refusal.Tie as tie
 
-first-refusal-requires : tie.Need-first-refusal-requires
-first-refusal-requires c κs = search needs
-
 returns : tie.Need-returns
 returns c = image-first _ _ (c .before .before .first-refusal .ensures) (c .if1 .taken)
-
-refusal-of-requires : tie.Need-refusal-of-requires
-refusal-of-requires c κs = search needs
 
 returns-2 : tie.Need-returns-2
 returns-2 c = then-bundle _ _ (c .before .before .before .first-refusal .ensures) (c .before .if1 .left) (c .refusal-of .ensures)
 
 pub call-refusal-spec : {M : Type 1} → statement M
 call-refusal-spec =
-    tie.close (tie.spec first-refusal-requires returns refusal-of-requires returns-2)
+    tie.close (tie.spec (λ c κs. search needs) returns (λ c κs. search needs) returns-2)

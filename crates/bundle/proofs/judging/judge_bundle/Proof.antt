@@ -5,9 +5,6 @@ use borrow.Author.Needs.{needs}
 use Rattle.bundle.proofs.judging.judge_bundle.Statement.{statement}
 use Rattle.bundle.proofs.judging.judge_bundle.Tie as tie
 
-call-refusal-requires : tie.Need-call-refusal-requires
-call-refusal-requires c κs = search needs
-
 returns : tie.Need-returns
 returns c = refused-says _ _ _ _ _ (c .before .before .call-refusal .ensures) (c .if1 .taken)
 
@@ -16,29 +13,23 @@ count-requires c κs = count-there _ _ (c .before .before .call-refusal .ensures
 
 judge-captures-requires : tie.Need-judge-captures-requires
 judge-captures-requires c κs =
-    let back4 = c .before .before .before .before in
-    call-checked _ _ (back4 .before .before .call-refusal .ensures) (back4 .if1 .left) (c .before .before .before .count .ensures) (omega arith)
-
-same-length : tie.Need-same-length
-same-length c = search needs
-
-same-length-2 : tie.Need-same-length-2
-same-length-2 c = search needs
+    let at-if1 = c .before .before .before .before in
+    call-checked _ _ (at-if1 .before .before .call-refusal .ensures) (at-if1 .if1 .left) (c .before .before .before .count .ensures) (omega arith)
 
 returns-2 : tie.Need-returns-2
 returns-2 c =
-    let back4 = c .before .before .before .before in
-    let back8 = back4 .before .before .before .before in
-    judged-says _ _ _ _ _ _ _ _ _ (back8 .before .before .before .call-refusal .ensures) (back8 .before .if1 .left) (back8 .count .ensures) (back4 .judge-captures .ensures)
+    let at-judge-captures = c .before .before .before .before in
+    let at-count = at-judge-captures .before .before .before .before in
+    judged-says _ _ _ _ _ _ _ _ _ (at-count .before .before .before .call-refusal .ensures) (at-count .before .if1 .left) (at-count .count .ensures) (at-judge-captures .judge-captures .ensures)
 
 pub judge-bundle-spec : {M : Type 1} → statement M
 judge-bundle-spec =
     tie.close
     (tie.spec
-    call-refusal-requires
+    (λ c κs. search needs)
     returns
     count-requires
     judge-captures-requires
-    same-length
-    same-length-2
+    (λ c. search needs)
+    (λ c. search needs)
     returns-2)

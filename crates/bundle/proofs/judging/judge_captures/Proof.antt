@@ -12,68 +12,75 @@ Inv-loop image bundle captures notes₀ work₀ lines₀ totals₀ i₀ notes wo
 abbrev μ-loop : tie.MeasureT-loop
 μ-loop image bundle captures notes₀ work₀ lines₀ totals₀ i₀ notes work lines totals i = captures - i
 
-no-totals-requires : tie.Need-no-totals-requires Inv-loop μ-loop
-no-totals-requires c κs = search needs
-
 loop-holds : tie.Need-loop-holds Inv-loop μ-loop
 loop-holds c = none-yet (c .no-totals .ensures)
 
 capture-of-requires : tie.Need-capture-of-requires Inv-loop μ-loop
 capture-of-requires c κs =
-    let back4 = c .before .before .before .before in
-    let back8 = back4 .before .before .before .before in
-    listed (c .before .loop .inv) (back8 .pre) (c .loop-test .taken)
+    let turn = c .before in
+    let at-no-totals = turn .before in
+    let at-shared-slice-known2 = at-no-totals .before .before .before .before in
+    listed (turn .loop .inv) (at-shared-slice-known2 .before .before .pre) (c .loop-test .taken)
 
 judge-by-checked-requires : tie.Need-judge-by-checked-requires Inv-loop μ-loop
 judge-by-checked-requires c κs =
-    let back4 = c .before .before .before .before in
-    let back8 = back4 .before .before .before .before in
-    back8 .before .before .before .pre .image
-
-judge-reply-requires : tie.Need-judge-reply-requires Inv-loop μ-loop
-judge-reply-requires c κs = search needs
+    let turn = c .before .before .before .before in
+    let at-no-totals = turn .before in
+    let at-shared-slice-known2 = at-no-totals .before .before .before .before in
+    at-shared-slice-known2 .before .before .pre .image
 
 put-line-requires : tie.Need-put-line-requires Inv-loop μ-loop
 put-line-requires c κs =
-    let back4 = c .before .before .before .before in
-    let back8 = back4 .before .before .before .before in
-    let back12 = back8 .before .before .before .before in
-    let back16 = back12 .before .before .before .before in
-    line-room (back8 .before .before .before .loop .inv) (back16 .before .before .pre) (back8 .before .before .loop-test .taken)
+    let at-work = c .before .before .before in
+    let at-judge-by-checked = at-work .before .before .before in
+    let at-loop-test = at-judge-by-checked .before .before .before .before in
+    let turn = at-loop-test .before in
+    let at-no-totals = turn .before in
+    let at-shared-slice-known2 = at-no-totals .before .before .before .before in
+    line-room (turn .loop .inv) (at-shared-slice-known2 .before .before .pre) (at-loop-test .loop-test .taken)
 
 with-line-requires : tie.Need-with-line-requires Inv-loop μ-loop
 with-line-requires c κs =
-    let back4 = c .before .before .before .before in
-    let back8 = back4 .before .before .before .before in
-    let back12 = back8 .before .before .before .before in
-    let back16 = back12 .before .before .before .before in
-    let back20 = back16 .before .before .before .before in
-    totals-room (back12 .before .before .loop .inv) (back20 .before .pre) (back12 .before .loop-test .taken)
+    let at-judge-reply = c .before .before .before in
+    let at-work = at-judge-reply .before .before .before in
+    let at-judge-by-checked = at-work .before .before .before in
+    let at-loop-test = at-judge-by-checked .before .before .before .before in
+    let turn = at-loop-test .before in
+    let at-no-totals = turn .before in
+    let at-shared-slice-known2 = at-no-totals .before .before .before .before in
+    totals-room (turn .loop .inv) (at-shared-slice-known2 .before .before .pre) (at-loop-test .loop-test .taken)
 
 add-i : tie.Need-add-i Inv-loop μ-loop
 add-i c =
-    let back4 = c .before .before .before .before in
-    let back8 = back4 .before .before .before .before in
-    let back12 = back8 .before .before .before .before in
-    let back16 = back12 .before .before .before .before in
-    let back20 = back16 .before .before .before .before in
-    omega (arith, few-enough (back12 .before .before .before .loop .inv) (back20 .before .before .pre) (back12 .before .before .loop-test .taken))
+    let at-judge-reply = c .before .before .before .before in
+    let at-work = at-judge-reply .before .before .before in
+    let at-judge-by-checked = at-work .before .before .before in
+    let at-loop-test = at-judge-by-checked .before .before .before .before in
+    let turn = at-loop-test .before in
+    let at-no-totals = turn .before in
+    let at-shared-slice-known2 = at-no-totals .before .before .before .before in
+    omega (arith, few-enough (turn .loop .inv) (at-shared-slice-known2 .before .before .pre) (at-loop-test .loop-test .taken))
 
 loop-less : tie.Need-loop-less Inv-loop μ-loop
 loop-less c =
-    let back4 = c .before .before .before .before in
-    let back8 = back4 .before .before .before .before in
-    let back12 = back8 .before .before .before .before in
-    omega (arith, back12 .before .before .loop-test .taken)
+    let at-judge-reply = c .before .before .before .before in
+    let at-work = at-judge-reply .before .before .before in
+    let at-judge-by-checked = at-work .before .before .before in
+    omega (arith, at-judge-by-checked .before .before .before .before .loop-test .taken)
 
 loop-again : tie.Need-loop-again Inv-loop μ-loop
 loop-again c =
-    let back4 = c .before .before .before .before in
-    let back8 = back4 .before .before .before .before in
-    let back12 = back8 .before .before .before .before in
-    let back16 = back12 .before .before .before .before in
-    let back20 = back16 .before .before .before .before in
-    one-more (back8 .before .before .judge-by-checked .result) (back12 .before .before .before .loop .inv) (one-left (back12 .before .before .before .loop .inv) (back20 .before .before .pre) (back12 .before .before .loop-test .taken)) (back12 .before .capture-of .ensures) (back8 .before .before .judge-by-checked .ensures) (back4 .judge-reply .ensures) (c .before .before .before .put-line .ensures) (c .with-line .ensures)
+    let at-judge-reply = c .before .before .before .before in
+    let at-work = at-judge-reply .before .before .before in
+    let at-judge-by-checked = at-work .before .before .before in
+    let at-loop-test = at-judge-by-checked .before .before .before .before in
+    let turn = at-loop-test .before in
+    let at-no-totals = turn .before in
+    let at-shared-slice-known2 = at-no-totals .before .before .before .before in
+    one-more (at-judge-by-checked .judge-by-checked .result) (turn .loop .inv)
+    (one-left (turn .loop .inv) (at-shared-slice-known2 .before .before .pre) (at-loop-test .loop-test .taken))
+    (at-judge-by-checked .before .before .before .capture-of .ensures) (at-judge-by-checked .judge-by-checked .ensures)
+    (at-judge-reply .judge-reply .ensures) (c .before .before .before .put-line .ensures) (c .with-line .ensures)
 
 same-length : tie.Need-same-length Inv-loop μ-loop
 same-length c = c .before .loop .inv .notes-long
@@ -83,15 +90,17 @@ same-length-2 c = c .before .loop .inv .work-long
 
 same-length-3 : tie.Need-same-length-3 Inv-loop μ-loop
 same-length-3 c =
-    let back4 = c .before .before .before .before in
-    let back8 = back4 .before .before .before .before in
-    lines-long (c .before .loop .inv) (back8 .pre)
+    let turn = c .before in
+    let at-no-totals = turn .before in
+    let at-shared-slice-known2 = at-no-totals .before .before .before .before in
+    lines-long (turn .loop .inv) (at-shared-slice-known2 .before .before .pre)
 
 returns : tie.Need-returns Inv-loop μ-loop
 returns c =
-    let back4 = c .before .before .before .before in
-    let back8 = back4 .before .before .before .before in
-    all-done (c .before .loop .inv) (back8 .pre) (c .loop-test .left)
+    let turn = c .before in
+    let at-no-totals = turn .before in
+    let at-shared-slice-known2 = at-no-totals .before .before .before .before in
+    all-done (turn .loop .inv) (at-shared-slice-known2 .before .before .pre) (c .loop-test .left)
 
 pub judge-captures-spec : {M : Type 1} → statement M
 judge-captures-spec =
@@ -99,11 +108,11 @@ judge-captures-spec =
     (tie.spec
     Inv-loop
     μ-loop
-    no-totals-requires
+    (λ c κs. search needs)
     loop-holds
     capture-of-requires
     judge-by-checked-requires
-    judge-reply-requires
+    (λ c κs. search needs)
     put-line-requires
     with-line-requires
     add-i

@@ -4,42 +4,6 @@ use borrow.Author.Needs.{needs}
 use Rattle.bundle.proofs.lines.with_judgement.Statement.{statement}
 use Rattle.bundle.proofs.lines.with_judgement.Tie as tie
 
-cast-next : tie.Need-cast-next
-cast-next c = search needs
-
-add-next : tie.Need-add-next
-add-next c = search needs
-
-enum-told : tie.Need-enum-told
-enum-told c = search needs
-
-add-next-2 : tie.Need-add-next-2
-add-next-2 c = search needs
-
-enum-told-2 : tie.Need-enum-told-2
-enum-told-2 c = search needs
-
-add-next-3 : tie.Need-add-next-3
-add-next-3 c = search needs
-
-enum-told-3 : tie.Need-enum-told-3
-enum-told-3 c = search needs
-
-add-next-4 : tie.Need-add-next-4
-add-next-4 c = search needs
-
-enum-told-4 : tie.Need-enum-told-4
-enum-told-4 c = search needs
-
-add-next-5 : tie.Need-add-next-5
-add-next-5 c = search needs
-
-enum-told-5 : tie.Need-enum-told-5
-enum-told-5 c = search needs
-
-add-next-6 : tie.Need-add-next-6
-add-next-6 c = search needs
-
 returns : tie.Need-returns
 returns c = accepted-added _ _ (c .before .enum-told .given .1)
 
@@ -59,18 +23,18 @@ pub with-judgement-spec : {M : Type 1} → statement M
 with-judgement-spec =
     tie.close
     (tie.spec
-    cast-next
-    add-next
-    enum-told
-    add-next-2
-    enum-told-2
-    add-next-3
-    enum-told-3
-    add-next-4
-    enum-told-4
-    add-next-5
-    enum-told-5
-    add-next-6
+    (λ c. search needs)
+    (λ c. search needs)
+    (λ c. search needs)
+    (λ c. search needs)
+    (λ c. search needs)
+    (λ c. search needs)
+    (λ c. search needs)
+    (λ c. search needs)
+    (λ c. search needs)
+    (λ c. search needs)
+    (λ c. search needs)
+    (λ c. search needs)
     returns
     returns-2
     returns-3

@@ -4,18 +4,6 @@ use borrow.Author.Needs.{needs}
 use Rattle.bundle.proofs.lines.with_line.Statement.{statement}
 use Rattle.bundle.proofs.lines.with_line.Tie as tie
 
-enum-told : tie.Need-enum-told
-enum-told c = search needs
-
-add-next : tie.Need-add-next
-add-next c = search needs
-
-enum-known-line : tie.Need-enum-known-line
-enum-known-line c = search needs
-
-with-judgement-requires : tie.Need-with-judgement-requires
-with-judgement-requires c κs = search needs
-
 returns : tie.Need-returns
 returns c = refused-added _ _ (c .before .enum-told .given .1)
 
@@ -25,4 +13,4 @@ returns-2 c = answer-added _ (c .before .before .line .given .1) (c .with-judgem
 pub with-line-spec : {M : Type 1} → statement M
 with-line-spec =
     tie.close
-    (tie.spec enum-told add-next enum-known-line with-judgement-requires returns returns-2)
+    (tie.spec (λ c. search needs) (λ c. search needs) (λ c. search needs) (λ c κs. search needs) returns returns-2)

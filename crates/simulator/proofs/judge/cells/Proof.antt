@@ -7,9 +7,6 @@ use borrow.Author.Needs.{needs}
 use Rattle.simulator.proofs.judge.cells.Statement.{statement}
 use Rattle.simulator.proofs.judge.cells.Tie as tie
 
-capture-refusal-requires : tie.Need-capture-refusal-requires
-capture-refusal-requires c κs = search needs
-
 returns : tie.Need-returns
 returns c = needs-as _ (c .before .before .capture-refusal .ensures) (needs-none _ _ (c .if1 .taken))
 
@@ -20,4 +17,4 @@ returns-2 : tie.Need-returns-2
 returns-2 c = needs-as _ (c .before .before .before .capture-refusal .ensures) (needs-cells _ _ (c .before .if1 .left) (c .cells-needed .ensures))
 
 pub cells-spec : {M : Type 1} → statement M
-cells-spec = tie.close (tie.spec capture-refusal-requires returns cells-needed-requires returns-2)
+cells-spec = tie.close (tie.spec (λ c κs. search needs) returns cells-needed-requires returns-2)

@@ -22,9 +22,6 @@ shared-slice-read-symbols c = omega (arith, good (some-capture _ _ (c .before .b
 cast-symbols : tie.Need-cast-symbols
 cast-symbols c = omega (arith, c .shared-slice-known2 .given Format.symbols-offset)
 
-add-places : tie.Need-add-places
-add-places c = search needs
-
 mul-result : tie.Need-mul-result
 unfolding states
 mul-result c = omega (arith, few-places-of _ _ (c .before .before .pre .0) (c .before .before .pre .1))
@@ -45,7 +42,7 @@ cells-needed-spec =
     cast-states
     shared-slice-read-symbols
     cast-symbols
-    add-places
+    (λ c. search needs)
     mul-result
     mul-result-2
     returns)

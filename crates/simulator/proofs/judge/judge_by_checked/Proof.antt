@@ -5,9 +5,6 @@ use borrow.Author.Needs.{needs}
 use Rattle.simulator.proofs.judge.judge_by_checked.Statement.{statement}
 use Rattle.simulator.proofs.judge.judge_by_checked.Tie as tie
 
-length-refusal-requires : tie.Need-length-refusal-requires
-length-refusal-requires c κs = search needs
-
 returns : tie.Need-returns
 returns c =
     let back4 = c .before .before .before .before in
@@ -24,23 +21,14 @@ judge-sized-requires c κs =
     let back8 = back4 .before .before .before .before in
     sized _ _ (back8 .before .before .pre) (back4 .before .length-refusal .ensures) (c .before .before .before .if1 .left) _ refl (c .before .before .cells-needed .ensures)
 
-same-length : tie.Need-same-length
-same-length c = search needs
-
-same-length-2 : tie.Need-same-length-2
-same-length-2 c = search needs
-
-returns-2 : tie.Need-returns-2
-returns-2 c = search needs
-
 pub judge-by-checked-spec : {M : Type 1} → statement M
 judge-by-checked-spec =
     tie.close
     (tie.spec
-    length-refusal-requires
+    (λ c κs. search needs)
     returns
     cells-needed-requires
     judge-sized-requires
-    same-length
-    same-length-2
-    returns-2)
+    (λ c. search needs)
+    (λ c. search needs)
+    (λ c. search needs))

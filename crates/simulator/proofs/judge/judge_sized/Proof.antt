@@ -6,30 +6,18 @@ use borrow.Author.Needs.{needs}
 use Rattle.simulator.proofs.judge.judge_sized.Statement.{statement}
 use Rattle.simulator.proofs.judge.judge_sized.Tie as tie
 
-refused-requires : tie.Need-refused-requires
-refused-requires c κs = search needs
-
 returns : tie.Need-returns
 returns c =
     let back4 = c .before .before .before .before in
     notes-says _ _ _ _ (back4 .before .before .pre) (c .before .if1 .taken) (c .refused .ensures)
-
-refused-requires-2 : tie.Need-refused-requires-2
-refused-requires-2 c κs = search needs
 
 returns-2 : tie.Need-returns-2
 returns-2 c =
     let back4 = c .before .before .before .before in
     work-says _ _ _ _ (back4 .before .before .before .pre) (c .before .before .if1 .left) (c .before .if2 .taken) (c .refused2 .ensures)
 
-slice-relend-prefix-judge-checked : tie.Need-slice-relend-prefix-judge-checked
-slice-relend-prefix-judge-checked c = search needs
-
 slice-aggregate-judge-checked : tie.Need-slice-aggregate-judge-checked
 slice-aggregate-judge-checked c = sym (length-take-le _ _ (c .before .before .if1 .left))
-
-slice-relend-prefix-judge-checked-2 : tie.Need-slice-relend-prefix-judge-checked-2
-slice-relend-prefix-judge-checked-2 c = search needs
 
 slice-aggregate-judge-checked-2 : tie.Need-slice-aggregate-judge-checked-2
 slice-aggregate-judge-checked-2 c = sym (length-take-le _ _ (c .before .before .if2 .left))
@@ -39,12 +27,6 @@ judge-checked-requires c κs =
     let back4 = c .before .before .before .before in
     let back8 = back4 .before .before .before .before in
     checked _ _ _ _ (back8 .pre) (λ i. back4 .before .before .shared-slice-known2 .given i .fits) (c .before .before .before .if1 .left) (c .before .before .if2 .left)
-
-same-length : tie.Need-same-length
-same-length c = search needs
-
-same-length-2 : tie.Need-same-length-2
-same-length-2 c = search needs
 
 returns-3 : tie.Need-returns-3
 returns-3 c =
@@ -57,15 +39,15 @@ pub judge-sized-spec : {M : Type 1} → statement M
 judge-sized-spec =
     tie.close
     (tie.spec
-    refused-requires
+    (λ c κs. search needs)
     returns
-    refused-requires-2
+    (λ c κs. search needs)
     returns-2
-    slice-relend-prefix-judge-checked
+    (λ c. search needs)
     slice-aggregate-judge-checked
-    slice-relend-prefix-judge-checked-2
+    (λ c. search needs)
     slice-aggregate-judge-checked-2
     judge-checked-requires
-    same-length
-    same-length-2
+    (λ c. search needs)
+    (λ c. search needs)
     returns-3)

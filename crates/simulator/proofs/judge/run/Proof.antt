@@ -38,9 +38,6 @@ loop-holds c =
     let back8 = back4 .before .before .before .before in
     at-start (rw (c .before .before .start .ensures, c .before .before .before .before .sizes-of .ensures, c .before .before .before .finals-of .ensures)) (back8 .before .pre)
 
-enum-known-mode : tie.Need-enum-known-mode Inv-loop μ-loop
-enum-known-mode c = search needs
-
 same-length : tie.Need-same-length Inv-loop μ-loop
 same-length c =
     let back4 = c .before .before .before .before in
@@ -91,7 +88,7 @@ run-spec =
     finals-of-requires
     start-requires
     loop-holds
-    enum-known-mode
+    (λ c. search needs)
     same-length
     same-length-2
     returns

@@ -3,7 +3,6 @@ use mathlib.Core.Path.{refl}
 use Rattle.simulator.proofs.Starting.{stride-fits, both-some, number-zero}
 use Rattle.simulator.proofs.judge.start.Statement.{statement}
 use Rattle.simulator.proofs.judge.start.Tie as tie
-use Rattle.chain.proofs.numbers.reciprocals_of.Reads as reciprocals-of-reads
 
 mul-stride : tie.Need-mul-stride
 mul-stride c = stride-fits (c .before .pre)

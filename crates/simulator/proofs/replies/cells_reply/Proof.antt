@@ -4,18 +4,6 @@ use borrow.Author.Needs.{needs}
 use Rattle.simulator.proofs.replies.cells_reply.Statement.{statement}
 use Rattle.simulator.proofs.replies.cells_reply.Tie as tie
 
-enum-known-needs : tie.Need-enum-known-needs
-enum-known-needs c = search needs
-
-refusal-reply-requires : tie.Need-refusal-reply-requires
-refusal-reply-requires c κs = search needs
-
-enum-known-needs-2 : tie.Need-enum-known-needs-2
-enum-known-needs-2 c = search needs
-
-count-reply-requires : tie.Need-count-reply-requires
-count-reply-requires c κs = search needs
-
 returns : tie.Need-returns
 unfolding of-needs
 returns c = rw (c .before .before .needs .given .1) (c .refusal-reply .ensures)
@@ -28,9 +16,9 @@ pub cells-reply-spec : {M : Type 1} → statement M
 cells-reply-spec =
     tie.close
     (tie.spec
-    enum-known-needs
-    refusal-reply-requires
-    enum-known-needs-2
-    count-reply-requires
+    (λ c. search needs)
+    (λ c κs. search needs)
+    (λ c. search needs)
+    (λ c κs. search needs)
     returns
     returns-2)

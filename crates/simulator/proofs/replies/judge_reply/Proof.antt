@@ -5,24 +5,6 @@ use borrow.Author.Needs.{needs}
 use Rattle.simulator.proofs.replies.judge_reply.Statement.{statement}
 use Rattle.simulator.proofs.replies.judge_reply.Tie as tie
 
-enum-known-judged : tie.Need-enum-known-judged
-enum-known-judged c = search needs
-
-refusal-reply-requires : tie.Need-refusal-reply-requires
-refusal-reply-requires c κs = search needs
-
-enum-known-judged-2 : tie.Need-enum-known-judged-2
-enum-known-judged-2 c = search needs
-
-verdict-number-requires : tie.Need-verdict-number-requires
-verdict-number-requires c κs = search needs
-
-cast-answer-reply : tie.Need-cast-answer-reply
-cast-answer-reply c = search needs
-
-answer-reply-requires : tie.Need-answer-reply-requires
-answer-reply-requires c κs = search needs
-
 returns : tie.Need-returns
 unfolding of-judged
 returns c = rw (c .before .before .judged .given .1) (c .refusal-reply .ensures)
@@ -37,11 +19,11 @@ pub judge-reply-spec : {M : Type 1} → statement M
 judge-reply-spec =
     tie.close
     (tie.spec
-    enum-known-judged
-    refusal-reply-requires
-    enum-known-judged-2
-    verdict-number-requires
-    cast-answer-reply
-    answer-reply-requires
+    (λ c. search needs)
+    (λ c κs. search needs)
+    (λ c. search needs)
+    (λ c κs. search needs)
+    (λ c. search needs)
+    (λ c κs. search needs)
     returns
     returns-2)
