@@ -5,9 +5,6 @@ use Rattle.refusal.specs.Checking.{checked}
 use Rattle.grammar.proofs.check.check_grammar.Statement.{statement}
 use Rattle.grammar.proofs.check.check_grammar.Tie as tie
 
-refusal-of-requires : tie.Need-refusal-of-requires
-refusal-of-requires c κs = search needs
-
 returns : tie.Need-returns
 unfolding checked
 returns c = simp (← c .before .before .refusal-of .ensures, eq-eqb _ _ (c .if1 .taken))
@@ -17,4 +14,4 @@ unfolding checked
 returns-2 c = simp (← c .before .before .refusal-of .ensures, ne-eqb _ _ (c .if1 .left))
 
 pub check-grammar-spec : {M : Type 1} → statement M
-check-grammar-spec = tie.close (tie.spec refusal-of-requires returns returns-2)
+check-grammar-spec = tie.close (tie.spec (λ c κs. search needs) returns returns-2)

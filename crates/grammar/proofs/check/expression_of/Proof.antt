@@ -29,9 +29,6 @@ shared-slice-read-expression-by-3 : tie.Need-shared-slice-read-expression-by-3
 unfolding rules
 shared-slice-read-expression-by-3 c = omega arith
 
-expression-by-requires : tie.Need-expression-by-requires
-expression-by-requires c κs = search needs
-
 returns : tie.Need-returns
 unfolding expression kind-of b-of c-of
 returns c = c .expression-by .ensures
@@ -46,5 +43,5 @@ expression-of-spec =
     shared-slice-read-expression-by-2
     add-expression-by-2
     shared-slice-read-expression-by-3
-    expression-by-requires
+    (λ c κs. search needs)
     returns)

@@ -6,9 +6,6 @@ use Rattle.grammar.proofs.CodeGrammar.{length-passes}
 use Rattle.grammar.proofs.check.refusal_of.Statement.{statement}
 use Rattle.grammar.proofs.check.refusal_of.Tie as tie
 
-length-wrong-requires : tie.Need-length-wrong-requires
-length-wrong-requires c κs = search needs
-
 returns : tie.Need-returns
 unfolding grammar-refusal
 returns c = simp (← c .before .length-wrong .ensures, c .if1 .taken)
@@ -22,4 +19,4 @@ returns-2 c = simp (← c .before .before .length-wrong .ensures, c .before .if1
 
 pub refusal-of-spec : {M : Type 1} → statement M
 refusal-of-spec =
-    tie.close (tie.spec length-wrong-requires returns rules-refusal-requires returns-2)
+    tie.close (tie.spec (λ c κs. search needs) returns rules-refusal-requires returns-2)

@@ -20,15 +20,9 @@ returns : tie.Need-returns
 unfolding rule-right
 returns c = simp (ne-eqb _ _ (c .if1 .taken))
 
-both-below-requires : tie.Need-both-below-requires
-both-below-requires c κs = search needs
-
 returns-2 : tie.Need-returns-2
 unfolding rule-right
 returns-2 c = simp (eq-eqb _ _ (c .before .before .if1 .left), eq-eqb _ _ (c .before .if2 .taken)) (c .both-below .ensures)
-
-both-below-requires-2 : tie.Need-both-below-requires-2
-both-below-requires-2 c κs = search needs
 
 returns-3 : tie.Need-returns-3
 unfolding rule-right
@@ -40,9 +34,6 @@ returns-3 c =
     )
     (c .both-below2 .ensures)
 
-below-and-zero-requires : tie.Need-below-and-zero-requires
-below-and-zero-requires c κs = search needs
-
 returns-4 : tie.Need-returns-4
 unfolding rule-right
 returns-4 c =
@@ -53,9 +44,6 @@ returns-4 c =
       eq-eqb _ _ (c .before .if4 .taken),
     )
     (c .below-and-zero .ensures)
-
-both-zero-requires : tie.Need-both-zero-requires
-both-zero-requires c κs = search needs
 
 returns-5 : tie.Need-returns-5
 unfolding rule-right
@@ -80,12 +68,12 @@ right-spec =
     tie.close
     (tie.spec
     returns
-    both-below-requires
+    (λ c κs. search needs)
     returns-2
-    both-below-requires-2
+    (λ c κs. search needs)
     returns-3
-    below-and-zero-requires
+    (λ c κs. search needs)
     returns-4
-    both-zero-requires
+    (λ c κs. search needs)
     returns-5
     returns-6)

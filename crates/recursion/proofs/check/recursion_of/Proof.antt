@@ -18,7 +18,11 @@ lowest-of-requires : tie.Need-lowest-of-requires
 lowest-of-requires c κs = count-few _ (c .before .before .before .before .pre)
 
 returns : tie.Need-returns
-returns c = c .lowest-of .ensures ∙ ap (λ (n : ℕ). lowest-from n 0 (c .before .before .closure-of .result)) (count-is (c .before .before .before .before .before .args .grammar .now)) ∙ lowest-right _ _ (c .before .before .closure-of .ensures) _ 0 (omega arith)
+returns c =
+    let at-closure-of = c .before .before in
+    let counted = count-is (at-closure-of .before .before .before .args .grammar .now) in
+    c .lowest-of .ensures ∙ ap (λ (n : ℕ). lowest-from n 0 (at-closure-of .closure-of .result)) counted
+    ∙ lowest-right _ _ (at-closure-of .closure-of .ensures) _ 0 (omega arith)
 
 pub recursion-of-spec : {M : Type 1} → statement M
 recursion-of-spec =

@@ -19,7 +19,9 @@ loop-holds : tie.Need-loop-holds Inv-loop μ-loop
 loop-holds c = closing-start _ _ _ _ (c .before .before .pre .0) (c .before .before .pre .1) (count-is _) (c .rows-of .ensures)
 
 pass-through-requires : tie.Need-pass-through-requires Inv-loop μ-loop
-pass-through-requires c κs = (let few = count-few _ (c .before .before .before .before .before .pre .0) in omega (arith, c .before .loop-test .taken), c .before .before .loop .inv .room)
+pass-through-requires c κs =
+    let turn = c .before .before in
+    (let few = count-few _ (turn .before .before .before .pre .0) in omega (arith, c .before .loop-test .taken), turn .loop .inv .room)
 
 add-n : tie.Need-add-n Inv-loop μ-loop
 add-n c = omega (arith, c .before .before .loop-test .taken)
@@ -28,7 +30,9 @@ loop-less : tie.Need-loop-less Inv-loop μ-loop
 loop-less c = omega (arith, c .before .before .loop-test .taken)
 
 loop-again : tie.Need-loop-again Inv-loop μ-loop
-loop-again c = closing-next _ _ _ _ _ (count-few _ (c .before .before .before .before .before .before .pre .0)) (c .before .before .before .loop .inv) (c .before .before .loop-test .taken) (c .pass-through .ensures)
+loop-again c =
+    let turn = c .before .before .before in
+    closing-next _ _ _ _ _ (count-few _ (turn .before .before .before .pre .0)) (turn .loop .inv) (c .before .before .loop-test .taken) (c .pass-through .ensures)
 
 returns : tie.Need-returns Inv-loop μ-loop
 returns c = closing-end _ _ _ _ (c .before .loop .inv) (c .loop-test .left)

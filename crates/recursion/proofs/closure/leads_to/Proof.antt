@@ -6,9 +6,6 @@ use Rattle.recursion.proofs.Parts.{sequence-parts, choice-parts, not-pa
 use Rattle.recursion.proofs.closure.leads_to.Statement.{statement}
 use Rattle.recursion.proofs.closure.leads_to.Tie as tie
 
-enum-known-e : tie.Need-enum-known-e
-enum-known-e c = search needs
-
 contains-requires : tie.Need-contains-requires
 contains-requires c κs = sequence-parts (c .before .e .given .1) (c .before .before .before .pre) .0
 
@@ -16,10 +13,9 @@ single-requires : tie.Need-single-requires
 single-requires c κs = sequence-parts (c .before .before .e .given .1) (c .before .before .before .before .pre) .0
 
 added-requires : tie.Need-added-requires
-added-requires c κs = sequence-parts (c .before .before .before .e .given .1) (c .before .before .before .before .before .pre) .1
-
-enum-known-e-2 : tie.Need-enum-known-e-2
-enum-known-e-2 c = search needs
+added-requires c κs =
+    let at-e = c .before .before .before in
+    sequence-parts (at-e .e .given .1) (at-e .before .before .pre) .1
 
 single-requires-2 : tie.Need-single-requires-2
 single-requires-2 c κs = choice-parts (c .before .e2 .given .1) (c .before .before .before .pre) .0
@@ -27,17 +23,8 @@ single-requires-2 c κs = choice-parts (c .before .e2 .given .1) (c .before .bef
 added-requires-2 : tie.Need-added-requires-2
 added-requires-2 c κs = choice-parts (c .before .before .e2 .given .1) (c .before .before .before .before .pre) .1
 
-enum-known-e-3 : tie.Need-enum-known-e-3
-enum-known-e-3 c = search needs
-
 single-requires-3 : tie.Need-single-requires-3
 single-requires-3 c κs = not-part (c .before .e3 .given .1) (c .before .before .before .pre)
-
-enum-told : tie.Need-enum-told
-enum-told c = search needs
-
-enum-told-2 : tie.Need-enum-told-2
-enum-told-2 c = search needs
 
 returns : tie.Need-returns
 returns c = sequence-leads _ _ _ _ (c .before .before .before .before .e .given .1) (c .added .ensures .0) (c .before .single .ensures) (c .before .before .contains .ensures)
@@ -58,17 +45,17 @@ pub leads-to-spec : {M : Type 1} → statement M
 leads-to-spec =
     tie.close
     (tie.spec
-    enum-known-e
+    (λ c. search needs)
     contains-requires
     single-requires
     added-requires
-    enum-known-e-2
+    (λ c. search needs)
     single-requires-2
     added-requires-2
-    enum-known-e-3
+    (λ c. search needs)
     single-requires-3
-    enum-told
-    enum-told-2
+    (λ c. search needs)
+    (λ c. search needs)
     returns
     returns-2
     returns-3

@@ -31,10 +31,14 @@ element-copy-out-row : tie.Need-element-copy-out-row Inv-loop μ-loop
 element-copy-out-row c = c .loop-test .taken
 
 cast-passed : tie.Need-cast-passed Inv-loop μ-loop
-cast-passed c = omega (arith, c .before .before .before .before .before .pre .0)
+cast-passed c =
+    let at-onward = c .before .before .before .before in
+    omega (arith, at-onward .before .pre .0)
 
 passed-requires : tie.Need-passed-requires Inv-loop μ-loop
-passed-requires c κs = c .before .before .before .before .before .pre .0
+passed-requires c κs =
+    let at-onward = c .before .before .before .before in
+    at-onward .before .pre .0
 
 mul-rows : tie.Need-mul-rows Inv-loop μ-loop
 mul-rows c = omega (arith, c .before .before .loop-test .taken)

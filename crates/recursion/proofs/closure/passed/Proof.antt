@@ -8,9 +8,6 @@ use Rattle.recursion.proofs.closure.passed.Tie as tie
 contains-requires : tie.Need-contains-requires
 contains-requires c κs = c .pre
 
-union-requires : tie.Need-union-requires
-union-requires c κs = search needs
-
 returns : tie.Need-returns
 returns c = passes-on _ _ _ _ (c .union .ensures .0) (sym (c .before .before .contains .ensures) ∙ c .before .if1 .taken)
 
@@ -18,4 +15,4 @@ returns-2 : tie.Need-returns-2
 returns-2 c = passes-by _ _ _ (sym (c .before .contains .ensures) ∙ c .if1 .left)
 
 pub passed-spec : {M : Type 1} → statement M
-passed-spec = tie.close (tie.spec contains-requires union-requires returns returns-2)
+passed-spec = tie.close (tie.spec contains-requires (λ c κs. search needs) returns returns-2)

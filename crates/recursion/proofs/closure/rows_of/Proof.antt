@@ -26,10 +26,16 @@ leads-to-requires : tie.Need-leads-to-requires Inv-loop μ-loop
 leads-to-requires c κs = parts-few _ _ (c .before .before .before .before .pre) (below-count _ _ (c .before .loop-test .taken)) _ (c .expression-of .ensures)
 
 mul-rows : tie.Need-mul-rows Inv-loop μ-loop
-mul-rows c = let few = count-few _ (c .before .before .before .before .before .pre) in omega (arith, c .before .before .loop-test .taken)
+mul-rows c =
+    let at-loop-test = c .before .before in
+    let few = count-few _ (at-loop-test .before .before .before .pre) in
+    omega (arith, at-loop-test .loop-test .taken)
 
 array-write-rows : tie.Need-array-write-rows Inv-loop μ-loop
-array-write-rows c = let few = count-few _ (c .before .before .before .before .before .pre) in omega (arith, c .before .before .loop-test .taken)
+array-write-rows c =
+    let at-loop-test = c .before .before in
+    let few = count-few _ (at-loop-test .before .before .before .pre) in
+    omega (arith, at-loop-test .loop-test .taken)
 
 add-k : tie.Need-add-k Inv-loop μ-loop
 add-k c = omega arith
@@ -38,7 +44,11 @@ loop-less : tie.Need-loop-less Inv-loop μ-loop
 loop-less c = omega arith
 
 loop-again : tie.Need-loop-again Inv-loop μ-loop
-loop-again c = let few = count-few _ (c .before .before .before .before .before .pre) in rows-next _ _ _ _ (omega (arith, c .before .before .loop-test .taken)) (c .before .before .before .loop .inv) (row-of _ _ _ _ (c .before .expression-of .ensures) (c .leads-to .ensures))
+loop-again c =
+    let turn = c .before .before .before in
+    let few = count-few _ (turn .before .before .pre) in
+    let row = row-of _ _ _ _ (c .before .expression-of .ensures) (c .leads-to .ensures) in
+    rows-next _ _ _ _ (omega (arith, c .before .before .loop-test .taken)) (turn .loop .inv) row
 
 returns : tie.Need-returns Inv-loop μ-loop
 returns c = (λ k h l g. c .before .loop .inv .made k (omega (arith, c .loop-test .left, count-is (c .before .before .before .args .grammar .now))) l, c .before .loop .inv .room)

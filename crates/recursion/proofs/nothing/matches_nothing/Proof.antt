@@ -7,9 +7,6 @@ use Rattle.recursion.specs.Computed.{nothing-by}
 use Rattle.recursion.proofs.nothing.matches_nothing.Statement.{statement}
 use Rattle.recursion.proofs.nothing.matches_nothing.Tie as tie
 
-enum-known-e : tie.Need-enum-known-e
-enum-known-e c = search needs
-
 contains-requires : tie.Need-contains-requires
 contains-requires c κs = sequence-parts (c .before .e .given .1) (c .before .before .before .pre) .0
 
@@ -18,10 +15,9 @@ unfolding nothing-by
 returns c = rw (c .before .before .before .e .given .1) (simp (sym (c .before .contains .ensures) ∙ not-true _ (c .if1 .taken)))
 
 contains-requires-2 : tie.Need-contains-requires-2
-contains-requires-2 c κs = sequence-parts (c .before .before .before .e .given .1) (c .before .before .before .before .before .pre) .1
-
-enum-known-e-2 : tie.Need-enum-known-e-2
-enum-known-e-2 c = search needs
+contains-requires-2 c κs =
+    let at-e = c .before .before .before in
+    sequence-parts (at-e .e .given .1) (at-e .before .before .pre) .1
 
 contains-requires-3 : tie.Need-contains-requires-3
 contains-requires-3 c κs = choice-parts (c .before .e2 .given .1) (c .before .before .before .pre) .0
@@ -31,16 +27,9 @@ unfolding nothing-by
 returns-2 c = rw (c .before .before .before .e2 .given .1) (simp (sym (c .before .contains3 .ensures) ∙ c .if2 .taken))
 
 contains-requires-4 : tie.Need-contains-requires-4
-contains-requires-4 c κs = choice-parts (c .before .before .before .e2 .given .1) (c .before .before .before .before .before .pre) .1
-
-enum-told : tie.Need-enum-told
-enum-told c = search needs
-
-enum-told-2 : tie.Need-enum-told-2
-enum-told-2 c = search needs
-
-enum-told-3 : tie.Need-enum-told-3
-enum-told-3 c = search needs
+contains-requires-4 c κs =
+    let at-e2 = c .before .before .before in
+    choice-parts (at-e2 .e2 .given .1) (at-e2 .before .before .pre) .1
 
 returns-3 : tie.Need-returns-3
 unfolding nothing-by
@@ -66,17 +55,17 @@ pub matches-nothing-spec : {M : Type 1} → statement M
 matches-nothing-spec =
     tie.close
     (tie.spec
-    enum-known-e
+    (λ c. search needs)
     contains-requires
     returns
     contains-requires-2
-    enum-known-e-2
+    (λ c. search needs)
     contains-requires-3
     returns-2
     contains-requires-4
-    enum-told
-    enum-told-2
-    enum-told-3
+    (λ c. search needs)
+    (λ c. search needs)
+    (λ c. search needs)
     returns-3
     returns-4
     returns-5

@@ -26,7 +26,13 @@ loop-less : tie.Need-loop-less Inv-loop μ-loop
 loop-less c = omega (arith, c .before .loop-test .taken)
 
 loop-again : tie.Need-loop-again Inv-loop μ-loop
-loop-again c = (omega (arith, c .before .before .loop .inv .0), sweep-looks _ (c .before .before .before .before .pre .good) _ _ _ _ _ _ (omega (arith, c .before .before .loop .inv .0, c .before .loop-test .taken)) (λ l h g. at-or-after _ l g) (c .before .before .loop .inv .1) (c .looked-at .ensures))
+loop-again c =
+    let turn = c .before .before in
+    let good = turn .before .before .pre .good in (
+      omega (arith, turn .loop .inv .0),
+      sweep-looks _ good _ _ _ _ _ _ (omega (arith, turn .loop .inv .0, c .before .loop-test .taken)) (λ l h g. at-or-after _ l g) (turn .loop .inv .1)
+          (c .looked-at .ensures),
+    )
 
 returns : tie.Need-returns Inv-loop μ-loop
 returns c = sweep-ends _ (c .before .before .before .pre .good) _ _ _ (λ l h. omega (arith, c .loop-test .left)) (c .before .loop .inv .1)

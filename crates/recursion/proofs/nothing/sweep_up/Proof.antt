@@ -25,7 +25,10 @@ loop-less : tie.Need-loop-less Inv-loop μ-loop
 loop-less c = omega (arith, c .before .loop-test .taken)
 
 loop-again : tie.Need-loop-again Inv-loop μ-loop
-loop-again c = sweep-looks _ (c .before .before .before .before .pre .good) _ _ _ _ _ _ (below-count _ _ (c .before .loop-test .taken)) (λ l h g. before-or-at _ l g) (c .before .before .loop .inv) (c .looked-at .ensures)
+loop-again c =
+    let turn = c .before .before in
+    let there = below-count _ _ (c .before .loop-test .taken) in
+    sweep-looks _ (turn .before .before .pre .good) _ _ _ _ _ _ there (λ l h g. before-or-at _ l g) (turn .loop .inv) (c .looked-at .ensures)
 
 returns : tie.Need-returns Inv-loop μ-loop
 returns c = sweep-ends _ (c .before .before .before .pre .good) _ _ _ (λ l h. omega (arith, c .loop-test .left, count-is (c .before .before .before .args .grammar .now))) (c .before .loop .inv)

@@ -10,9 +10,6 @@ use Rattle.recursion.proofs.sets.added.Tie as tie
 single-requires : tie.Need-single-requires
 single-requires c κs = c .before .pre
 
-union-requires : tie.Need-union-requires
-union-requires c κs = search needs
-
 returns : tie.Need-returns
 returns c = (adds-one _ _ _ _ (c .union .ensures .0) (c .before .single .ensures) (c .before .before .if1 .taken), c .union .ensures .1)
 
@@ -20,4 +17,4 @@ returns-2 : tie.Need-returns-2
 returns-2 c = (adds-none _ _ (c .if1 .left), omega arith)
 
 pub added-spec : {M : Type 1} → statement M
-added-spec = tie.close (tie.spec single-requires union-requires returns returns-2)
+added-spec = tie.close (tie.spec single-requires (λ c κs. search needs) returns returns-2)

@@ -5,12 +5,9 @@ use Rattle.recursion.specs.code.Sets.{member}
 use Rattle.recursion.proofs.sets.contains.Statement.{statement}
 use Rattle.recursion.proofs.sets.contains.Tie as tie
 
-shr-bit : tie.Need-shr-bit
-shr-bit c = search needs
-
 returns : tie.Need-returns
 unfolding member
 returns c = refl
 
 pub contains-spec : {M : Type 1} → statement M
-contains-spec = tie.close (tie.spec shr-bit returns)
+contains-spec = tie.close (tie.spec (λ c. search needs) returns)

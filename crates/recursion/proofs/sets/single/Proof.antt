@@ -4,11 +4,8 @@ use Rattle.recursion.proofs.Members.{single-members}
 use Rattle.recursion.proofs.sets.single.Statement.{statement}
 use Rattle.recursion.proofs.sets.single.Tie as tie
 
-shl-result : tie.Need-shl-result
-shl-result c = search needs
-
 returns : tie.Need-returns
 returns c = single-members _ (c .pre)
 
 pub single-spec : {M : Type 1} → statement M
-single-spec = tie.close (tie.spec shl-result returns)
+single-spec = tie.close (tie.spec (λ c. search needs) returns)
