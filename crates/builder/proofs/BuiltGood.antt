@@ -1,6 +1,6 @@
 -- The image of a grammar that is not refused is not refused. Assumes nothing.
 use mathlib.Core.Path.{_≡_, ap}
-use mathlib.Core.Bool.{Bool, true, false, cond}
+use mathlib.Core.Bool.{true}
 use mathlib.Core.List.{List}
 use Prim.Native.Nat.{ℕ, zero, suc, _+_, _*_, _/_, _%_, _^_, _<_, _≤_}
 use native.Mathlib.Nat.{mul-le-mul}
@@ -10,7 +10,7 @@ use Rattle.codec.specs.Numbers.{u32-width, u32-at}
 use Rattle.refusal.specs.declared.Refusal.{Refusal}
 use Rattle.image.specs.Format
 use Rattle.image.specs.Image.{states, classes}
-use Rattle.image.specs.Refusals.{image-refusal, rules-refusal-from}
+use Rattle.image.specs.Refusals.{image-refusal}
 use Rattle.image.specs.Conditions.{Counts-right, Map-right, Rules-right, Image-right}
 use Rattle.refusal.proofs.Reflects.{by-test, by-passing}
 use Rattle.image.proofs.Bits.{bits-test}
@@ -20,7 +20,7 @@ use Rattle.grammar.specs.declared.Expression.{Expression}
 use Rattle.grammar.specs.Grammar.{rules, expression, range-of, grammar-refusal}
 use Rattle.builder.specs.declared.Matching.{Matching}
 use Rattle.builder.specs.Classes.{class-count}
-use Rattle.builder.specs.Table.{state-count, class-inside, rows-at, made}
+use Rattle.builder.specs.Table.{class-inside, rows-at, made}
 use Rattle.builder.specs.Image.{symbols-of, built-rules, built, built-length}
 use Rattle.grammar.proofs.GrammarGood.{Good-grammar, good-grammar}
 use Rattle.builder.proofs.Classes.{byte-class-below, inside-below}

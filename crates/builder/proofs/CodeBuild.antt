@@ -1,14 +1,13 @@
 -- What building answers: the first refusal of 11 to 13, or the image and the later bytes. Assumes nothing.
 use mathlib.Core.Path.{_≡_, refl, sym, ap, subst, _∙_}
 use mathlib.Core.List.{List, _++_}
-use Prim.Native.Nat.{ℕ, zero, suc, _+_, _*_, _≤_}
+use Prim.Native.Nat.{ℕ, zero, suc, _≤_}
 use native.Mathlib.Omega.{arith}
 use lib.ListN.{length, take, drop}
 use lib.Seq.{length-take-le}
 use lib.Dec.{ltb}
 use borrow.Author.Tests.{eq-eqb, ne-eqb, le-ltb, ltb-false}
 use Rattle.refusal.specs.declared.Refusal.{Refusal}
-use Rattle.image.specs.Format
 use Rattle.refusal.specs.First.{refusal, no-refusal, or-else, refuse-if}
 use Rattle.refusal.proofs.Refused.{not-refused as room-there}
 use Rattle.builder.specs.declared.Matching.{Matching}

@@ -7,11 +7,5 @@ use Rattle.builder.proofs.build.build_checked.Tie as tie
 write-image-requires : tie.Need-write-image-requires
 write-image-requires c κs = ready-to-write _ _ _ (c .before .before .before .pre)
 
-same-length : tie.Need-same-length
-same-length c = search needs
-
-returns : tie.Need-returns
-returns c = search needs
-
 pub build-checked-spec : {M : Type 1} → statement M
-build-checked-spec = tie.close (tie.spec write-image-requires same-length returns)
+build-checked-spec = tie.close (tie.spec write-image-requires (λ c. search needs) (λ c. search needs))

@@ -4,9 +4,6 @@ use borrow.Author.Needs.{needs}
 use Rattle.builder.proofs.build.build_image.Statement.{statement}
 use Rattle.builder.proofs.build.build_image.Tie as tie
 
-refusal-of-requires : tie.Need-refusal-of-requires
-refusal-of-requires c κs = search needs
-
 returns : tie.Need-returns
 returns c =
     let asked = c .before .before in
@@ -20,19 +17,13 @@ build-planned-requires c κs =
     let checked = c .before .before in
     record { good = not-refused _ _ (checked .before .before .refusal-of .ensures) (checked .if1 .left); is = c .before .plan-of .ensures }
 
-same-length : tie.Need-same-length
-same-length c = search needs
-
-returns-2 : tie.Need-returns-2
-returns-2 c = search needs
-
 pub build-image-spec : {M : Type 1} → statement M
 build-image-spec =
     tie.close
     (tie.spec
-    refusal-of-requires
+    (λ c κs. search needs)
     returns
     plan-of-requires
     build-planned-requires
-    same-length
-    returns-2)
+    (λ c. search needs)
+    (λ c. search needs))

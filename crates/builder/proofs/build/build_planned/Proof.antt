@@ -6,9 +6,6 @@ use borrow.Author.Needs.{needs}
 use Rattle.builder.proofs.build.build_planned.Statement.{statement}
 use Rattle.builder.proofs.build.build_planned.Tie as tie
 
-room-refusal-requires : tie.Need-room-refusal-requires
-room-refusal-requires c κs = search needs
-
 returns : tie.Need-returns
 returns c =
     let earlier = c .before .before .before .before in
@@ -30,9 +27,6 @@ build-checked-requires c κs =
     buffer-ready _ (start .args .image .now) (start .pre .good) _ (long-is _ _ (start .pre .is))
     (room-passed _ _ _ (room .room-refusal .ensures) (c .before .if1 .left)) _ (start .pre .is)
 
-same-length : tie.Need-same-length
-same-length c = search needs
-
 returns-2 : tie.Need-returns-2
 returns-2 c =
     let earlier = c .before .before .before .before in
@@ -46,10 +40,10 @@ pub build-planned-spec : {M : Type 1} → statement M
 build-planned-spec =
     tie.close
     (tie.spec
-    room-refusal-requires
+    (λ c κs. search needs)
     returns
     slice-relend-prefix-build-checked
     slice-aggregate-build-checked
     build-checked-requires
-    same-length
+    (λ c. search needs)
     returns-2)

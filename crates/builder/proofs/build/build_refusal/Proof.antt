@@ -4,17 +4,11 @@ use borrow.Author.Needs.{needs}
 use Rattle.builder.proofs.build.build_refusal.Statement.{statement}
 use Rattle.builder.proofs.build.build_refusal.Tie as tie
 
-refusal-of-requires : tie.Need-refusal-of-requires
-refusal-of-requires c κs = search needs
-
 returns : tie.Need-returns
 returns c = grammar-refused _ _ (c .before .before .refusal-of .ensures) _ (c .if1 .taken)
 
 plan-of-requires : tie.Need-plan-of-requires
 plan-of-requires c κs = not-refused _ _ (c .before .before .refusal-of .ensures) (c .if1 .left)
-
-room-refusal-requires : tie.Need-room-refusal-requires
-room-refusal-requires c κs = search needs
 
 returns-2 : tie.Need-returns-2
 returns-2 c =
@@ -25,4 +19,4 @@ returns-2 c =
 pub build-refusal-spec : {M : Type 1} → statement M
 build-refusal-spec =
     tie.close
-    (tie.spec refusal-of-requires returns plan-of-requires room-refusal-requires returns-2)
+    (tie.spec (λ c κs. search needs) returns plan-of-requires (λ c κs. search needs) returns-2)

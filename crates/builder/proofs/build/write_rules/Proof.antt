@@ -28,9 +28,6 @@ add-columns c =
     let start = c .before .before .before in
     omega (arith, start .pre .0 .classes-are, classes-most _ (start .pre .0 .good))
 
-first-requires : tie.Need-first-requires Inv-loop μ-loop
-first-requires c κs = search needs
-
 loop-holds : tie.Need-loop-holds Inv-loop μ-loop
 loop-holds c =
     let start = c .before .before .before .before in
@@ -43,40 +40,51 @@ loop-holds c =
 
 row-zero-requires : tie.Need-row-zero-requires Inv-loop μ-loop
 row-zero-requires c κs =
-    let start = c .before .before .before .before .before .before .before .before in
+    let at-first = c .before .before .before .before in
+    let start = at-first .before .before .before .before in
     omega (arith, start .pre .0 .classes-are, classes-most _ (start .pre .0 .good))
 
 write-rule-requires : tie.Need-write-rule-requires Inv-loop μ-loop
 write-rule-requires c κs =
-    let turn = c .before .before .before .before .before in
-    let start = c .before .before .before .before .before .before .before .before .before .before in
-    omega (arith, turn .loop .inv .0 .long, c .before .before .before .before .loop-test .taken, start .pre .1 .count-is)
+    let at-loop-test = c .before .before .before .before in
+    let turn = at-loop-test .before in
+    let at-symbol-count = turn .before .before in
+    let start = at-symbol-count .before .before .before in
+    omega (arith, turn .loop .inv .0 .long, at-loop-test .loop-test .taken, start .pre .1 .count-is)
 
 next-requires : tie.Need-next-requires Inv-loop μ-loop
 next-requires c κs =
-    let turn = c .before .before .before .before .before .before .before .before in
-    let start = c .before .before .before .before .before .before .before .before .before .before .before .before .before in
+    let at-row-zero = c .before .before .before .before in
+    let turn = at-row-zero .before .before .before .before in
+    let at-symbol-count = turn .before .before in
+    let start = at-symbol-count .before .before .before in
     counts-on _ _ _ _ (turn .loop .inv .1)
     (omega (arith, turn .loop .inv .0 .within, count-most (start .args .grammar .now) (start .pre .0 .good)))
 
 add-i : tie.Need-add-i Inv-loop μ-loop
 add-i c =
-    let turn = c .before .before .before .before .before .before .before .before .before in
-    let start = c .before .before .before .before .before .before .before .before .before .before .before .before .before .before in
+    let at-write-rule = c .before .before .before in
+    let at-if1 = at-write-rule .before .before .before in
+    let turn = at-if1 .before .before .before in
+    let at-symbol-count = turn .before .before in
+    let start = at-symbol-count .before .before .before in
     omega (arith, turn .loop .inv .0 .within, count-most (start .args .grammar .now) (start .pre .0 .good))
 
 loop-less : tie.Need-loop-less Inv-loop μ-loop
-loop-less c = omega (arith, c .before .before .before .before .before .before .before .before .loop-test .taken)
+loop-less c =
+    let at-write-rule = c .before .before .before in
+    let at-if1 = at-write-rule .before .before .before in
+    omega (arith, at-if1 .before .before .loop-test .taken)
 
 loop-again : tie.Need-loop-again Inv-loop μ-loop
 loop-again c =
     let put = c .before .before .before in
     let zero = put .before .before in
-    let turn = c .before .before .before .before .before .before .before .before .before in
+    let turn = zero .before .before .before .before in
     let counted = turn .before .before in
     let start = counted .before .before .before in
     let gs = start .args .grammar .now in
-    let more : turn .loop .i < built-rules gs = omega (arith, c .before .before .before .before .before .before .before .before .loop-test .taken, start .pre .1 .count-is) in
+    let more : turn .loop .i < built-rules gs = omega (arith, zero .before .before .before .loop-test .taken, start .pre .1 .count-is) in
     let even : turn .loop .s .symbol % 2 ≡ 0 = ap (λ (n : ℕ). n % 2) (zero .before .if1 .taken) in (
       rules-next _ gs (start .args .image .now) (turn .loop .image) (put .write-rule .last .0) (turn .loop .i) _ _ (zero .row-zero .result) (turn .loop .inv .0)
           more (start .pre .0 .classes-are) (counted .symbol-count .ensures) (put .write-rule .kept .0) (put .write-rule .ensures)
@@ -98,29 +106,39 @@ made-pair-requires c κs =
 
 write-rule-requires-2 : tie.Need-write-rule-requires-2 Inv-loop μ-loop
 write-rule-requires-2 c κs =
-    let turn = c .before .before .before .before .before .before in
-    let start = c .before .before .before .before .before .before .before .before .before .before .before in
-    omega (arith, turn .loop .inv .0 .long, c .before .before .before .before .before .loop-test .taken, start .pre .1 .count-is)
+    let at-if1 = c .before .before .before in
+    let turn = at-if1 .before .before .before in
+    let at-symbol-count = turn .before .before in
+    let start = at-symbol-count .before .before .before in
+    omega (arith, turn .loop .inv .0 .long, at-if1 .before .before .loop-test .taken, start .pre .1 .count-is)
 
 add-write-rule : tie.Need-add-write-rule Inv-loop μ-loop
 add-write-rule c =
-    let turn = c .before .before .before .before .before .before .before .before .before .before in
-    let start = c .before .before .before .before .before .before .before .before .before .before .before .before .before .before .before in
+    let at-write-rule2 = c .before .before .before in
+    let at-if1 = at-write-rule2 .before .before .before .before in
+    let turn = at-if1 .before .before .before in
+    let at-symbol-count = turn .before .before in
+    let start = at-symbol-count .before .before .before in
     omega (arith, turn .loop .inv .0 .within, count-most (start .args .grammar .now) (start .pre .0 .good))
 
 write-rule-requires-3 : tie.Need-write-rule-requires-3 Inv-loop μ-loop
 write-rule-requires-3 c κs =
-    let turn = c .before .before .before .before .before .before .before .before .before .before in
+    let at-write-rule2 = c .before .before .before in
+    let at-if1 = at-write-rule2 .before .before .before .before in
+    let turn = at-if1 .before .before .before in
     let counted = turn .before .before in
     let start = counted .before .before .before in
     let gs = start .args .grammar .now in
-    let more : turn .loop .i < built-rules gs = omega (arith, c .before .before .before .before .before .before .before .before .before .loop-test .taken, start .pre .1 .count-is) in
-    let there = pair-there gs (turn .loop .s) _ _ _ (turn .loop .inv .1) (start .pre .0 .classes-are) (counted .symbol-count .ensures) more (turn .loop .inv .2) (c .before .before .before .before .before .before .before .if1 .left) in
-    omega (arith, there .later, turn .loop .inv .0 .long, c .before .before .before .write-rule2 .kept .0)
+    let more : turn .loop .i < built-rules gs = omega (arith, at-if1 .before .before .loop-test .taken, start .pre .1 .count-is) in
+    let there = pair-there gs (turn .loop .s) _ _ _ (turn .loop .inv .1) (start .pre .0 .classes-are) (counted .symbol-count .ensures) more (turn .loop .inv .2) (at-if1 .if1 .left) in
+    omega (arith, there .later, turn .loop .inv .0 .long, at-write-rule2 .write-rule2 .kept .0)
 
 add-symbol : tie.Need-add-symbol Inv-loop μ-loop
 add-symbol c =
-    let turn = c .before .before .before .before .before .before .before .before .before .before .before .before .before .before in
+    let at-write-rule3 = c .before .before .before in
+    let at-write-rule2 = at-write-rule3 .before .before .before .before in
+    let at-if1 = at-write-rule2 .before .before .before .before in
+    let turn = at-if1 .before .before .before in
     let counted = turn .before .before in
     let start = counted .before .before .before in
     let gs = start .args .grammar .now in
@@ -128,35 +146,47 @@ add-symbol c =
 
 next-requires-2 : tie.Need-next-requires-2 Inv-loop μ-loop
 next-requires-2 c κs =
-    let turn = c .before .before .before .before .before .before .before .before .before .before .before .before .before .before in
+    let at-write-rule3 = c .before .before .before in
+    let at-write-rule2 = at-write-rule3 .before .before .before .before in
+    let at-if1 = at-write-rule2 .before .before .before .before in
+    let turn = at-if1 .before .before .before in
     let counted = turn .before .before in
     let start = counted .before .before .before in
     let gs = start .args .grammar .now in
-    let more : turn .loop .i < built-rules gs = omega (arith, c .before .before .before .before .before .before .before .before .before .before .before .before .before .loop-test .taken, start .pre .1 .count-is) in
-    let there = pair-there gs (turn .loop .s) _ _ _ (turn .loop .inv .1) (start .pre .0 .classes-are) (counted .symbol-count .ensures) more (turn .loop .inv .2) (c .before .before .before .before .before .before .before .before .before .before .before .if1 .left) in
+    let more : turn .loop .i < built-rules gs = omega (arith, at-if1 .before .before .loop-test .taken, start .pre .1 .count-is) in
+    let there = pair-there gs (turn .loop .s) _ _ _ (turn .loop .inv .1) (start .pre .0 .classes-are) (counted .symbol-count .ensures) more (turn .loop .inv .2) (at-if1 .if1 .left) in
     counts-on _ _ _ _ (selects-as (sym (next-symbol (turn .loop .s) _ _ (there .two))) (selects-next _ _ _ _ (turn .loop .inv .1)))
     (omega (arith, there .later, count-most gs (start .pre .0 .good)))
 
 add-i-2 : tie.Need-add-i-2 Inv-loop μ-loop
 add-i-2 c =
-    let turn = c .before .before .before .before .before .before .before .before .before .before .before .before .before .before .before in
-    let start = c .before .before .before .before .before .before .before .before .before .before .before .before .before .before .before .before .before .before .before .before in
+    let at-write-rule3 = c .before .before .before .before in
+    let at-write-rule2 = at-write-rule3 .before .before .before .before in
+    let at-if1 = at-write-rule2 .before .before .before .before in
+    let turn = at-if1 .before .before .before in
+    let at-symbol-count = turn .before .before in
+    let start = at-symbol-count .before .before .before in
     omega (arith, turn .loop .inv .0 .within, count-most (start .args .grammar .now) (start .pre .0 .good))
 
 loop-less-2 : tie.Need-loop-less-2 Inv-loop μ-loop
-loop-less-2 c = omega (arith, c .before .before .before .before .before .before .before .before .before .before .before .before .before .before .loop-test .taken)
+loop-less-2 c =
+    let at-write-rule3 = c .before .before .before .before in
+    let at-write-rule2 = at-write-rule3 .before .before .before .before in
+    let at-if1 = at-write-rule2 .before .before .before .before in
+    omega (arith, at-if1 .before .before .loop-test .taken)
 
 loop-again-2 : tie.Need-loop-again-2 Inv-loop μ-loop
 loop-again-2 c =
     let second = c .before .before .before .before in
-    let first = c .before .before .before .before .before .before .before .before in
-    let pair = c .before .before .before .before .before .before .before .before .before .before in
-    let turn = c .before .before .before .before .before .before .before .before .before .before .before .before .before .before .before in
+    let first = second .before .before .before .before in
+    let pair = first .before .before in
+    let at-loop-test = pair .before .before .before .before in
+    let turn = at-loop-test .before in
     let counted = turn .before .before in
     let start = counted .before .before .before in
     let gs = start .args .grammar .now in
-    let more : turn .loop .i < built-rules gs = omega (arith, c .before .before .before .before .before .before .before .before .before .before .before .before .before .before .loop-test .taken, start .pre .1 .count-is) in
-    let there = pair-there gs (turn .loop .s) _ _ _ (turn .loop .inv .1) (start .pre .0 .classes-are) (counted .symbol-count .ensures) more (turn .loop .inv .2) (c .before .before .before .before .before .before .before .before .before .before .before .before .if1 .left) in
+    let more : turn .loop .i < built-rules gs = omega (arith, at-loop-test .loop-test .taken, start .pre .1 .count-is) in
+    let there = pair-there gs (turn .loop .s) _ _ _ (turn .loop .inv .1) (start .pre .0 .classes-are) (counted .symbol-count .ensures) more (turn .loop .inv .2) (pair .before .before .if1 .left) in
     let here = turn .loop .inv .1 in
     let next = selects-as (sym (next-symbol (turn .loop .s) _ _ (there .two))) (selects-next _ _ _ _ here) in
     let one =
@@ -199,7 +229,7 @@ write-rules-spec =
     μ-loop
     symbol-count-requires
     add-columns
-    first-requires
+    (λ c κs. search needs)
     loop-holds
     row-zero-requires
     write-rule-requires

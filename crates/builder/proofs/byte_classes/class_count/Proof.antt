@@ -49,13 +49,17 @@ loop-again c =
 
 add-result : tie.Need-add-result Inv-loop μ-loop
 add-result c =
-    let start = c .before .before .before .before .before .before in
-    omega (arith, c .before .loop .inv .1, class-within (start .args .grammar .now) (c .before .loop .v))
+    let turn = c .before in
+    let at-marks = turn .before .before .before in
+    let start = at-marks .before .before in
+    omega (arith, turn .loop .inv .1, class-within (start .args .grammar .now) (turn .loop .v))
 
 returns : tie.Need-returns Inv-loop μ-loop
 returns c =
-    let start = c .before .before .before .before .before .before in
-    classes-are (start .args .grammar .now) _ (c .before .loop .v) (c .before .loop .inv .1) (c .loop-test .left) (c .before .loop .inv .0)
+    let turn = c .before in
+    let at-marks = turn .before .before .before in
+    let start = at-marks .before .before in
+    classes-are (start .args .grammar .now) _ (turn .loop .v) (turn .loop .inv .1) (c .loop-test .left) (turn .loop .inv .0)
 
 pub class-count-spec : {M : Type 1} → statement M
 class-count-spec =

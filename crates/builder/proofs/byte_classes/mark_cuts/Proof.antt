@@ -21,9 +21,6 @@ expression-of-requires : tie.Need-expression-of-requires Inv-loop μ-loop
 unfolding rules
 expression-of-requires c κs = omega arith
 
-range-of-requires : tie.Need-range-of-requires Inv-loop μ-loop
-range-of-requires c κs = search needs
-
 mark-range-requires : tie.Need-mark-range-requires Inv-loop μ-loop
 mark-range-requires c κs = c .before .before .before .before .loop .inv .long
 
@@ -57,7 +54,7 @@ mark-cuts-spec =
     μ-loop
     loop-holds
     expression-of-requires
-    range-of-requires
+    (λ c κs. search needs)
     mark-range-requires
     add-k
     loop-less

@@ -21,11 +21,14 @@ mark-cuts-requires : tie.Need-mark-cuts-requires Inv-loop μ-loop
 mark-cuts-requires c κs = unmarked
 
 slice-write-image : tie.Need-slice-write-image Inv-loop μ-loop
-slice-write-image c = omega (arith, c .before .before .before .before .before .pre)
+slice-write-image c =
+    let at-marks = c .before .before in
+    omega (arith, at-marks .before .before .before .pre)
 
 loop-holds : tie.Need-loop-holds Inv-loop μ-loop
 loop-holds c =
-    let start = c .before .before .before .before .before in
+    let at-marks = c .before .before in
+    let start = at-marks .before .before .before in
     map-start (start .args .grammar .now) (start .args .image .now) (start .pre)
 
 add-v : tie.Need-add-v Inv-loop μ-loop
@@ -44,8 +47,10 @@ add-at c = omega arith
 
 slice-write-image-2 : tie.Need-slice-write-image-2 Inv-loop μ-loop
 slice-write-image-2 c =
-    let start = c .before .before .before .before .before .before .before in
-    omega (arith, start .pre, map-room (start .args .grammar .now) (start .args .image .now) (c .before .loop .image) _ _ (c .before .loop .inv))
+    let turn = c .before in
+    let at-marks = turn .before .before .before in
+    let start = at-marks .before .before .before in
+    omega (arith, start .pre, map-room (start .args .grammar .now) (start .args .image .now) (turn .loop .image) _ _ (turn .loop .inv))
 
 loop-less : tie.Need-loop-less Inv-loop μ-loop
 loop-less c = omega arith
@@ -61,13 +66,17 @@ loop-again c =
 
 same-length : tie.Need-same-length Inv-loop μ-loop
 same-length c =
-    let start = c .before .before .before .before .before .before .before in
-    map-room (start .args .grammar .now) (start .args .image .now) (c .before .loop .image) _ _ (c .before .loop .inv)
+    let turn = c .before in
+    let at-marks = turn .before .before .before in
+    let start = at-marks .before .before .before in
+    map-room (start .args .grammar .now) (start .args .image .now) (turn .loop .image) _ _ (turn .loop .inv)
 
 returns : tie.Need-returns Inv-loop μ-loop
 returns c =
-    let start = c .before .before .before .before .before .before .before in
-    map-end (start .args .grammar .now) (start .args .image .now) (c .before .loop .image) _ _ (c .before .loop .inv) (c .loop-test .left)
+    let turn = c .before in
+    let at-marks = turn .before .before .before in
+    let start = at-marks .before .before .before in
+    map-end (start .args .grammar .now) (start .args .image .now) (turn .loop .image) _ _ (turn .loop .inv) (c .loop-test .left)
 
 pub write-map-spec : {M : Type 1} → statement M
 write-map-spec =

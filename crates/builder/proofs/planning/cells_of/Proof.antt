@@ -8,18 +8,6 @@ use Rattle.builder.proofs.planning.cells_of.Tie as tie
 symbol-count-requires : tie.Need-symbol-count-requires
 symbol-count-requires c κs = grammar-short _ (c .before .pre .good)
 
-cast-symbols : tie.Need-cast-symbols
-cast-symbols c = search needs
-
-add-places : tie.Need-add-places
-add-places c = search needs
-
-cast-result : tie.Need-cast-result
-cast-result c = search needs
-
-mul-result : tie.Need-mul-result
-mul-result c = search needs
-
 mul-result-2 : tie.Need-mul-result-2
 mul-result-2 c = fits-below tt (cells-fit _ _ _ (c .before .before .pre) (c .symbol-count .ensures))
 
@@ -31,9 +19,9 @@ cells-of-spec =
     tie.close
     (tie.spec
     symbol-count-requires
-    cast-symbols
-    add-places
-    cast-result
-    mul-result
+    (λ c. search needs)
+    (λ c. search needs)
+    (λ c. search needs)
+    (λ c. search needs)
     mul-result-2
     returns)

@@ -5,22 +5,13 @@ use borrow.Author.Needs.{needs}
 use Rattle.builder.proofs.rows.by_state.Statement.{statement}
 use Rattle.builder.proofs.rows.by_state.Tie as tie
 
-cast-if1 : tie.Need-cast-if1
-cast-if1 c = search needs
-
 returns : tie.Need-returns
 unfolding by-state
 returns c = simp (eq-eqb _ _ (c .if1 .taken))
 
-cast-if2 : tie.Need-cast-if2
-cast-if2 c = search needs
-
 returns-2 : tie.Need-returns-2
 unfolding by-state
 returns-2 c = simp (ne-eqb _ _ (c .before .if1 .left), eq-eqb _ _ (c .if2 .taken))
-
-cast-if3 : tie.Need-cast-if3
-cast-if3 c = search needs
 
 returns-3 : tie.Need-returns-3
 unfolding by-state
@@ -32,4 +23,4 @@ returns-4 c = simp (ne-eqb _ _ (c .before .before .if1 .left), ne-eqb _ _ (c .be
 
 pub by-state-spec : {M : Type 1} → statement M
 by-state-spec =
-    tie.close (tie.spec cast-if1 returns cast-if2 returns-2 cast-if3 returns-3 returns-4)
+    tie.close (tie.spec (λ c. search needs) returns (λ c. search needs) returns-2 (λ c. search needs) returns-3 returns-4)

@@ -8,14 +8,8 @@ use Rattle.builder.specs.Table.{state-work, rule}
 use Rattle.builder.proofs.rows.change.Statement.{statement}
 use Rattle.builder.proofs.rows.change.Tie as tie
 
-mul-symbol : tie.Need-mul-symbol
-mul-symbol c = search needs
-
-add-symbol : tie.Need-add-symbol
-add-symbol c = search needs
-
 returns : tie.Need-returns
 returns c = ap (λ (a : ℕ). rule Format.kind-change state-work a Format.direction-stay) (omega arith)
 
 pub change-spec : {M : Type 1} → statement M
-change-spec = tie.close (tie.spec mul-symbol add-symbol returns)
+change-spec = tie.close (tie.spec (λ c. search needs) (λ c. search needs) returns)

@@ -6,56 +6,17 @@ use borrow.Author.Needs.{needs}
 use Rattle.builder.proofs.rows.first_rule.Statement.{statement}
 use Rattle.builder.proofs.rows.first_rule.Tie as tie
 
-enum-known-e : tie.Need-enum-known-e
-enum-known-e c = search needs
-
 push-requires : tie.Need-push-requires
 unfolding Parts-below
 push-requires c κs = parts-of (c .before .before .before .pre .parts-below) (c .before .e .given .1) .0
-
-change-requires : tie.Need-change-requires
-change-requires c κs = search needs
-
-by-state-requires : tie.Need-by-state-requires
-by-state-requires c κs = search needs
-
-enum-known-e-2 : tie.Need-enum-known-e-2
-enum-known-e-2 c = search needs
 
 push-requires-2 : tie.Need-push-requires-2
 unfolding Parts-below
 push-requires-2 c κs = parts-of (c .before .before .before .pre .parts-below) (c .before .e2 .given .1) .0
 
-change-requires-2 : tie.Need-change-requires-2
-change-requires-2 c κs = search needs
-
-by-state-requires-2 : tie.Need-by-state-requires-2
-by-state-requires-2 c κs = search needs
-
-enum-known-e-3 : tie.Need-enum-known-e-3
-enum-known-e-3 c = search needs
-
 push-requires-3 : tie.Need-push-requires-3
 unfolding Parts-below
 push-requires-3 c κs = parts-of (c .before .before .before .pre .parts-below) (c .before .e3 .given .1)
-
-by-state-requires-3 : tie.Need-by-state-requires-3
-by-state-requires-3 c κs = search needs
-
-enum-told : tie.Need-enum-told
-enum-told c = search needs
-
-by-state-requires-4 : tie.Need-by-state-requires-4
-by-state-requires-4 c κs = search needs
-
-enum-told-2 : tie.Need-enum-told-2
-enum-told-2 c = search needs
-
-one-byte-requires : tie.Need-one-byte-requires
-one-byte-requires c κs = search needs
-
-by-state-requires-5 : tie.Need-by-state-requires-5
-by-state-requires-5 c κs = search needs
 
 returns : tie.Need-returns
 unfolding rows select
@@ -81,22 +42,22 @@ pub first-rule-spec : {M : Type 1} → statement M
 first-rule-spec =
     tie.close
     (tie.spec
-    enum-known-e
+    (λ c. search needs)
     push-requires
-    change-requires
-    by-state-requires
-    enum-known-e-2
+    (λ c κs. search needs)
+    (λ c κs. search needs)
+    (λ c. search needs)
     push-requires-2
-    change-requires-2
-    by-state-requires-2
-    enum-known-e-3
+    (λ c κs. search needs)
+    (λ c κs. search needs)
+    (λ c. search needs)
     push-requires-3
-    by-state-requires-3
-    enum-told
-    by-state-requires-4
-    enum-told-2
-    one-byte-requires
-    by-state-requires-5
+    (λ c κs. search needs)
+    (λ c. search needs)
+    (λ c κs. search needs)
+    (λ c. search needs)
+    (λ c κs. search needs)
+    (λ c κs. search needs)
     returns
     returns-2
     returns-3

@@ -4,12 +4,6 @@ use borrow.Author.Needs.{needs}
 use Rattle.builder.proofs.rows.on_byte.Statement.{statement}
 use Rattle.builder.proofs.rows.on_byte.Tie as tie
 
-enum-told : tie.Need-enum-told
-enum-told c = search needs
-
-enum-told-2 : tie.Need-enum-told-2
-enum-told-2 c = search needs
-
 returns : tie.Need-returns
 unfolding on-byte
 returns c = simp (c .enum-told .given .1)
@@ -19,4 +13,4 @@ unfolding on-byte
 returns-2 c = simp (c .enum-told2 .given .1)
 
 pub on-byte-spec : {M : Type 1} → statement M
-on-byte-spec = tie.close (tie.spec enum-told enum-told-2 returns returns-2)
+on-byte-spec = tie.close (tie.spec (λ c. search needs) (λ c. search needs) returns returns-2)

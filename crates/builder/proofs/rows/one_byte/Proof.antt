@@ -8,12 +8,6 @@ use borrow.Author.Needs.{needs}
 use Rattle.builder.proofs.rows.one_byte.Statement.{statement}
 use Rattle.builder.proofs.rows.one_byte.Tie as tie
 
-mul-symbol : tie.Need-mul-symbol
-mul-symbol c = search needs
-
-add-symbol : tie.Need-add-symbol
-add-symbol c = search needs
-
 returns : tie.Need-returns
 returns c = simp (c .if1 .taken) (ap (λ (a : ℕ). rule Format.kind-change state-ok a Format.direction-right) (omega arith))
 
@@ -21,4 +15,4 @@ returns-2 : tie.Need-returns-2
 returns-2 c = simp (c .if1 .left)
 
 pub one-byte-spec : {M : Type 1} → statement M
-one-byte-spec = tie.close (tie.spec mul-symbol add-symbol returns returns-2)
+one-byte-spec = tie.close (tie.spec (λ c. search needs) (λ c. search needs) returns returns-2)

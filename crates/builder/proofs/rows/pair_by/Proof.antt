@@ -3,14 +3,8 @@ use borrow.Author.Needs.{needs}
 use Rattle.builder.proofs.rows.pair_by.Statement.{statement}
 use Rattle.builder.proofs.rows.pair_by.Tie as tie
 
-first-rule-requires : tie.Need-first-rule-requires
-first-rule-requires c κs = search needs
-
-second-rule-requires : tie.Need-second-rule-requires
-second-rule-requires c κs = search needs
-
 returns : tie.Need-returns
 returns c = record { first = c .before .first-rule .ensures; second = c .second-rule .ensures _ _ }
 
 pub pair-by-spec : {M : Type 1} → statement M
-pair-by-spec = tie.close (tie.spec first-rule-requires second-rule-requires returns)
+pair-by-spec = tie.close (tie.spec (λ c κs. search needs) (λ c κs. search needs) returns)

@@ -8,14 +8,8 @@ use Rattle.builder.specs.Table.{state-work, rule}
 use Rattle.builder.proofs.rows.push.Statement.{statement}
 use Rattle.builder.proofs.rows.push.Tie as tie
 
-mul-symbol : tie.Need-mul-symbol
-mul-symbol c = search needs
-
-add-symbol : tie.Need-add-symbol
-add-symbol c = search needs
-
 returns : tie.Need-returns
 returns c = ap (λ (a : ℕ). rule Format.kind-push state-work a Format.direction-stay) (omega arith)
 
 pub push-spec : {M : Type 1} → statement M
-push-spec = tie.close (tie.spec mul-symbol add-symbol returns)
+push-spec = tie.close (tie.spec (λ c. search needs) (λ c. search needs) returns)

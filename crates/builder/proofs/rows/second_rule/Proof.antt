@@ -6,34 +6,13 @@ use borrow.Author.Needs.{needs}
 use Rattle.builder.proofs.rows.second_rule.Statement.{statement}
 use Rattle.builder.proofs.rows.second_rule.Tie as tie
 
-enum-known-e : tie.Need-enum-known-e
-enum-known-e c = search needs
-
 push-requires : tie.Need-push-requires
 unfolding Parts-below
 push-requires c κs = parts-of (c .before .before .before .pre) (c .before .e .given .1) .1
 
-by-state-requires : tie.Need-by-state-requires
-by-state-requires c κs = search needs
-
-enum-known-e-2 : tie.Need-enum-known-e-2
-enum-known-e-2 c = search needs
-
 push-requires-2 : tie.Need-push-requires-2
 unfolding Parts-below
 push-requires-2 c κs = parts-of (c .before .before .before .pre) (c .before .e2 .given .1) .1
-
-by-state-requires-2 : tie.Need-by-state-requires-2
-by-state-requires-2 c κs = search needs
-
-enum-told : tie.Need-enum-told
-enum-told c = search needs
-
-enum-told-2 : tie.Need-enum-told-2
-enum-told-2 c = search needs
-
-enum-told-3 : tie.Need-enum-told-3
-enum-told-3 c = search needs
 
 returns : tie.Need-returns
 unfolding rows select
@@ -59,15 +38,15 @@ pub second-rule-spec : {M : Type 1} → statement M
 second-rule-spec =
     tie.close
     (tie.spec
-    enum-known-e
+    (λ c. search needs)
     push-requires
-    by-state-requires
-    enum-known-e-2
+    (λ c κs. search needs)
+    (λ c. search needs)
     push-requires-2
-    by-state-requires-2
-    enum-told
-    enum-told-2
-    enum-told-3
+    (λ c κs. search needs)
+    (λ c. search needs)
+    (λ c. search needs)
+    (λ c. search needs)
     returns
     returns-2
     returns-3

@@ -5,19 +5,13 @@ use borrow.Author.Needs.{needs}
 use Rattle.builder.proofs.rows.unruled.Statement.{statement}
 use Rattle.builder.proofs.rows.unruled.Tie as tie
 
-cast-if1 : tie.Need-cast-if1
-cast-if1 c = search needs
-
 returns : tie.Need-returns
 unfolding unruled
 returns c = simp (lt-ltb _ _ (c .if1 .taken))
-
-cast-result : tie.Need-cast-result
-cast-result c = search needs
 
 returns-2 : tie.Need-returns-2
 unfolding unruled
 returns-2 c = simp (le-ltb _ _ (c .if1 .left))
 
 pub unruled-spec : {M : Type 1} → statement M
-unruled-spec = tie.close (tie.spec cast-if1 returns cast-result returns-2)
+unruled-spec = tie.close (tie.spec (λ c. search needs) returns (λ c. search needs) returns-2)
