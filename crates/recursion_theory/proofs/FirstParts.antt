@@ -13,18 +13,7 @@ use Rattle.grammar.specs.Parsing.{Rules, Parses, sequence, sequence-fails, choi
 use Rattle.builder.specs.declared.Matching.{Matching}
 use Rattle.builder.specs.Image.{built}
 use Rattle.parsing_theory.proofs.BuiltParses.{built-parses}
-use Rattle.recursion.specs.LeftRecursion.{Leads, Leads-on}
 use Rattle.recursion_theory.specs.FirstParts.{Tries-first, Tries-on, first-part, one, its-own, last, more}
-
--- what is tried first is led to
-first-leads : {E : Rules} {k l : ℕ} → Tries-first E k l → Leads E k l
-first-leads (first-part e) = Leads.first-part e
-first-leads (one e) = Leads.one e
-first-leads (its-own e) = Leads.its-own e
-
-pub tries-leads : {E : Rules} {k l : ℕ} → Tries-on E k l → Leads-on E k l
-tries-leads (last x) = Leads-on.last (first-leads x)
-tries-leads (more x y) = Leads-on.more (first-leads x) (tries-leads y)
 
 -- what an expression tries first goes on into rule t; one without parts tries nothing
 abbrev First-tries : (E : Rules) → (t : ℕ) → Expression → Type 0

@@ -8,15 +8,6 @@ use Rattle.scanner.specs.code.Stepping.{spot-of}
 use Rattle.scanner.proofs.faults.at_end.Statement.{statement}
 use Rattle.scanner.proofs.faults.at_end.Tie as tie
 
-enum-told : tie.Need-enum-told
-enum-told c = search needs
-
-enum-told-2 : tie.Need-enum-told-2
-enum-told-2 c = search needs
-
-enum-told-3 : tie.Need-enum-told-3
-enum-told-3 c = search needs
-
 returns : tie.Need-returns
 unfolding spot-of at-end
 returns c = λ ns q. simp (c .before .enum-told .given .1, le-ltb 0 (length ns) (omega arith))
@@ -35,4 +26,4 @@ returns-4 c = λ ns q. simp (c .enum-told3 .given .1)
 
 pub at-end-spec : {M : Type 1} → statement M
 at-end-spec =
-    tie.close (tie.spec enum-told enum-told-2 enum-told-3 returns returns-2 returns-3 returns-4)
+    tie.close (tie.spec (λ c. search needs) (λ c. search needs) (λ c. search needs) returns returns-2 returns-3 returns-4)

@@ -4,15 +4,6 @@ use Rattle.scanner.specs.code.Stepping.{spot-of, begins, lines-begun}
 use Rattle.scanner.proofs.faults.begun.Statement.{statement}
 use Rattle.scanner.proofs.faults.begun.Tie as tie
 
-enum-told : tie.Need-enum-told
-enum-told c = search needs
-
-enum-told-2 : tie.Need-enum-told-2
-enum-told-2 c = search needs
-
-enum-told-3 : tie.Need-enum-told-3
-enum-told-3 c = search needs
-
 returns : tie.Need-returns
 unfolding spot-of begins lines-begun
 returns c = simp (c .enum-told .given .1)
@@ -26,4 +17,4 @@ unfolding spot-of begins lines-begun
 returns-3 c = simp (c .enum-told3 .given .1)
 
 pub begun-spec : {M : Type 1} → statement M
-begun-spec = tie.close (tie.spec enum-told enum-told-2 enum-told-3 returns returns-2 returns-3)
+begun-spec = tie.close (tie.spec (λ c. search needs) (λ c. search needs) (λ c. search needs) returns returns-2 returns-3)

@@ -8,27 +8,6 @@ use borrow.Author.Needs.{needs}
 use Rattle.scanner.proofs.faults.by_byte.Statement.{statement}
 use Rattle.scanner.proofs.faults.by_byte.Tie as tie
 
-enum-told : tie.Need-enum-told
-enum-told c = search needs
-
-enum-told-2 : tie.Need-enum-told-2
-enum-told-2 c = search needs
-
-sign-of-requires : tie.Need-sign-of-requires
-sign-of-requires c κs = search needs
-
-from-equals-requires : tie.Need-from-equals-requires
-from-equals-requires c κs = search needs
-
-enum-known-spot : tie.Need-enum-known-spot
-enum-known-spot c = search needs
-
-sign-of-requires-2 : tie.Need-sign-of-requires-2
-sign-of-requires-2 c κs = search needs
-
-from-inside-requires : tie.Need-from-inside-requires
-from-inside-requires c κs = search needs
-
 returns : tie.Need-returns
 unfolding spot-of next-of
 returns c = λ ns. simp (c .enum-told .given .1) (sym (line-byte ns _))
@@ -45,13 +24,13 @@ pub by-byte-spec : {M : Type 1} → statement M
 by-byte-spec =
     tie.close
     (tie.spec
-    enum-told
-    enum-told-2
-    sign-of-requires
-    from-equals-requires
-    enum-known-spot
-    sign-of-requires-2
-    from-inside-requires
+    (λ c. search needs)
+    (λ c. search needs)
+    (λ c κs. search needs)
+    (λ c κs. search needs)
+    (λ c. search needs)
+    (λ c κs. search needs)
+    (λ c κs. search needs)
     returns
     returns-2
     returns-3)

@@ -6,9 +6,6 @@ use Rattle.scanner.proofs.Faulting.{name-old, name-new}
 use Rattle.scanner.proofs.faults.by_name.Statement.{statement}
 use Rattle.scanner.proofs.faults.by_name.Tie as tie
 
-line-of-requires : tie.Need-line-of-requires
-line-of-requires c κs = search needs
-
 returns : tie.Need-returns
 unfolding next-of to-if
 returns c = simp (name-old _ _ _ (c .before .before .before .pre .0) _ (c .before .line-of .ensures) (c .if1 .taken))
@@ -18,4 +15,4 @@ unfolding next-of spot-of to-if
 returns-2 c = simp (name-new _ _ _ (c .before .before .before .pre .0) _ (c .before .line-of .ensures) (c .if1 .left))
 
 pub by-name-spec : {M : Type 1} → statement M
-by-name-spec = tie.close (tie.spec line-of-requires returns returns-2)
+by-name-spec = tie.close (tie.spec (λ c κs. search needs) returns returns-2)

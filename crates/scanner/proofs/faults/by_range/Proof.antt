@@ -5,15 +5,6 @@ use Rattle.scanner.specs.code.Stepping.{spot-of, next-of}
 use Rattle.scanner.proofs.faults.by_range.Statement.{statement}
 use Rattle.scanner.proofs.faults.by_range.Tie as tie
 
-enum-told : tie.Need-enum-told
-enum-told c = search needs
-
-enum-told-2 : tie.Need-enum-told-2
-enum-told-2 c = search needs
-
-enum-known-spot : tie.Need-enum-known-spot
-enum-known-spot c = search needs
-
 returns : tie.Need-returns
 unfolding next spot-of next-of
 returns c = λ ns low high. simp (c .enum-told .given .1)
@@ -28,4 +19,4 @@ returns-3 c = λ ns low high. simp (c .before .spot .given .1)
 
 pub by-range-spec : {M : Type 1} → statement M
 by-range-spec =
-    tie.close (tie.spec enum-told enum-told-2 enum-known-spot returns returns-2 returns-3)
+    tie.close (tie.spec (λ c. search needs) (λ c. search needs) (λ c. search needs) returns returns-2 returns-3)

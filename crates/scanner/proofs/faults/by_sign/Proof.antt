@@ -5,45 +5,6 @@ use Rattle.scanner.specs.code.Stepping.{spot-of, next-of}
 use Rattle.scanner.proofs.faults.by_sign.Statement.{statement}
 use Rattle.scanner.proofs.faults.by_sign.Tie as tie
 
-enum-told : tie.Need-enum-told
-enum-told c = search needs
-
-enum-told-2 : tie.Need-enum-told-2
-enum-told-2 c = search needs
-
-enum-told-3 : tie.Need-enum-told-3
-enum-told-3 c = search needs
-
-to-if-requires : tie.Need-to-if-requires
-to-if-requires c κs = search needs
-
-enum-told-4 : tie.Need-enum-told-4
-enum-told-4 c = search needs
-
-to-if-requires-2 : tie.Need-to-if-requires-2
-to-if-requires-2 c κs = search needs
-
-enum-told-5 : tie.Need-enum-told-5
-enum-told-5 c = search needs
-
-opens-requires : tie.Need-opens-requires
-opens-requires c κs = search needs
-
-enum-told-6 : tie.Need-enum-told-6
-enum-told-6 c = search needs
-
-closes-requires : tie.Need-closes-requires
-closes-requires c κs = search needs
-
-enum-told-7 : tie.Need-enum-told-7
-enum-told-7 c = search needs
-
-enum-told-8 : tie.Need-enum-told-8
-enum-told-8 c = search needs
-
-end-line-requires : tie.Need-end-line-requires
-end-line-requires c κs = search needs
-
 returns : tie.Need-returns
 unfolding next-of spot-of by-sign
 returns c = simp (c .enum-told .given .1)
@@ -80,19 +41,19 @@ pub by-sign-spec : {M : Type 1} → statement M
 by-sign-spec =
     tie.close
     (tie.spec
-    enum-told
-    enum-told-2
-    enum-told-3
-    to-if-requires
-    enum-told-4
-    to-if-requires-2
-    enum-told-5
-    opens-requires
-    enum-told-6
-    closes-requires
-    enum-told-7
-    enum-told-8
-    end-line-requires
+    (λ c. search needs)
+    (λ c. search needs)
+    (λ c. search needs)
+    (λ c κs. search needs)
+    (λ c. search needs)
+    (λ c κs. search needs)
+    (λ c. search needs)
+    (λ c κs. search needs)
+    (λ c. search needs)
+    (λ c κs. search needs)
+    (λ c. search needs)
+    (λ c. search needs)
+    (λ c κs. search needs)
     returns
     returns-2
     returns-3

@@ -6,17 +6,8 @@ use Rattle.scanner.proofs.Moving.{equals-word, inside-word}
 use Rattle.scanner.proofs.faults.by_word.Statement.{statement}
 use Rattle.scanner.proofs.faults.by_word.Tie as tie
 
-enum-told : tie.Need-enum-told
-enum-told c = search needs
-
 from-line-requires : tie.Need-from-line-requires
 from-line-requires c κs = c .before .before .before .pre
-
-enum-told-2 : tie.Need-enum-told-2
-enum-told-2 c = search needs
-
-enum-known-spot : tie.Need-enum-known-spot
-enum-known-spot c = search needs
 
 returns : tie.Need-returns
 unfolding spot-of
@@ -33,4 +24,4 @@ returns-3 c = simp (c .before .spot .given .1) (sym (inside-word _ _ _ _))
 pub by-word-spec : {M : Type 1} → statement M
 by-word-spec =
     tie.close
-    (tie.spec enum-told from-line-requires enum-told-2 enum-known-spot returns returns-2 returns-3)
+    (tie.spec (λ c. search needs) from-line-requires (λ c. search needs) (λ c. search needs) returns returns-2 returns-3)

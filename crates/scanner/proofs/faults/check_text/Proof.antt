@@ -20,12 +20,6 @@ loop-holds : tie.Need-loop-holds Inv-loop μ-loop
 unfolding spot-of
 loop-holds c = check-start _
 
-skip-requires : tie.Need-skip-requires Inv-loop μ-loop
-skip-requires c κs = search needs
-
-at-end-requires : tie.Need-at-end-requires Inv-loop μ-loop
-at-end-requires c κs = search needs
-
 returns : tie.Need-returns Inv-loop μ-loop
 returns c =
     let skipped = c .before .before in
@@ -34,15 +28,10 @@ returns c =
 step-at-requires : tie.Need-step-at-requires Inv-loop μ-loop
 step-at-requires c κs = (c .before .before .before .loop .inv .there, c .if1 .left)
 
-enum-known-step : tie.Need-enum-known-step Inv-loop μ-loop
-enum-known-step c = search needs
-
-begun-requires : tie.Need-begun-requires Inv-loop μ-loop
-begun-requires c κs = search needs
-
 add-lines : tie.Need-add-lines Inv-loop μ-loop
 add-lines c =
-    let test = c .before .before .before .before .before .before .before in
+    let at-step-at = c .before .before .before .before in
+    let test = at-step-at .before .before .before in
     omega (arith, begun-few _ _ (c .begun .ensures), test .loop-test .taken, test .before .loop .inv .few)
 
 loop-less : tie.Need-loop-less Inv-loop μ-loop
@@ -59,17 +48,11 @@ loop-again c =
     check-next _ _ _ _ (skipped .before .before .loop .inv) _ (skipped .skip .ensures) (led .before .if1 .left) _ (led .step-at .ensures) _ (c .before .before .step .given .1) _
     (c .begun .ensures)
 
-enum-known-step-2 : tie.Need-enum-known-step-2 Inv-loop μ-loop
-enum-known-step-2 c = search needs
-
 returns-2 : tie.Need-returns-2 Inv-loop μ-loop
 returns-2 c =
     let led = c .before .before .before in
     let skipped = led .before .before in
     check-wrong _ _ _ _ (skipped .before .before .loop .inv) _ (skipped .skip .ensures) (led .before .if1 .left) _ (led .step-at .ensures) _ (c .before .step2 .given .1)
-
-at-end-requires-2 : tie.Need-at-end-requires-2 Inv-loop μ-loop
-at-end-requires-2 c κs = search needs
 
 returns-3 : tie.Need-returns-3 Inv-loop μ-loop
 returns-3 c = check-end _ _ _ _ (c .before .before .loop .inv) (lexemes-end _ _ (c .before .loop-test .left)) _ (c .at-end2 .ensures)
@@ -81,16 +64,16 @@ check-text-spec =
     Inv-loop
     μ-loop
     loop-holds
-    skip-requires
-    at-end-requires
+    (λ c κs. search needs)
+    (λ c κs. search needs)
     returns
     step-at-requires
-    enum-known-step
-    begun-requires
+    (λ c. search needs)
+    (λ c κs. search needs)
     add-lines
     loop-less
     loop-again
-    enum-known-step-2
+    (λ c. search needs)
     returns-2
-    at-end-requires-2
+    (λ c κs. search needs)
     returns-3)

@@ -15,12 +15,9 @@ returns-2 : tie.Need-returns-2
 unfolding next-of to-if
 returns-2 c = simp (not-false (c .before .before .args .complete) (c .before .if1 .left), le-ltb 0 (c .before .before .args .opened) (omega arith))
 
-sub-less : tie.Need-sub-less
-sub-less c = search needs
-
 returns-3 : tie.Need-returns-3
 unfolding next-of spot-of to-if
 returns-3 c = simp (not-false (c .before .before .args .complete) (c .before .if1 .left), lt-ltb 0 (c .before .before .args .opened) (omega arith))
 
 pub closes-spec : {M : Type 1} → statement M
-closes-spec = tie.close (tie.spec returns returns-2 sub-less returns-3)
+closes-spec = tie.close (tie.spec returns returns-2 (λ c. search needs) returns-3)

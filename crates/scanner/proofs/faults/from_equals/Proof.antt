@@ -6,21 +6,6 @@ use Rattle.scanner.specs.code.Stepping.{next-of}
 use Rattle.scanner.proofs.faults.from_equals.Statement.{statement}
 use Rattle.scanner.proofs.faults.from_equals.Tie as tie
 
-enum-told : tie.Need-enum-told
-enum-told c = search needs
-
-enum-known-token : tie.Need-enum-known-token
-enum-known-token c = search needs
-
-by-equals-requires : tie.Need-by-equals-requires
-by-equals-requires c κs = search needs
-
-enum-told-2 : tie.Need-enum-told-2
-enum-told-2 c = search needs
-
-enum-told-3 : tie.Need-enum-told-3
-enum-told-3 c = search needs
-
 returns : tie.Need-returns
 unfolding next-of next token-of
 returns c = λ ns text o. simp (c .enum-told .given .1)
@@ -41,11 +26,11 @@ pub from-equals-spec : {M : Type 1} → statement M
 from-equals-spec =
     tie.close
     (tie.spec
-    enum-told
-    enum-known-token
-    by-equals-requires
-    enum-told-2
-    enum-told-3
+    (λ c. search needs)
+    (λ c. search needs)
+    (λ c κs. search needs)
+    (λ c. search needs)
+    (λ c. search needs)
     returns
     returns-2
     returns-3

@@ -6,9 +6,6 @@ use Rattle.scanner.specs.code.Stepping.{spot-of, next-of}
 use Rattle.scanner.proofs.faults.opens.Statement.{statement}
 use Rattle.scanner.proofs.faults.opens.Tie as tie
 
-add-more : tie.Need-add-more
-add-more c = search needs
-
 returns : tie.Need-returns
 unfolding next-of spot-of
 returns c = simp (lt-ltb _ _ (c .if1 .taken), add-one)
@@ -18,4 +15,4 @@ unfolding next-of
 returns-2 c = simp (le-ltb _ _ (c .if1 .left))
 
 pub opens-spec : {M : Type 1} → statement M
-opens-spec = tie.close (tie.spec add-more returns returns-2)
+opens-spec = tie.close (tie.spec (λ c. search needs) returns returns-2)

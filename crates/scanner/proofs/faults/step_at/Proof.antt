@@ -7,24 +7,18 @@ use Rattle.scanner.proofs.Moving.{move-word, move-range, move-sign}
 use Rattle.scanner.proofs.faults.step_at.Statement.{statement}
 use Rattle.scanner.proofs.faults.step_at.Tie as tie
 
-shared-slice-read-byte : tie.Need-shared-slice-read-byte
-shared-slice-read-byte c = search needs
-
-is-letter-requires : tie.Need-is-letter-requires
-is-letter-requires c κs = search needs
-
-letters-from-requires : tie.Need-letters-from-requires
-letters-from-requires c κs = search needs
-
 by-word-requires : tie.Need-by-word-requires
 by-word-requires c κs =
-    let start = c .before .before .before .before .before in
+    let at-is-letter = c .before .before in
+    let start = at-is-letter .before .before .before in
     (start .pre .0, omega (arith, start .pre .1, letters-room (start .args .text .now) (start .args .offset) _ (c .letters-from .ensures)))
 
 add-t13 : tie.Need-add-t13
 add-t13 c =
-    let start = c .before .before .before .before .before .before in
-    omega (arith, start .pre .1, letters-room (start .args .text .now) (start .args .offset) _ (c .before .letters-from .ensures))
+    let at-letters-from = c .before in
+    let at-is-letter = at-letters-from .before .before in
+    let start = at-is-letter .before .before .before in
+    omega (arith, start .pre .1, letters-room (start .args .text .now) (start .args .offset) _ (at-letters-from .letters-from .ensures))
 
 returns : tie.Need-returns
 returns c =
@@ -33,16 +27,11 @@ returns c =
     move-word (start .args .text .now) (start .args .lines) _ (start .args .offset) _ (sym (c .before .before .if1 .taken) ∙ letter .is-letter .ensures) _
     (c .before .letters-from .ensures) (c .by-word .ensures)
 
-range-at-requires : tie.Need-range-at-requires
-range-at-requires c κs = search needs
-
-by-range-requires : tie.Need-by-range-requires
-by-range-requires c κs = search needs
-
 add-t15 : tie.Need-add-t15
 add-t15 c =
     let range = c .before .before in
-    let start = range .before .before .before .before .before in
+    let at-is-letter = range .before .before in
+    let start = at-is-letter .before .before .before in
     omega (arith, range-within (start .args .text .now) (start .args .offset) (sym (c .before .if2 .taken) ∙ range .range-at .ensures))
 
 returns-2 : tie.Need-returns-2
@@ -52,12 +41,6 @@ returns-2 c =
     let start = letter .before .before .before in
     move-range (start .args .text .now) (start .args .lines) _ (start .args .offset) _ (sym (range .before .if1 .left) ∙ letter .is-letter .ensures)
     (sym (c .before .if2 .taken) ∙ range .range-at .ensures) (c .by-range .ensures)
-
-by-byte-requires : tie.Need-by-byte-requires
-by-byte-requires c κs = search needs
-
-add-t16 : tie.Need-add-t16
-add-t16 c = search needs
 
 returns-3 : tie.Need-returns-3
 returns-3 c =
@@ -71,16 +54,16 @@ pub step-at-spec : {M : Type 1} → statement M
 step-at-spec =
     tie.close
     (tie.spec
-    shared-slice-read-byte
-    is-letter-requires
-    letters-from-requires
+    (λ c. search needs)
+    (λ c κs. search needs)
+    (λ c κs. search needs)
     by-word-requires
     add-t13
     returns
-    range-at-requires
-    by-range-requires
+    (λ c κs. search needs)
+    (λ c κs. search needs)
     add-t15
     returns-2
-    by-byte-requires
-    add-t16
+    (λ c κs. search needs)
+    (λ c. search needs)
     returns-3)

@@ -17,35 +17,24 @@ abbrev μ-loop : tie.MeasureT-loop
 loop-holds : tie.Need-loop-holds Inv-loop μ-loop
 loop-holds c = offset-start _ _
 
-scan-requires : tie.Need-scan-requires Inv-loop μ-loop
-scan-requires c κs = search needs
-
-enum-known-found : tie.Need-enum-known-found Inv-loop μ-loop
-enum-known-found c = search needs
-
 returns : tie.Need-returns Inv-loop μ-loop
 returns c =
     let found = c .before .before in
     let scan = found .before .before in
     offset-found _ _ _ _ (scan .before .before .loop .inv) _ (scanned-to _ _ _ (scan .scan .ensures) _ (found .found .given .1)) (c .if1 .taken)
 
-enum-told : tie.Need-enum-told Inv-loop μ-loop
-enum-told c = search needs
-
 returns-2 : tie.Need-returns-2 Inv-loop μ-loop
 returns-2 c =
     let scan = c .before .before in
     offset-none _ _ _ _ (scan .before .before .loop .inv) (scanned-end _ _ _ (scan .scan .ensures) (c .enum-told .given .1))
-
-next-line-requires : tie.Need-next-line-requires Inv-loop μ-loop
-next-line-requires c κs = search needs
 
 sub-left : tie.Need-sub-left Inv-loop μ-loop
 sub-left c = omega (arith, c .before .if1 .left)
 
 loop-less : tie.Need-loop-less Inv-loop μ-loop
 loop-less c =
-    let test = c .before .before .before .before .before .before in
+    let at-match = c .before .before .before .before in
+    let test = at-match .before .before in
     omega (arith, test .loop-test .taken, c .next-line .ensures .1 (test .loop-test .taken))
 
 loop-again : tie.Need-loop-again Inv-loop μ-loop
@@ -64,12 +53,12 @@ line-offset-spec =
     Inv-loop
     μ-loop
     loop-holds
-    scan-requires
-    enum-known-found
+    (λ c κs. search needs)
+    (λ c. search needs)
     returns
-    enum-told
+    (λ c. search needs)
     returns-2
-    next-line-requires
+    (λ c κs. search needs)
     sub-left
     loop-less
     loop-again

@@ -17,15 +17,6 @@ abbrev μ-loop : tie.MeasureT-loop
 loop-holds : tie.Need-loop-holds Inv-loop μ-loop
 loop-holds c = (refl, omega arith)
 
-scan-requires : tie.Need-scan-requires Inv-loop μ-loop
-scan-requires c κs = search needs
-
-enum-known-found : tie.Need-enum-known-found Inv-loop μ-loop
-enum-known-found c = search needs
-
-ends-line-requires : tie.Need-ends-line-requires Inv-loop μ-loop
-ends-line-requires c κs = search needs
-
 returns : tie.Need-returns Inv-loop μ-loop
 returns c =
     let found = c .before .before .before in
@@ -44,9 +35,6 @@ loop-again c =
     let scan = found .before .before in
     line-goes-on _ _ _ (scan .before .before .loop .inv) _ (scanned-to _ _ _ (scan .scan .ensures) _ (found .found .given .1)) (sym (c .before .ends-line .ensures) ∙ c .if1 .left)
 
-enum-told : tie.Need-enum-told Inv-loop μ-loop
-enum-told c = search needs
-
 returns-2 : tie.Need-returns-2 Inv-loop μ-loop
 returns-2 c =
     let scan = c .before .before in
@@ -62,12 +50,12 @@ next-line-spec =
     Inv-loop
     μ-loop
     loop-holds
-    scan-requires
-    enum-known-found
-    ends-line-requires
+    (λ c κs. search needs)
+    (λ c. search needs)
+    (λ c κs. search needs)
     returns
     loop-less
     loop-again
-    enum-told
+    (λ c. search needs)
     returns-2
     returns-3)

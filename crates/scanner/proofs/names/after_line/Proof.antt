@@ -18,15 +18,6 @@ abbrev μ-loop : tie.MeasureT-loop
 loop-holds : tie.Need-loop-holds Inv-loop μ-loop
 loop-holds c = pass-none _ _ _
 
-next-stop-requires : tie.Need-next-stop-requires Inv-loop μ-loop
-next-stop-requires c κs = search needs
-
-shared-slice-read-byte : tie.Need-shared-slice-read-byte Inv-loop μ-loop
-shared-slice-read-byte c = search needs
-
-add-result : tie.Need-add-result Inv-loop μ-loop
-add-result c = search needs
-
 returns : tie.Need-returns Inv-loop μ-loop
 returns c =
     let more = c .before .before in
@@ -47,9 +38,6 @@ loop-again c =
     let more = c .before .before .before .before in
     let stop = more .before in
     pass-quote _ _ _ (pass-on _ _ _ (stop .before .before .loop .inv) (stop .next-stop .ensures)) (more .if1 .taken) (c .before .if3 .taken) _ (c .after-quote .ensures)
-
-add-i : tie.Need-add-i Inv-loop μ-loop
-add-i c = search needs
 
 loop-less-2 : tie.Need-loop-less-2 Inv-loop μ-loop
 loop-less-2 c =
@@ -80,14 +68,14 @@ after-line-spec =
     Inv-loop
     μ-loop
     loop-holds
-    next-stop-requires
-    shared-slice-read-byte
-    add-result
+    (λ c κs. search needs)
+    (λ c. search needs)
+    (λ c. search needs)
     returns
     after-quote-requires
     loop-less
     loop-again
-    add-i
+    (λ c. search needs)
     loop-less-2
     loop-again-2
     loop-less-3

@@ -7,21 +7,12 @@ use Rattle.scanner.proofs.Tokenizing.{range-token, sign-token}
 use Rattle.scanner.proofs.names.after_quote.Statement.{statement}
 use Rattle.scanner.proofs.names.after_quote.Tie as tie
 
-range-at-requires : tie.Need-range-at-requires
-range-at-requires c κs = search needs
-
-add-result : tie.Need-add-result
-add-result c = search needs
-
 returns : tie.Need-returns
 unfolding letter
 returns c =
     let start = c .before .before .before in
     ap (λ (n : ℕ). start .args .at + n)
     (sym (range-token (start .args .text .now) (start .args .at) (rw (start .pre .1)) (sym (c .if1 .taken) ∙ c .before .range-at .ensures) .1))
-
-add-result-2 : tie.Need-add-result-2
-add-result-2 c = search needs
 
 returns-2 : tie.Need-returns-2
 unfolding letter
@@ -31,4 +22,4 @@ returns-2 c =
     (sym (sign-token (start .args .text .now) (start .args .at) (rw (start .pre .1)) (sym (c .if1 .left) ∙ c .before .range-at .ensures) .1))
 
 pub after-quote-spec : {M : Type 1} → statement M
-after-quote-spec = tie.close (tie.spec range-at-requires add-result returns add-result-2 returns-2)
+after-quote-spec = tie.close (tie.spec (λ c κs. search needs) (λ c. search needs) returns (λ c. search needs) returns-2)

@@ -20,17 +20,10 @@ abbrev μ-loop : tie.MeasureT-loop
 loop-holds : tie.Need-loop-holds Inv-loop μ-loop
 loop-holds c = search-start _ _
 
-skip-requires : tie.Need-skip-requires Inv-loop μ-loop
-skip-requires c κs = search needs
-
-letters-from-requires : tie.Need-letters-from-requires Inv-loop μ-loop
-letters-from-requires c κs = search needs
-
 head-of-requires : tie.Need-head-of-requires Inv-loop μ-loop
-head-of-requires c κs = (c .before .before .before .before .before .pre, c .letters-from .ensures)
-
-enum-told : tie.Need-enum-told Inv-loop μ-loop
-enum-told c = search needs
+head-of-requires c κs =
+    let turn = c .before .before .before in
+    (turn .before .before .pre, c .letters-from .ensures)
 
 returns : tie.Need-returns Inv-loop μ-loop
 returns c =
@@ -39,23 +32,11 @@ returns c =
     search-found _ _ _ _ (skipped .before .before .loop .inv) _ (skipped .skip .ensures) _ (told .before .letters-from .ensures) _ (told .head-of .ensures)
     (c .enum-told .given .1)
 
-enum-told-2 : tie.Need-enum-told-2 Inv-loop μ-loop
-enum-told-2 c = search needs
-
-add-line : tie.Need-add-line Inv-loop μ-loop
-add-line c = search needs
-
-enum-told-3 : tie.Need-enum-told-3 Inv-loop μ-loop
-enum-told-3 c = search needs
-
 add-after-line : tie.Need-add-after-line Inv-loop μ-loop
 add-after-line c =
     let skipped = c .before .before .before in
     let start = skipped .before .before .before .before in
     omega (arith, letters-room (start .args .text .now) (skipped .skip .result) _ (c .before .before .letters-from .ensures), skipped .skip .ok)
-
-after-line-requires : tie.Need-after-line-requires Inv-loop μ-loop
-after-line-requires c κs = search needs
 
 loop-less : tie.Need-loop-less Inv-loop μ-loop
 loop-less c =
@@ -87,16 +68,16 @@ line-of-spec =
     Inv-loop
     μ-loop
     loop-holds
-    skip-requires
-    letters-from-requires
+    (λ c κs. search needs)
+    (λ c κs. search needs)
     head-of-requires
-    enum-told
+    (λ c. search needs)
     returns
-    enum-told-2
-    add-line
-    enum-told-3
+    (λ c. search needs)
+    (λ c. search needs)
+    (λ c. search needs)
     add-after-line
-    after-line-requires
+    (λ c κs. search needs)
     loop-less
     loop-again
     returns-2)

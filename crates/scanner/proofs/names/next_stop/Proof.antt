@@ -19,47 +19,14 @@ abbrev μ-loop : tie.MeasureT-loop
 loop-holds : tie.Need-loop-holds Inv-loop μ-loop
 loop-holds c = (pass-none _ _ _, c .before .pre)
 
-add-loop : tie.Need-add-loop Inv-loop μ-loop
-add-loop c = search needs
-
-shared-slice-read-is-stop : tie.Need-shared-slice-read-is-stop Inv-loop μ-loop
-shared-slice-read-is-stop c = search needs
-
-is-stop-requires : tie.Need-is-stop-requires Inv-loop μ-loop
-is-stop-requires c κs = search needs
-
 returns : tie.Need-returns Inv-loop μ-loop
 returns c = c .before .before .before .before .loop .inv .0
-
-add-is-stop : tie.Need-add-is-stop Inv-loop μ-loop
-add-is-stop c = search needs
-
-shared-slice-read-is-stop-2 : tie.Need-shared-slice-read-is-stop-2 Inv-loop μ-loop
-shared-slice-read-is-stop-2 c = search needs
-
-is-stop-requires-2 : tie.Need-is-stop-requires-2 Inv-loop μ-loop
-is-stop-requires-2 c κs = search needs
-
-add-result : tie.Need-add-result Inv-loop μ-loop
-add-result c = search needs
 
 returns-2 : tie.Need-returns-2 Inv-loop μ-loop
 returns-2 c =
     let first = c .before .before .before in
     let test = first .before .before .before in
     pass-one _ _ _ (test .before .loop .inv .0) (test .loop-test .taken) (sym (first .before .is-stop .ensures) ∙ first .if1 .left)
-
-add-is-stop-2 : tie.Need-add-is-stop-2 Inv-loop μ-loop
-add-is-stop-2 c = search needs
-
-shared-slice-read-is-stop-3 : tie.Need-shared-slice-read-is-stop-3 Inv-loop μ-loop
-shared-slice-read-is-stop-3 c = search needs
-
-is-stop-requires-3 : tie.Need-is-stop-requires-3 Inv-loop μ-loop
-is-stop-requires-3 c κs = search needs
-
-add-result-2 : tie.Need-add-result-2 Inv-loop μ-loop
-add-result-2 c = search needs
 
 returns-3 : tie.Need-returns-3 Inv-loop μ-loop
 returns-3 c =
@@ -68,18 +35,6 @@ returns-3 c =
     let test = first .before .before .before in
     pass-two _ _ _ (test .before .loop .inv .0) (test .loop-test .taken) (sym (first .before .is-stop .ensures) ∙ first .if1 .left)
     (sym (second .before .is-stop2 .ensures) ∙ second .if2 .left)
-
-add-is-stop-3 : tie.Need-add-is-stop-3 Inv-loop μ-loop
-add-is-stop-3 c = search needs
-
-shared-slice-read-is-stop-4 : tie.Need-shared-slice-read-is-stop-4 Inv-loop μ-loop
-shared-slice-read-is-stop-4 c = search needs
-
-is-stop-requires-4 : tie.Need-is-stop-requires-4 Inv-loop μ-loop
-is-stop-requires-4 c κs = search needs
-
-add-result-3 : tie.Need-add-result-3 Inv-loop μ-loop
-add-result-3 c = search needs
 
 returns-4 : tie.Need-returns-4 Inv-loop μ-loop
 returns-4 c =
@@ -90,12 +45,6 @@ returns-4 c =
     pass-three _ _ _ (test .before .loop .inv .0) (test .loop-test .taken) (sym (first .before .is-stop .ensures) ∙ first .if1 .left)
     (sym (second .before .is-stop2 .ensures) ∙ second .if2 .left)
     (sym (third .before .is-stop3 .ensures) ∙ third .if3 .left)
-
-add-i : tie.Need-add-i Inv-loop μ-loop
-add-i c = search needs
-
-loop-less : tie.Need-loop-less Inv-loop μ-loop
-loop-less c = search needs
 
 loop-again : tie.Need-loop-again Inv-loop μ-loop
 loop-again c =
@@ -120,26 +69,26 @@ next-stop-spec =
     Inv-loop
     μ-loop
     loop-holds
-    add-loop
-    shared-slice-read-is-stop
-    is-stop-requires
+    (λ c. search needs)
+    (λ c. search needs)
+    (λ c κs. search needs)
     returns
-    add-is-stop
-    shared-slice-read-is-stop-2
-    is-stop-requires-2
-    add-result
+    (λ c. search needs)
+    (λ c. search needs)
+    (λ c κs. search needs)
+    (λ c. search needs)
     returns-2
-    add-is-stop-2
-    shared-slice-read-is-stop-3
-    is-stop-requires-3
-    add-result-2
+    (λ c. search needs)
+    (λ c. search needs)
+    (λ c κs. search needs)
+    (λ c. search needs)
     returns-3
-    add-is-stop-3
-    shared-slice-read-is-stop-4
-    is-stop-requires-4
-    add-result-3
+    (λ c. search needs)
+    (λ c. search needs)
+    (λ c κs. search needs)
+    (λ c. search needs)
     returns-4
-    add-i
-    loop-less
+    (λ c. search needs)
+    (λ c. search needs)
     loop-again
     returns-5)

@@ -18,12 +18,6 @@ abbrev μ-loop : tie.MeasureT-loop
 loop-holds : tie.Need-loop-holds Inv-loop μ-loop
 loop-holds c = names-none _ _
 
-shared-slice-read-byte : tie.Need-shared-slice-read-byte Inv-loop μ-loop
-shared-slice-read-byte c = search needs
-
-is-letter-requires : tie.Need-is-letter-requires Inv-loop μ-loop
-is-letter-requires c κs = search needs
-
 returns : tie.Need-returns Inv-loop μ-loop
 returns c = (c .before .before .before .before .loop .inv, λ l. sym (c .before .is-letter .ensures) ∙ c .if1 .taken)
 
@@ -43,12 +37,6 @@ loop-again c =
     names-quote _ _ _ (test .before .loop .inv) (test .loop-test .taken) (sym (told .is-letter .ensures) ∙ c .before .before .if1 .left) (c .before .if2 .taken) _
     (c .after-quote .ensures)
 
-add-i : tie.Need-add-i Inv-loop μ-loop
-add-i c = search needs
-
-loop-less-2 : tie.Need-loop-less-2 Inv-loop μ-loop
-loop-less-2 c = search needs
-
 loop-again-2 : tie.Need-loop-again-2 Inv-loop μ-loop
 loop-again-2 c =
     let told = c .before .before in
@@ -65,13 +53,13 @@ next-word-spec =
     Inv-loop
     μ-loop
     loop-holds
-    shared-slice-read-byte
-    is-letter-requires
+    (λ c. search needs)
+    (λ c κs. search needs)
     returns
     after-quote-requires
     loop-less
     loop-again
-    add-i
-    loop-less-2
+    (λ c. search needs)
+    (λ c. search needs)
     loop-again-2
     returns-2)

@@ -9,21 +9,6 @@ use Rattle.syntax.specs.Tokens.{same}
 use Rattle.scanner.proofs.names.same_letters.Statement.{statement}
 use Rattle.scanner.proofs.names.same_letters.Tie as tie
 
-add-end : tie.Need-add-end
-add-end c = search needs
-
-sub-same-at : tie.Need-sub-same-at
-sub-same-at c = search needs
-
-part-same-at-start : tie.Need-part-same-at-start
-part-same-at-start c = search needs
-
-part-same-at-end : tie.Need-part-same-at-end
-part-same-at-end c = search needs
-
-same-at-requires : tie.Need-same-at-requires
-same-at-requires c κs = search needs
-
 returns : tie.Need-returns
 returns c =
     let s = c .before .before .before .args in
@@ -33,4 +18,4 @@ returns c =
 pub same-letters-spec : {M : Type 1} → statement M
 same-letters-spec =
     tie.close
-    (tie.spec add-end sub-same-at part-same-at-start part-same-at-end same-at-requires returns)
+    (tie.spec (λ c. search needs) (λ c. search needs) (λ c. search needs) (λ c. search needs) (λ c κs. search needs) returns)

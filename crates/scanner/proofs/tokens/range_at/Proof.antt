@@ -4,35 +4,17 @@ use Rattle.scanner.proofs.Tokenizing.{range-short, range-first, range-s
 use Rattle.scanner.proofs.tokens.range_at.Statement.{statement}
 use Rattle.scanner.proofs.tokens.range_at.Tie as tie
 
-sub-left : tie.Need-sub-left
-sub-left c = search needs
-
 returns : tie.Need-returns
 returns c = range-short (c .before .args .text .now) (c .before .args .at) (c .if1 .taken)
 
-shared-slice-read-if2 : tie.Need-shared-slice-read-if2
-shared-slice-read-if2 c = search needs
-
 returns-2 : tie.Need-returns-2
 returns-2 c = range-first (c .before .before .before .args .text .now) (c .before .before .before .args .at) (c .if2 .taken)
-
-add-minus : tie.Need-add-minus
-add-minus c = search needs
-
-shared-slice-read-if3 : tie.Need-shared-slice-read-if3
-shared-slice-read-if3 c = search needs
 
 returns-3 : tie.Need-returns-3
 returns-3 c =
     let quote = c .before .before in
     let start = quote .before .before .before in
     range-second (start .args .text .now) (start .args .at) (quote .if2 .left) (c .if3 .taken)
-
-add-last : tie.Need-add-last
-add-last c = search needs
-
-shared-slice-read-result : tie.Need-shared-slice-read-result
-shared-slice-read-result c = search needs
 
 returns-4 : tie.Need-returns-4
 returns-4 c =
@@ -44,13 +26,13 @@ pub range-at-spec : {M : Type 1} → statement M
 range-at-spec =
     tie.close
     (tie.spec
-    sub-left
+    (λ c. search needs)
     returns
-    shared-slice-read-if2
+    (λ c. search needs)
     returns-2
-    add-minus
-    shared-slice-read-if3
+    (λ c. search needs)
+    (λ c. search needs)
     returns-3
-    add-last
-    shared-slice-read-result
+    (λ c. search needs)
+    (λ c. search needs)
     returns-4)

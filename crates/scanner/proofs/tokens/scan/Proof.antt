@@ -6,17 +6,11 @@ use Rattle.scanner.proofs.Tokenizing.{scanned}
 use Rattle.scanner.proofs.tokens.scan.Statement.{statement}
 use Rattle.scanner.proofs.tokens.scan.Tie as tie
 
-skip-requires : tie.Need-skip-requires
-skip-requires c κs = search needs
-
 returns : tie.Need-returns
 returns c = c .before .skip .ensures .rest ∙ lexemes-end _ _ (c .if1 .taken)
-
-lexeme-at-requires : tie.Need-lexeme-at-requires
-lexeme-at-requires c κs = search needs
 
 returns-2 : tie.Need-returns-2
 returns-2 c = scanned _ _ (c .before .if1 .left) _ _ (c .before .before .skip .ensures) (c .lexeme-at .ensures)
 
 pub scan-spec : {M : Type 1} → statement M
-scan-spec = tie.close (tie.spec skip-requires returns lexeme-at-requires returns-2)
+scan-spec = tie.close (tie.spec (λ c κs. search needs) returns (λ c κs. search needs) returns-2)

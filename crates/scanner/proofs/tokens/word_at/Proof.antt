@@ -5,22 +5,10 @@ use Rattle.scanner.proofs.Tokenizing.{word-empty, word-fail, word-name}
 use Rattle.scanner.proofs.tokens.word_at.Statement.{statement}
 use Rattle.scanner.proofs.tokens.word_at.Tie as tie
 
-slice-aggregate-same-at : tie.Need-slice-aggregate-same-at
-slice-aggregate-same-at c = search needs
-
-same-at-requires : tie.Need-same-at-requires
-same-at-requires c κs = search needs
-
 returns : tie.Need-returns
 returns c =
     let call = c .before in
     word-empty _ _ (call .before .before .before .args .long) (sym (c .if1 .taken) ∙ call .same-at .ensures)
-
-slice-aggregate-same-at-2 : tie.Need-slice-aggregate-same-at-2
-slice-aggregate-same-at-2 c = search needs
-
-same-at-requires-2 : tie.Need-same-at-requires-2
-same-at-requires-2 c κs = search needs
 
 returns-2 : tie.Need-returns-2
 returns-2 c =
@@ -38,10 +26,10 @@ pub word-at-spec : {M : Type 1} → statement M
 word-at-spec =
     tie.close
     (tie.spec
-    slice-aggregate-same-at
-    same-at-requires
+    (λ c. search needs)
+    (λ c κs. search needs)
     returns
-    slice-aggregate-same-at-2
-    same-at-requires-2
+    (λ c. search needs)
+    (λ c κs. search needs)
     returns-2
     returns-3)

@@ -15,19 +15,14 @@ Inv-loop text lines at₀ at = Undefined-left text at
 abbrev μ-loop : tie.MeasureT-loop
 μ-loop text lines at₀ at = length text - at
 
-next-word-requires : tie.Need-next-word-requires Inv-loop μ-loop
-next-word-requires c κs = search needs
-
 loop-holds : tie.Need-loop-holds Inv-loop μ-loop
 loop-holds c = undefined-start _ _ (c .next-word .ensures)
 
-letters-from-requires : tie.Need-letters-from-requires Inv-loop μ-loop
-letters-from-requires c κs = search needs
-
 is-undefined-requires : tie.Need-is-undefined-requires Inv-loop μ-loop
 is-undefined-requires c κs =
-    let start = c .before .before .before .before .before in
-    (start .pre, omega (arith, c .before .loop-test .taken, letters-room (start .args .text .now) (c .before .before .loop .at) _ (c .letters-from .ensures)))
+    let turn = c .before .before in
+    let start = turn .before .before .before in
+    (start .pre, omega (arith, c .before .loop-test .taken, letters-room (start .args .text .now) (turn .loop .at) _ (c .letters-from .ensures)))
 
 returns : tie.Need-returns Inv-loop μ-loop
 returns c =
@@ -38,11 +33,9 @@ returns c =
 add-next-word : tie.Need-add-next-word Inv-loop μ-loop
 add-next-word c =
     let word = c .before .before in
-    let start = word .before .before .before .before .before in
-    omega (arith, word .before .loop-test .taken, letters-room (start .args .text .now) (word .before .before .loop .at) _ (word .letters-from .ensures))
-
-next-word-requires-2 : tie.Need-next-word-requires-2 Inv-loop μ-loop
-next-word-requires-2 c κs = search needs
+    let turn = word .before .before in
+    let start = turn .before .before .before in
+    omega (arith, word .before .loop-test .taken, letters-room (start .args .text .now) (turn .loop .at) _ (word .letters-from .ensures))
 
 loop-less : tie.Need-loop-less Inv-loop μ-loop
 loop-less c =
@@ -65,13 +58,13 @@ undefined-of-spec =
     (tie.spec
     Inv-loop
     μ-loop
-    next-word-requires
+    (λ c κs. search needs)
     loop-holds
-    letters-from-requires
+    (λ c κs. search needs)
     is-undefined-requires
     returns
     add-next-word
-    next-word-requires-2
+    (λ c κs. search needs)
     loop-less
     loop-again
     returns-2)
