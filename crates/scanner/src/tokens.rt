@@ -134,40 +134,20 @@ pub fn range_at(text: &[u8], at: usize) -> bool
 pub fn sign_of(byte: u8) -> Token
     ensures { λ r. ⌜ ((text : List ℕ) (o : ℕ) → token-of text o r ≡ sign-of byte) ⌝ }
 {
-    if byte == b'=' {
-        return Token::Sign(Sign::Equals);
+    match byte {
+        b'=' => Token::Sign(Sign::Equals),
+        b';' => Token::Sign(Sign::Semicolon),
+        b'/' => Token::Sign(Sign::Slash),
+        b'(' => Token::Sign(Sign::Opening),
+        b')' => Token::Sign(Sign::Closing),
+        b'.' => Token::Sign(Sign::Operand(Leaf::AnyByte)),
+        b'!' => Token::Sign(Sign::Before(Prefix::NotPredicate)),
+        b'&' => Token::Sign(Sign::Before(Prefix::AndPredicate)),
+        b'*' => Token::Sign(Sign::After(Suffix::ZeroOrMore)),
+        b'+' => Token::Sign(Sign::After(Suffix::OneOrMore)),
+        b'?' => Token::Sign(Sign::After(Suffix::Optional)),
+        _ => Token::Unknown,
     }
-    if byte == b';' {
-        return Token::Sign(Sign::Semicolon);
-    }
-    if byte == b'/' {
-        return Token::Sign(Sign::Slash);
-    }
-    if byte == b'(' {
-        return Token::Sign(Sign::Opening);
-    }
-    if byte == b')' {
-        return Token::Sign(Sign::Closing);
-    }
-    if byte == b'.' {
-        return Token::Sign(Sign::Operand(Leaf::AnyByte));
-    }
-    if byte == b'!' {
-        return Token::Sign(Sign::Before(Prefix::NotPredicate));
-    }
-    if byte == b'&' {
-        return Token::Sign(Sign::Before(Prefix::AndPredicate));
-    }
-    if byte == b'*' {
-        return Token::Sign(Sign::After(Suffix::ZeroOrMore));
-    }
-    if byte == b'+' {
-        return Token::Sign(Sign::After(Suffix::OneOrMore));
-    }
-    if byte == b'?' {
-        return Token::Sign(Sign::After(Suffix::Optional));
-    }
-    Token::Unknown
 }
 
 // The lexeme that begins at a place.
