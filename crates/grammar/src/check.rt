@@ -77,19 +77,13 @@ fn right(m: u8, kind: u8, b: u8, c: u8, last: u8) -> bool
     if last != 0 {
         return false;
     }
-    if kind == SEQUENCE {
-        return both_below(m, b, c);
+    match kind {
+        SEQUENCE => both_below(m, b, c),
+        CHOICE => both_below(m, b, c),
+        NOT => below_and_zero(m, b, c),
+        EMPTY => both_zero(b, c),
+        _ => kind == RANGE, // any two bytes: with b above c it matches nothing
     }
-    if kind == CHOICE {
-        return both_below(m, b, c);
-    }
-    if kind == NOT {
-        return below_and_zero(m, b, c);
-    }
-    if kind == EMPTY {
-        return both_zero(b, c);
-    }
-    kind == RANGE // any two bytes: with b above c it matches nothing
 }
 
 // Refusal 12: the first rule that is not right.
@@ -152,19 +146,13 @@ pub fn check_grammar(grammar: &[u8]) -> Checked
 fn expression_by(kind: u8, b: u8, c: u8) -> Expression
     ensures { λ r. ⌜ r ≡ expression-by kind b c ⌝ }
 {
-    if kind == SEQUENCE {
-        return Expression::Sequence(b, c);
+    match kind {
+        SEQUENCE => Expression::Sequence(b, c),
+        CHOICE => Expression::Choice(b, c),
+        NOT => Expression::Not(b),
+        EMPTY => Expression::Empty,
+        _ => Expression::Range(b, c),
     }
-    if kind == CHOICE {
-        return Expression::Choice(b, c);
-    }
-    if kind == NOT {
-        return Expression::Not(b);
-    }
-    if kind == EMPTY {
-        return Expression::Empty;
-    }
-    Expression::Range(b, c)
 }
 
 // What rule k is.
