@@ -18,15 +18,6 @@ loop-holds c = clear-starts _
 mul-stack : tie.Need-mul-stack Inv-loop μ-loop
 mul-stack c = omega (arith, c .before .before .good)
 
-slice-write-stack : tie.Need-slice-write-stack Inv-loop μ-loop
-slice-write-stack c = omega arith
-
-add-i : tie.Need-add-i Inv-loop μ-loop
-add-i c = omega arith
-
-loop-less : tie.Need-loop-less Inv-loop μ-loop
-loop-less c = omega arith
-
 loop-again : tie.Need-loop-again Inv-loop μ-loop
 loop-again c = clear-more _ _ _ (c .before .loop .inv) (c .loop-test .taken)
 
@@ -44,9 +35,9 @@ clear-spec =
     μ-loop
     loop-holds
     mul-stack
-    slice-write-stack
-    add-i
-    loop-less
+    (λ c. omega arith)
+    (λ c. omega arith)
+    (λ c. omega arith)
     loop-again
     same-length
     returns)

@@ -14,35 +14,8 @@ Inv-loop grammar count m k₀ k = Rules-left grammar k
 abbrev μ-loop : tie.MeasureT-loop
 μ-loop grammar count m k₀ k = count - k
 
-cast-m : tie.Need-cast-m Inv-loop μ-loop
-cast-m c = omega arith
-
 loop-holds : tie.Need-loop-holds Inv-loop μ-loop
 loop-holds c = check-start _
-
-mul-at : tie.Need-mul-at Inv-loop μ-loop
-mul-at c = omega arith
-
-shared-slice-read-right : tie.Need-shared-slice-read-right Inv-loop μ-loop
-shared-slice-read-right c = omega arith
-
-add-right : tie.Need-add-right Inv-loop μ-loop
-add-right c = omega arith
-
-shared-slice-read-right-2 : tie.Need-shared-slice-read-right-2 Inv-loop μ-loop
-shared-slice-read-right-2 c = omega arith
-
-add-right-2 : tie.Need-add-right-2 Inv-loop μ-loop
-add-right-2 c = omega arith
-
-shared-slice-read-right-3 : tie.Need-shared-slice-read-right-3 Inv-loop μ-loop
-shared-slice-read-right-3 c = omega arith
-
-add-right-3 : tie.Need-add-right-3 Inv-loop μ-loop
-add-right-3 c = omega arith
-
-shared-slice-read-right-4 : tie.Need-shared-slice-read-right-4 Inv-loop μ-loop
-shared-slice-read-right-4 c = omega arith
 
 right-requires : tie.Need-right-requires Inv-loop μ-loop
 right-requires c κs = tt
@@ -55,12 +28,6 @@ returns c =
     let turn = test .before in
     check-stop (turn .before .before .args .grammar .now) (turn .loop .k) (turn .loop .inv) (test .loop-test .taken)
     (sym (c .before .right .ensures) ∙ not-true _ (c .if1 .taken))
-
-add-k : tie.Need-add-k Inv-loop μ-loop
-add-k c = omega arith
-
-loop-less : tie.Need-loop-less Inv-loop μ-loop
-loop-less c = omega arith
 
 loop-again : tie.Need-loop-again Inv-loop μ-loop
 unfolding rules kind-of b-of c-of
@@ -81,19 +48,19 @@ rules-refusal-spec =
     (tie.spec
     Inv-loop
     μ-loop
-    cast-m
+    (λ c. omega arith)
     loop-holds
-    mul-at
-    shared-slice-read-right
-    add-right
-    shared-slice-read-right-2
-    add-right-2
-    shared-slice-read-right-3
-    add-right-3
-    shared-slice-read-right-4
+    (λ c. omega arith)
+    (λ c. omega arith)
+    (λ c. omega arith)
+    (λ c. omega arith)
+    (λ c. omega arith)
+    (λ c. omega arith)
+    (λ c. omega arith)
+    (λ c. omega arith)
     right-requires
     returns
-    add-k
-    loop-less
+    (λ c. omega arith)
+    (λ c. omega arith)
     loop-again
     returns-2)

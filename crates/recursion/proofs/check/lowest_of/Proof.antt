@@ -31,12 +31,6 @@ contains-requires c κs = omega (arith, c .before .before .before .pre)
 returns : tie.Need-returns Inv-loop μ-loop
 returns c = lowest-found _ _ _ (c .before .before .before .before .loop .inv) (c .before .before .before .loop-test .taken) (sym (c .before .contains .ensures) ∙ c .if1 .taken)
 
-add-k : tie.Need-add-k Inv-loop μ-loop
-add-k c = omega arith
-
-loop-less : tie.Need-loop-less Inv-loop μ-loop
-loop-less c = omega arith
-
 loop-again : tie.Need-loop-again Inv-loop μ-loop
 loop-again c = lowest-next _ _ _ (c .before .before .before .before .loop .inv) (c .before .before .before .loop-test .taken) (sym (c .before .contains .ensures) ∙ c .if1 .left)
 
@@ -55,7 +49,7 @@ lowest-of-spec =
     cast-contains
     contains-requires
     returns
-    add-k
-    loop-less
+    (λ c. omega arith)
+    (λ c. omega arith)
     loop-again
     returns-2)

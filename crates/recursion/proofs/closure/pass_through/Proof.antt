@@ -46,12 +46,6 @@ mul-rows c = omega (arith, c .before .before .loop-test .taken)
 element-write-rows : tie.Need-element-write-rows Inv-loop μ-loop
 element-write-rows c = c .before .before .loop-test .taken
 
-add-k : tie.Need-add-k Inv-loop μ-loop
-add-k c = omega arith
-
-loop-less : tie.Need-loop-less Inv-loop μ-loop
-loop-less c = omega arith
-
 loop-again : tie.Need-loop-again Inv-loop μ-loop
 loop-again c = passing-next _ _ _ _ _ _ (c .before .before .loop-test .taken) (c .before .before .before .loop .inv) (c .passed .ensures)
 
@@ -74,7 +68,7 @@ pass-through-spec =
     passed-requires
     mul-rows
     element-write-rows
-    add-k
-    loop-less
+    (λ c. omega arith)
+    (λ c. omega arith)
     loop-again
     returns-2)

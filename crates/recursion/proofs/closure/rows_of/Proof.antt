@@ -37,12 +37,6 @@ array-write-rows c =
     let few = count-few _ (at-loop-test .before .before .before .pre) in
     omega (arith, at-loop-test .loop-test .taken)
 
-add-k : tie.Need-add-k Inv-loop μ-loop
-add-k c = omega arith
-
-loop-less : tie.Need-loop-less Inv-loop μ-loop
-loop-less c = omega arith
-
 loop-again : tie.Need-loop-again Inv-loop μ-loop
 loop-again c =
     let turn = c .before .before .before in
@@ -64,7 +58,7 @@ rows-of-spec =
     leads-to-requires
     mul-rows
     array-write-rows
-    add-k
-    loop-less
+    (λ c. omega arith)
+    (λ c. omega arith)
     loop-again
     returns)

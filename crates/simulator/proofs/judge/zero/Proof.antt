@@ -25,12 +25,6 @@ mul-cells c = omega (arith, c .before .before .good)
 slice-write-cells : tie.Need-slice-write-cells Inv-loop μ-loop
 slice-write-cells c = omega (arith, c .before .loop .inv .2)
 
-add-i : tie.Need-add-i Inv-loop μ-loop
-add-i c = omega arith
-
-loop-less : tie.Need-loop-less Inv-loop μ-loop
-loop-less c = omega arith
-
 loop-again : tie.Need-loop-again Inv-loop μ-loop
 loop-again c = (refl, omega arith, simp length-set (c .before .loop .inv .2), rw (c .before .loop .inv .3) (fill-more _ 0 _ (c .loop-test .taken)))
 
@@ -49,8 +43,8 @@ zero-spec =
     loop-holds
     mul-cells
     slice-write-cells
-    add-i
-    loop-less
+    (λ c. omega arith)
+    (λ c. omega arith)
     loop-again
     same-length
     returns)

@@ -14,9 +14,6 @@ Inv-loop image classes at₀ at = (at ≤ Format.rules-offset) × Map-left image
 abbrev μ-loop : tie.MeasureT-loop
 μ-loop image classes at₀ at = Format.rules-offset - at
 
-shared-slice-read-classes : tie.Need-shared-slice-read-classes Inv-loop μ-loop
-shared-slice-read-classes c = omega arith
-
 loop-holds : tie.Need-loop-holds Inv-loop μ-loop
 loop-holds c = (omega arith, refl)
 
@@ -27,12 +24,6 @@ returns : tie.Need-returns Inv-loop μ-loop
 unfolding classes
 returns c =
     map-stop _ _ (c .before .before .before .loop .inv .1) (c .before .before .loop-test .taken) (c .if1 .taken)
-
-add-at : tie.Need-add-at Inv-loop μ-loop
-add-at c = omega arith
-
-loop-less : tie.Need-loop-less Inv-loop μ-loop
-loop-less c = omega arith
 
 loop-again : tie.Need-loop-again Inv-loop μ-loop
 unfolding classes
@@ -50,11 +41,11 @@ class-map-spec =
     (tie.spec
     Inv-loop
     μ-loop
-    shared-slice-read-classes
+    (λ c. omega arith)
     loop-holds
     shared-slice-read-class
     returns
-    add-at
-    loop-less
+    (λ c. omega arith)
+    (λ c. omega arith)
     loop-again
     returns-2)

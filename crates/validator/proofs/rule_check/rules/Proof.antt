@@ -18,17 +18,11 @@ Inv-loop image columns symbols s₀ at₀ s at = Rules-left image s at
 abbrev μ-loop : tie.MeasureT-loop
 μ-loop image columns symbols s₀ at₀ s at = length image - at
 
-shared-slice-read-columns : tie.Need-shared-slice-read-columns Inv-loop μ-loop
-shared-slice-read-columns c = omega arith
-
 cast-columns : tie.Need-cast-columns Inv-loop μ-loop
 cast-columns c = omega (arith, c .shared-slice-known2 .given Format.classes-offset)
 
 add-columns : tie.Need-add-columns Inv-loop μ-loop
 add-columns c = omega (arith, c .shared-slice-known2 .given Format.classes-offset)
-
-shared-slice-read-symbols : tie.Need-shared-slice-read-symbols Inv-loop μ-loop
-shared-slice-read-symbols c = omega arith
 
 cast-symbols : tie.Need-cast-symbols Inv-loop μ-loop
 cast-symbols c = omega (arith, c .shared-slice-known3 .given Format.symbols-offset)
@@ -70,9 +64,6 @@ next-requires c κs =
     let few = three-counts _ _ _ (bytes Format.states-offset .fits) (bytes Format.classes-offset .fits) (bytes Format.symbols-offset .fits) in
     rules-count _ _ _ (at-loop .loop .inv) (at-start .pre .length-is) (at-loop-test .loop-test .taken) (omega (arith, few))
 
-loop-less : tie.Need-loop-less Inv-loop μ-loop
-loop-less c = omega arith
-
 loop-again : tie.Need-loop-again Inv-loop μ-loop
 unfolding classes symbols
 loop-again c =
@@ -96,10 +87,10 @@ rules-spec =
     (tie.spec
     Inv-loop
     μ-loop
-    shared-slice-read-columns
+    (λ c. omega arith)
     cast-columns
     add-columns
-    shared-slice-read-symbols
+    (λ c. omega arith)
     cast-symbols
     (λ c κs. search needs)
     loop-holds
@@ -107,6 +98,6 @@ rules-spec =
     returns
     add-at
     next-requires
-    loop-less
+    (λ c. omega arith)
     loop-again
     returns-2)
