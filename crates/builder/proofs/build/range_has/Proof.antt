@@ -14,12 +14,6 @@ returns-2 : tie.Need-returns-2
 unfolding class-between
 returns-2 c = simp (lt-ltb _ _ (c .before .if1 .left), lt-leb _ _ (c .if2 .taken))
 
-add-first : tie.Need-add-first
-add-first c = omega arith
-
-shared-slice-read-first : tie.Need-shared-slice-read-first
-shared-slice-read-first c = omega arith
-
 cast-first : tie.Need-cast-first
 cast-first c = omega (arith, c .shared-slice-known .given (Format.map-offset + c .before .before .before .args .low))
 
@@ -31,12 +25,6 @@ returns-3 c =
       le-leb _ _ (c .before .before .if2 .left),
       lt-leb _ _ (c .if3 .taken),
     )
-
-add-last : tie.Need-add-last
-add-last c = omega arith
-
-shared-slice-read-last : tie.Need-shared-slice-read-last
-shared-slice-read-last c = omega arith
 
 cast-last : tie.Need-cast-last
 cast-last c =
@@ -58,11 +46,11 @@ range-has-spec =
     (tie.spec
     returns
     returns-2
-    add-first
-    shared-slice-read-first
+    (λ c. omega arith)
+    (λ c. omega arith)
     cast-first
     returns-3
-    add-last
-    shared-slice-read-last
+    (λ c. omega arith)
+    (λ c. omega arith)
     cast-last
     returns-4)

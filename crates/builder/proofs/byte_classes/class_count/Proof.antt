@@ -14,20 +14,11 @@ Inv-loop grammar marks class₀ v₀ class v = (v ≤ 255) × (class ≡ class-o
 abbrev μ-loop : tie.MeasureT-loop
 μ-loop grammar marks class₀ v₀ class v = 255 - v
 
-slice-aggregate-mark-cuts : tie.Need-slice-aggregate-mark-cuts Inv-loop μ-loop
-slice-aggregate-mark-cuts c = refl
-
 mark-cuts-requires : tie.Need-mark-cuts-requires Inv-loop μ-loop
 mark-cuts-requires c κs = unmarked
 
 loop-holds : tie.Need-loop-holds Inv-loop μ-loop
 loop-holds c = (omega arith, sym (class-zero _))
-
-add-v : tie.Need-add-v Inv-loop μ-loop
-add-v c = omega arith
-
-array-read-class : tie.Need-array-read-class Inv-loop μ-loop
-array-read-class c = omega arith
 
 cast-class : tie.Need-cast-class Inv-loop μ-loop
 cast-class c =
@@ -38,9 +29,6 @@ add-class : tie.Need-add-class Inv-loop μ-loop
 add-class c =
     let marked = c .before .before .before in
     omega (arith, next-fits _ _ (marked .mark-cuts .ensures) _ _ (c .before .loop .inv .1) (c .loop-test .taken))
-
-loop-less : tie.Need-loop-less Inv-loop μ-loop
-loop-less c = omega arith
 
 loop-again : tie.Need-loop-again Inv-loop μ-loop
 loop-again c =
@@ -67,14 +55,14 @@ class-count-spec =
     (tie.spec
     Inv-loop
     μ-loop
-    slice-aggregate-mark-cuts
+    (λ c. refl)
     mark-cuts-requires
     loop-holds
-    add-v
-    array-read-class
+    (λ c. omega arith)
+    (λ c. omega arith)
     cast-class
     add-class
-    loop-less
+    (λ c. omega arith)
     loop-again
     add-result
     returns)

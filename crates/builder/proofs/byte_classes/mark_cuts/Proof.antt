@@ -24,12 +24,6 @@ expression-of-requires c κs = omega arith
 mark-range-requires : tie.Need-mark-range-requires Inv-loop μ-loop
 mark-range-requires c κs = c .before .before .before .before .loop .inv .long
 
-add-k : tie.Need-add-k Inv-loop μ-loop
-add-k c = omega arith
-
-loop-less : tie.Need-loop-less Inv-loop μ-loop
-loop-less c = omega arith
-
 loop-again : tie.Need-loop-again Inv-loop μ-loop
 unfolding rules
 loop-again c =
@@ -56,8 +50,8 @@ mark-cuts-spec =
     expression-of-requires
     (λ c κs. search needs)
     mark-range-requires
-    add-k
-    loop-less
+    (λ c. omega arith)
+    (λ c. omega arith)
     loop-again
     same-length
     returns)

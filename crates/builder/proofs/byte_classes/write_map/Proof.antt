@@ -14,9 +14,6 @@ Inv-loop grammar image₀ marks class₀ v₀ image class v = Map-written gramma
 abbrev μ-loop : tie.MeasureT-loop
 μ-loop grammar image₀ marks class₀ v₀ image class v = 255 - v
 
-slice-aggregate-mark-cuts : tie.Need-slice-aggregate-mark-cuts Inv-loop μ-loop
-slice-aggregate-mark-cuts c = refl
-
 mark-cuts-requires : tie.Need-mark-cuts-requires Inv-loop μ-loop
 mark-cuts-requires c κs = unmarked
 
@@ -31,19 +28,10 @@ loop-holds c =
     let start = at-marks .before .before .before in
     map-start (start .args .grammar .now) (start .args .image .now) (start .pre)
 
-add-v : tie.Need-add-v Inv-loop μ-loop
-add-v c = omega arith
-
-array-read-class : tie.Need-array-read-class Inv-loop μ-loop
-array-read-class c = omega arith
-
 add-class : tie.Need-add-class Inv-loop μ-loop
 add-class c =
     let marked = c .before .before .before in
     omega (arith, next-fits _ _ (marked .mark-cuts .ensures) _ _ (c .before .loop .inv .class-is) (c .loop-test .taken))
-
-add-at : tie.Need-add-at Inv-loop μ-loop
-add-at c = omega arith
 
 slice-write-image-2 : tie.Need-slice-write-image-2 Inv-loop μ-loop
 slice-write-image-2 c =
@@ -51,9 +39,6 @@ slice-write-image-2 c =
     let at-marks = turn .before .before .before in
     let start = at-marks .before .before .before in
     omega (arith, start .pre, map-room (start .args .grammar .now) (start .args .image .now) (turn .loop .image) _ _ (turn .loop .inv))
-
-loop-less : tie.Need-loop-less Inv-loop μ-loop
-loop-less c = omega arith
 
 loop-again : tie.Need-loop-again Inv-loop μ-loop
 loop-again c =
@@ -84,16 +69,16 @@ write-map-spec =
     (tie.spec
     Inv-loop
     μ-loop
-    slice-aggregate-mark-cuts
+    (λ c. refl)
     mark-cuts-requires
     slice-write-image
     loop-holds
-    add-v
-    array-read-class
+    (λ c. omega arith)
+    (λ c. omega arith)
     add-class
-    add-at
+    (λ c. omega arith)
     slice-write-image-2
-    loop-less
+    (λ c. omega arith)
     loop-again
     same-length
     returns)

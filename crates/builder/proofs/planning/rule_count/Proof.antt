@@ -11,9 +11,6 @@ symbol-count-requires c κs = grammar-short _ (c .before .pre .good)
 add-columns : tie.Need-add-columns
 add-columns c = omega (arith, c .before .before .pre .classes-are, classes-most _ (c .before .before .pre .good))
 
-cast-result : tie.Need-cast-result
-cast-result c = omega arith
-
 mul-result : tie.Need-mul-result
 mul-result c = fits-below tt (columns-most _ (c .before .before .pre .good) _ (c .before .before .pre .classes-are))
 
@@ -26,4 +23,4 @@ returns c = count-is _ _ _ (c .before .before .pre .classes-are) (c .symbol-coun
 pub rule-count-spec : {M : Type 1} → statement M
 rule-count-spec =
     tie.close
-    (tie.spec symbol-count-requires add-columns cast-result mul-result mul-result-2 returns)
+    (tie.spec symbol-count-requires add-columns (λ c. omega arith) mul-result mul-result-2 returns)

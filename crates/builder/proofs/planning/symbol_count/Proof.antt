@@ -5,18 +5,9 @@ use Rattle.grammar.specs.Grammar.{rules}
 use Rattle.builder.proofs.planning.symbol_count.Statement.{statement}
 use Rattle.builder.proofs.planning.symbol_count.Tie as tie
 
-cast-m : tie.Need-cast-m
-cast-m c = omega arith
-
-mul-result : tie.Need-mul-result
-mul-result c = omega arith
-
-add-result : tie.Need-add-result
-add-result c = omega arith
-
 returns : tie.Need-returns
 unfolding symbols-of rules
 returns c = omega arith
 
 pub symbol-count-spec : {M : Type 1} → statement M
-symbol-count-spec = tie.close (tie.spec cast-m mul-result add-result returns)
+symbol-count-spec = tie.close (tie.spec (λ c. omega arith) (λ c. omega arith) (λ c. omega arith) returns)
