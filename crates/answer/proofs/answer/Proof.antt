@@ -5,15 +5,6 @@ use borrow.Author.Needs.{needs}
 use Rattle.answer.proofs.answer.Statement.{statement}
 use Rattle.answer.proofs.answer.Tie as tie
 
-input-refusal-requires : tie.Need-input-refusal-requires
-input-refusal-requires c κs = search needs
-
-put-refusal-requires : tie.Need-put-refusal-requires
-put-refusal-requires c κs = search needs
-
-same-length : tie.Need-same-length
-same-length c = search needs
-
 returns : tie.Need-returns
 returns c =
     let put = c .before .before in
@@ -43,24 +34,6 @@ part-answer-parts-start-2 c =
     let middle = c .before in
     parted _ _ (middle .before .before .before .input-refusal .ensures) (middle .before .if1 .left) .within _ (middle .capture-offset .ensures)
 
-part-answer-parts-end-2 : tie.Need-part-answer-parts-end-2
-part-answer-parts-end-2 c = search needs
-
-answer-parts-requires : tie.Need-answer-parts-requires
-answer-parts-requires c κs = search needs
-
-same-length-2 : tie.Need-same-length-2
-same-length-2 c = search needs
-
-same-length-3 : tie.Need-same-length-3
-same-length-3 c = search needs
-
-same-length-4 : tie.Need-same-length-4
-same-length-4 c = search needs
-
-same-length-5 : tie.Need-same-length-5
-same-length-5 c = search needs
-
 returns-2 : tie.Need-returns-2
 returns-2 c =
     let cells = c .before .before .before .before in
@@ -76,9 +49,9 @@ pub answer-spec : {M : Type 1} → statement M
 answer-spec =
     tie.close
     (tie.spec
-    input-refusal-requires
-    put-refusal-requires
-    same-length
+    (λ c κs. search needs)
+    (λ c κs. search needs)
+    (λ c. search needs)
     returns
     capture-offset-requires
     sub-answer-parts
@@ -86,10 +59,10 @@ answer-spec =
     part-answer-parts-end
     sub-answer-parts-2
     part-answer-parts-start-2
-    part-answer-parts-end-2
-    answer-parts-requires
-    same-length-2
-    same-length-3
-    same-length-4
-    same-length-5
+    (λ c. search needs)
+    (λ c κs. search needs)
+    (λ c. search needs)
+    (λ c. search needs)
+    (λ c. search needs)
+    (λ c. search needs)
     returns-2)

@@ -6,15 +6,6 @@ use borrow.Author.Needs.{needs}
 use Rattle.answer.proofs.answer_parts.Statement.{statement}
 use Rattle.answer.proofs.answer_parts.Tie as tie
 
-refusal-of-requires : tie.Need-refusal-of-requires
-refusal-of-requires c κs = search needs
-
-put-refusal-requires : tie.Need-put-refusal-requires
-put-refusal-requires c κs = search needs
-
-same-length : tie.Need-same-length
-same-length c = search needs
-
 returns : tie.Need-returns
 returns c =
     let put = c .before .before in
@@ -32,33 +23,18 @@ answer-planned-requires c κs =
     let checked = plan .before .before .before in
     record { good = not-refused _ _ (checked .refusal-of .ensures) (plan .before .if1 .left); is = plan .plan-of .ensures }
 
-same-length-2 : tie.Need-same-length-2
-same-length-2 c = search needs
-
-same-length-3 : tie.Need-same-length-3
-same-length-3 c = search needs
-
-same-length-4 : tie.Need-same-length-4
-same-length-4 c = search needs
-
-same-length-5 : tie.Need-same-length-5
-same-length-5 c = search needs
-
-returns-2 : tie.Need-returns-2
-returns-2 c = search needs
-
 pub answer-parts-spec : {M : Type 1} → statement M
 answer-parts-spec =
     tie.close
     (tie.spec
-    refusal-of-requires
-    put-refusal-requires
-    same-length
+    (λ c κs. search needs)
+    (λ c κs. search needs)
+    (λ c. search needs)
     returns
     plan-of-requires
     answer-planned-requires
-    same-length-2
-    same-length-3
-    same-length-4
-    same-length-5
-    returns-2)
+    (λ c. search needs)
+    (λ c. search needs)
+    (λ c. search needs)
+    (λ c. search needs)
+    (λ c. search needs))

@@ -11,12 +11,6 @@ lent-refusal-requires c κs =
     let capture = c .before .before .before .before in
     capture .before .before .pre
 
-put-refusal-requires : tie.Need-put-refusal-requires
-put-refusal-requires c κs = search needs
-
-same-length : tie.Need-same-length
-same-length c = search needs
-
 returns : tie.Need-returns
 returns c =
     let put = c .before .before in
@@ -30,21 +24,6 @@ build-and-judge-requires c κs =
     let earlier = checked .before .before .before .before in
     let start = earlier .before .before .before in
     record { planned = start .pre; no-refusal = ap (λ (f : Refusal). f .number) (sym (checked .lent-refusal .ensures)) ∙ test .if1 .left }
-
-put-judgement-requires : tie.Need-put-judgement-requires
-put-judgement-requires c κs = search needs
-
-same-length-2 : tie.Need-same-length-2
-same-length-2 c = search needs
-
-same-length-3 : tie.Need-same-length-3
-same-length-3 c = search needs
-
-same-length-4 : tie.Need-same-length-4
-same-length-4 c = search needs
-
-same-length-5 : tie.Need-same-length-5
-same-length-5 c = search needs
 
 returns-2 : tie.Need-returns-2
 returns-2 c =
@@ -60,13 +39,13 @@ answer-planned-spec =
     tie.close
     (tie.spec
     lent-refusal-requires
-    put-refusal-requires
-    same-length
+    (λ c κs. search needs)
+    (λ c. search needs)
     returns
     build-and-judge-requires
-    put-judgement-requires
-    same-length-2
-    same-length-3
-    same-length-4
-    same-length-5
+    (λ c κs. search needs)
+    (λ c. search needs)
+    (λ c. search needs)
+    (λ c. search needs)
+    (λ c. search needs)
     returns-2)

@@ -7,21 +7,6 @@ use borrow.Author.Needs.{needs}
 use Rattle.answer_line.proofs.put_answer.Statement.{statement}
 use Rattle.answer_line.proofs.put_answer.Tie as tie
 
-put-verdict-requires : tie.Need-put-verdict-requires
-put-verdict-requires c κs = search needs
-
-put-field-requires : tie.Need-put-field-requires
-put-field-requires c κs = search needs
-
-put-config-requires : tie.Need-put-config-requires
-put-config-requires c κs = search needs
-
-put-requires : tie.Need-put-requires
-put-requires c κs = search needs
-
-same-length : tie.Need-same-length
-same-length c = search needs
-
 returns : tie.Need-returns
 unfolding answer-line
 returns c =
@@ -40,9 +25,9 @@ pub put-answer-spec : {M : Type 1} → statement M
 put-answer-spec =
     tie.close
     (tie.spec
-    put-verdict-requires
-    put-field-requires
-    put-config-requires
-    put-requires
-    same-length
+    (λ c κs. search needs)
+    (λ c κs. search needs)
+    (λ c κs. search needs)
+    (λ c κs. search needs)
+    (λ c. search needs)
     returns)

@@ -54,15 +54,6 @@ judge-lent-requires c κs =
     judge-ready _ _ _ _ (start .pre) _ _ (stands _ _ _ _ (start .pre .planned) (built .build-checked .ensures) .part)
     (counted .cells-of .ensures)
 
-same-length : tie.Need-same-length
-same-length c = search needs
-
-same-length-2 : tie.Need-same-length-2
-same-length-2 c = search needs
-
-same-length-3 : tie.Need-same-length-3
-same-length-3 c = search needs
-
 returns : tie.Need-returns
 returns c =
     let judged = c .before .before .before .before in
@@ -83,7 +74,7 @@ build-and-judge-spec =
     slice-reshare-prefix-judge-lent
     slice-aggregate-judge-lent
     judge-lent-requires
-    same-length
-    same-length-2
-    same-length-3
+    (λ c. search needs)
+    (λ c. search needs)
+    (λ c. search needs)
     returns)

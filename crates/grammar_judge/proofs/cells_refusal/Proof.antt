@@ -6,9 +6,6 @@ use borrow.Author.Needs.{needs}
 use Rattle.grammar_judge.proofs.cells_refusal.Statement.{statement}
 use Rattle.grammar_judge.proofs.cells_refusal.Tie as tie
 
-refused-requires : tie.Need-refused-requires
-refused-requires c κs = search needs
-
 returns : tie.Need-returns
 returns c =
     c .refused .ensures ∙ refused-long _ (c .before .before .before .before .args .capture .now) (c .before .before .before .before .pre) _
@@ -17,9 +14,6 @@ returns c =
 cells-of-requires : tie.Need-cells-of-requires
 cells-of-requires c κs = record { good = c .before .before .before .pre; fits = c .if1 .left }
 
-refused-requires-2 : tie.Need-refused-requires-2
-refused-requires-2 c κs = search needs
-
 returns-2 : tie.Need-returns-2
 returns-2 c =
     let cells = c .before .before in
@@ -27,18 +21,12 @@ returns-2 c =
     c .refused2 .ensures ∙ refused-notes _ _ (start .pre) _ _ (cells .before .if1 .left) _
     (cells .cells-of .ensures Whole (start .args .capture .now) refl) (c .before .if2 .taken)
 
-refused-requires-3 : tie.Need-refused-requires-3
-refused-requires-3 c κs = search needs
-
 returns-3 : tie.Need-returns-3
 returns-3 c =
     let cells = c .before .before .before in
     let start = cells .before .before .before .before in
     c .refused3 .ensures ∙ refused-work _ _ (start .pre) _ _ (cells .before .if1 .left) _
     (cells .cells-of .ensures Whole (start .args .capture .now) refl) (c .before .before .if2 .left) (c .before .if3 .taken)
-
-refused-requires-4 : tie.Need-refused-requires-4
-refused-requires-4 c κs = search needs
 
 returns-4 : tie.Need-returns-4
 returns-4 c =
@@ -51,12 +39,12 @@ pub cells-refusal-spec : {M : Type 1} → statement M
 cells-refusal-spec =
     tie.close
     (tie.spec
-    refused-requires
+    (λ c κs. search needs)
     returns
     cells-of-requires
-    refused-requires-2
+    (λ c κs. search needs)
     returns-2
-    refused-requires-3
+    (λ c κs. search needs)
     returns-3
-    refused-requires-4
+    (λ c κs. search needs)
     returns-4)

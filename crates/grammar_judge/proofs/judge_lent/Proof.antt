@@ -33,12 +33,6 @@ judge-checked-requires c κs =
     let start = capture .before .before in
     checked _ _ _ _ (start .pre .sized) (λ i. capture .shared-slice-known2 .given i .fits) (start .pre .notes-enough) (start .pre .work-enough)
 
-same-length : tie.Need-same-length
-same-length c = search needs
-
-same-length-2 : tie.Need-same-length-2
-same-length-2 c = search needs
-
 returns : tie.Need-returns
 returns c =
     let judged = c .before .before .before .before in
@@ -55,6 +49,6 @@ judge-lent-spec =
     slice-relend-prefix-judge-checked-2
     slice-aggregate-judge-checked-2
     judge-checked-requires
-    same-length
-    same-length-2
+    (λ c. search needs)
+    (λ c. search needs)
     returns)

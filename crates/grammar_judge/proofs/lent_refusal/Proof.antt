@@ -4,9 +4,6 @@ use borrow.Author.Needs.{needs}
 use Rattle.grammar_judge.proofs.lent_refusal.Statement.{statement}
 use Rattle.grammar_judge.proofs.lent_refusal.Tie as tie
 
-room-refusal-requires : tie.Need-room-refusal-requires
-room-refusal-requires c κs = search needs
-
 returns : tie.Need-returns
 returns c =
     let room = c .before .before in
@@ -27,4 +24,4 @@ returns-2 c =
 
 pub lent-refusal-spec : {M : Type 1} → statement M
 lent-refusal-spec =
-    tie.close (tie.spec room-refusal-requires returns cells-refusal-requires returns-2)
+    tie.close (tie.spec (λ c κs. search needs) returns cells-refusal-requires returns-2)

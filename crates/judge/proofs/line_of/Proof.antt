@@ -12,21 +12,6 @@ slice-aggregate-answer c =
     let start = at-parts .before .before in
     sym (length-take-le _ _ (start .pre .input-read))
 
-answer-requires : tie.Need-answer-requires
-answer-requires c κs = search needs
-
-same-length : tie.Need-same-length
-same-length c = search needs
-
-same-length-2 : tie.Need-same-length-2
-same-length-2 c = search needs
-
-same-length-3 : tie.Need-same-length-3
-same-length-3 c = search needs
-
-same-length-4 : tie.Need-same-length-4
-same-length-4 c = search needs
-
 returns : tie.Need-returns
 returns c =
     let after-answer = c .before .before .before .before in
@@ -41,9 +26,9 @@ line-of-spec =
     tie.close
     (tie.spec
     slice-aggregate-answer
-    answer-requires
-    same-length
-    same-length-2
-    same-length-3
-    same-length-4
+    (λ c κs. search needs)
+    (λ c. search needs)
+    (λ c. search needs)
+    (λ c. search needs)
+    (λ c. search needs)
     returns)

@@ -4,17 +4,8 @@ use Rattle.answer.proofs.InputLaws.{first-offset-wrong, first-offset-ri
 use Rattle.answer.proofs.input.first_pair_right.Statement.{statement}
 use Rattle.answer.proofs.input.first_pair_right.Tie as tie
 
-read-pair-requires : tie.Need-read-pair-requires
-read-pair-requires c κs = search needs
-
-cast-offset : tie.Need-cast-offset
-cast-offset c = search needs
-
 returns : tie.Need-returns
 returns c = first-offset-wrong _ _ (c .before .before .read-pair .ensures) (c .if1 .taken)
-
-capture-offset-requires : tie.Need-capture-offset-requires
-capture-offset-requires c κs = search needs
 
 returns-2 : tie.Need-returns-2
 returns-2 c =
@@ -23,4 +14,4 @@ returns-2 c =
 
 pub first-pair-right-spec : {M : Type 1} → statement M
 first-pair-right-spec =
-    tie.close (tie.spec read-pair-requires cast-offset returns capture-offset-requires returns-2)
+    tie.close (tie.spec (λ c κs. search needs) (λ c. search needs) returns (λ c κs. search needs) returns-2)

@@ -6,23 +6,11 @@ use borrow.Author.Needs.{needs}
 use Rattle.answer.proofs.input.input_refusal.Statement.{statement}
 use Rattle.answer.proofs.input.input_refusal.Tie as tie
 
-refused-requires : tie.Need-refused-requires
-refused-requires c κs = search needs
-
 returns : tie.Need-returns
 returns c = c .refused .ensures ∙ sym (short-refused _ (c .before .if1 .taken))
 
-refused-requires-2 : tie.Need-refused-requires-2
-refused-requires-2 c κs = search needs
-
 returns-2 : tie.Need-returns-2
 returns-2 c = c .refused2 .ensures ∙ sym (long-refused _ (c .before .before .if1 .left) (c .before .if2 .taken))
-
-first-pair-right-requires : tie.Need-first-pair-right-requires
-first-pair-right-requires c κs = search needs
-
-refused-requires-3 : tie.Need-refused-requires-3
-refused-requires-3 c κs = search needs
 
 returns-3 : tie.Need-returns-3
 returns-3 c =
@@ -30,12 +18,6 @@ returns-3 c =
     let lengths = at-first .before in
     let wrong = sym (at-first .first-pair-right .ensures) ∙ not-true _ (c .before .if3 .taken) in
     c .refused3 .ensures ∙ sym (first-refused _ (lengths .before .if1 .left) (lengths .if2 .left) wrong)
-
-second-pair-right-requires : tie.Need-second-pair-right-requires
-second-pair-right-requires c κs = search needs
-
-refused-requires-4 : tie.Need-refused-requires-4
-refused-requires-4 c κs = search needs
 
 returns-4 : tie.Need-returns-4
 returns-4 c =
@@ -59,14 +41,14 @@ pub input-refusal-spec : {M : Type 1} → statement M
 input-refusal-spec =
     tie.close
     (tie.spec
-    refused-requires
+    (λ c κs. search needs)
     returns
-    refused-requires-2
+    (λ c κs. search needs)
     returns-2
-    first-pair-right-requires
-    refused-requires-3
+    (λ c κs. search needs)
+    (λ c κs. search needs)
     returns-3
-    second-pair-right-requires
-    refused-requires-4
+    (λ c κs. search needs)
+    (λ c κs. search needs)
     returns-4
     returns-5)

@@ -4,25 +4,10 @@ use Rattle.answer.proofs.InputLaws.{second-offset-wrong, second-offset-
 use Rattle.answer.proofs.input.second_pair_right.Statement.{statement}
 use Rattle.answer.proofs.input.second_pair_right.Tie as tie
 
-read-pair-requires : tie.Need-read-pair-requires
-read-pair-requires c κs = search needs
-
-cast-offset : tie.Need-cast-offset
-cast-offset c = search needs
-
-capture-offset-requires : tie.Need-capture-offset-requires
-capture-offset-requires c κs = search needs
-
 returns : tie.Need-returns
 returns c =
     let middle = c .before in
     second-offset-wrong _ _ (middle .before .before .read-pair .ensures) _ (middle .capture-offset .ensures) (c .if1 .taken)
-
-cast-long : tie.Need-cast-long
-cast-long c = search needs
-
-add-end : tie.Need-add-end
-add-end c = search needs
 
 returns-2 : tie.Need-returns-2
 returns-2 c =
@@ -32,4 +17,4 @@ returns-2 c =
 
 pub second-pair-right-spec : {M : Type 1} → statement M
 second-pair-right-spec =
-    tie.close (tie.spec read-pair-requires cast-offset capture-offset-requires returns cast-long add-end returns-2)
+    tie.close (tie.spec (λ c κs. search needs) (λ c. search needs) (λ c κs. search needs) returns (λ c. search needs) (λ c. search needs) returns-2)
