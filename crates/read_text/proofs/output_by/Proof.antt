@@ -4,18 +4,12 @@ use Rattle.read_text.proofs.Outputs.{asked-for}
 use Rattle.read_text.proofs.output_by.Statement.{statement}
 use Rattle.read_text.proofs.output_by.Tie as tie
 
-check-of-text-requires : tie.Need-check-of-text-requires
-check-of-text-requires c κs = search needs
-
 returns : tie.Need-returns
 returns c = asked-for _ _ _ _ (c .before .if1 .taken) (c .check-of-text .ensures)
-
-output-of-text-requires : tie.Need-output-of-text-requires
-output-of-text-requires c κs = search needs
 
 returns-2 : tie.Need-returns-2
 returns-2 c = asked-for _ _ _ _ (c .before .if1 .left) (c .output-of-text .ensures)
 
 pub output-by-spec : {M : Type 1} → statement M
 output-by-spec =
-    tie.close (tie.spec check-of-text-requires returns output-of-text-requires returns-2)
+    tie.close (tie.spec (λ c κs. search needs) returns (λ c κs. search needs) returns-2)

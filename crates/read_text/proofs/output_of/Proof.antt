@@ -7,12 +7,6 @@ use Rattle.read_text.specs.Program.{too-long, fits, unread, whole}
 use Rattle.read_text.proofs.output_of.Statement.{statement}
 use Rattle.read_text.proofs.output_of.Tie as tie
 
-failed-requires : tie.Need-failed-requires
-failed-requires c κs = search needs
-
-unread-requires : tie.Need-unread-requires
-unread-requires c κs = search needs
-
 returns : tie.Need-returns
 returns c =
     record {
@@ -20,9 +14,6 @@ returns c =
       right = unread (sym (c .before .before .failed .ensures) ∙ c .before .if1 .taken);
       held = c .unread .ensures;
     }
-
-no-text-requires : tie.Need-no-text-requires
-no-text-requires c κs = search needs
 
 returns-2 : tie.Need-returns-2
 returns-2 c =
@@ -38,11 +29,9 @@ returns-2 c =
 
 slice-aggregate-output-by : tie.Need-slice-aggregate-output-by
 slice-aggregate-output-by c =
-    let start = c .before .before .before .before .before in
+    let got = c .before .before .before in
+    let start = got .before .before in
     sym (read-long (start .args .input .now) (start .args .stop) (start .pre))
-
-output-by-requires : tie.Need-output-by-requires
-output-by-requires c κs = search needs
 
 returns-3 : tie.Need-returns-3
 returns-3 c =
@@ -61,11 +50,11 @@ pub output-of-spec : {M : Type 1} → statement M
 output-of-spec =
     tie.close
     (tie.spec
-    failed-requires
-    unread-requires
+    (λ c κs. search needs)
+    (λ c κs. search needs)
     returns
-    no-text-requires
+    (λ c κs. search needs)
     returns-2
     slice-aggregate-output-by
-    output-by-requires
+    (λ c κs. search needs)
     returns-3)

@@ -6,12 +6,6 @@ use borrow.Author.Needs.{needs}
 use Rattle.read_text.proofs.output_of_text.Statement.{statement}
 use Rattle.read_text.proofs.output_of_text.Tie as tie
 
-read-requires : tie.Need-read-requires
-read-requires c κs = search needs
-
-refused-requires : tie.Need-refused-requires
-refused-requires c κs = search needs
-
 returns : tie.Need-returns
 returns c =
     let test = c .before in
@@ -34,4 +28,4 @@ returns-2 c =
     }
 
 pub output-of-text-spec : {M : Type 1} → statement M
-output-of-text-spec = tie.close (tie.spec read-requires refused-requires returns returns-2)
+output-of-text-spec = tie.close (tie.spec (λ c κs. search needs) (λ c κs. search needs) returns returns-2)

@@ -4,18 +4,6 @@ use borrow.Author.Needs.{needs}
 use Rattle.sejimakpu.proofs.sejimakpu_build_text_nonnull.Statement.{statement}
 use Rattle.sejimakpu.proofs.sejimakpu_build_text_nonnull.Tie as tie
 
-build-text-requires : tie.Need-build-text-requires
-build-text-requires c κs = search needs
-
-build-reply-requires : tie.Need-build-reply-requires
-build-reply-requires c κs = search needs
-
-write-reply-requires : tie.Need-write-reply-requires
-write-reply-requires c κs = search needs
-
-same-length : tie.Need-same-length
-same-length c = search needs
-
 returns : tie.Need-returns
 returns c =
     let after-call = c .before .before .before .before in
@@ -29,4 +17,4 @@ returns c =
 pub sejimakpu-build-text-nonnull-spec : {M : Type 1} → statement M
 sejimakpu-build-text-nonnull-spec =
     tie.close
-    (tie.spec build-text-requires build-reply-requires write-reply-requires same-length returns)
+    (tie.spec (λ c κs. search needs) (λ c κs. search needs) (λ c κs. search needs) (λ c. search needs) returns)

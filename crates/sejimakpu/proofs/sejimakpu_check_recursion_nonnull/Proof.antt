@@ -6,18 +6,9 @@ use borrow.Author.Needs.{needs}
 use Rattle.sejimakpu.proofs.sejimakpu_check_recursion_nonnull.Statement.{statement}
 use Rattle.sejimakpu.proofs.sejimakpu_check_recursion_nonnull.Tie as tie
 
-check-recursion-requires : tie.Need-check-recursion-requires
-check-recursion-requires c κs = search needs
-
-check-reply-requires : tie.Need-check-reply-requires
-check-reply-requires c κs = search needs
-
-write-reply-requires : tie.Need-write-reply-requires
-write-reply-requires c κs = search needs
-
 returns : tie.Need-returns
 returns c = told-as (c .before .check-reply .ensures ∙ ap of-checked (c .before .before .check-recursion .ensures)) (c .write-reply .ensures)
 
 pub sejimakpu-check-recursion-nonnull-spec : {M : Type 1} → statement M
 sejimakpu-check-recursion-nonnull-spec =
-    tie.close (tie.spec check-recursion-requires check-reply-requires write-reply-requires returns)
+    tie.close (tie.spec (λ c κs. search needs) (λ c κs. search needs) (λ c κs. search needs) returns)

@@ -4,21 +4,6 @@ use borrow.Author.Needs.{needs}
 use Rattle.sejimakpu.proofs.sejimakpu_judge_nonnull.Statement.{statement}
 use Rattle.sejimakpu.proofs.sejimakpu_judge_nonnull.Tie as tie
 
-judge-requires : tie.Need-judge-requires
-judge-requires c κs = search needs
-
-judge-reply-requires : tie.Need-judge-reply-requires
-judge-reply-requires c κs = search needs
-
-write-reply-requires : tie.Need-write-reply-requires
-write-reply-requires c κs = search needs
-
-same-length : tie.Need-same-length
-same-length c = search needs
-
-same-length-2 : tie.Need-same-length-2
-same-length-2 c = search needs
-
 returns : tie.Need-returns
 returns c =
     let after-call = c .before .before .before .before in
@@ -32,4 +17,4 @@ returns c =
 pub sejimakpu-judge-nonnull-spec : {M : Type 1} → statement M
 sejimakpu-judge-nonnull-spec =
     tie.close
-    (tie.spec judge-requires judge-reply-requires write-reply-requires same-length same-length-2 returns)
+    (tie.spec (λ c κs. search needs) (λ c κs. search needs) (λ c κs. search needs) (λ c. search needs) (λ c. search needs) returns)

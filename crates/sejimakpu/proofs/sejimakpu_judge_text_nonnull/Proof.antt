@@ -4,28 +4,11 @@ use borrow.Author.Needs.{needs}
 use Rattle.sejimakpu.proofs.sejimakpu_judge_text_nonnull.Statement.{statement}
 use Rattle.sejimakpu.proofs.sejimakpu_judge_text_nonnull.Tie as tie
 
-judge-text-requires : tie.Need-judge-text-requires
-judge-text-requires c κs = search needs
-
-judge-reply-requires : tie.Need-judge-reply-requires
-judge-reply-requires c κs = search needs
-
-write-reply-requires : tie.Need-write-reply-requires
-write-reply-requires c κs = search needs
-
-same-length : tie.Need-same-length
-same-length c = search needs
-
-same-length-2 : tie.Need-same-length-2
-same-length-2 c = search needs
-
-same-length-3 : tie.Need-same-length-3
-same-length-3 c = search needs
-
 returns : tie.Need-returns
 returns c =
-    let after-call = c .before .before .before .before in
-    let at-call = after-call .before .before .before .before .before in
+    let at-work = c .before .before .before .before in
+    let at-image = at-work .before .before .before .before in
+    let at-call = at-image .before in
     record {
       judged = _;
       says = at-call .judge-text .ensures;
@@ -36,10 +19,10 @@ pub sejimakpu-judge-text-nonnull-spec : {M : Type 1} → statement M
 sejimakpu-judge-text-nonnull-spec =
     tie.close
     (tie.spec
-    judge-text-requires
-    judge-reply-requires
-    write-reply-requires
-    same-length
-    same-length-2
-    same-length-3
+    (λ c κs. search needs)
+    (λ c κs. search needs)
+    (λ c κs. search needs)
+    (λ c. search needs)
+    (λ c. search needs)
+    (λ c. search needs)
     returns)

@@ -4,18 +4,6 @@ use borrow.Author.Needs.{needs}
 use Rattle.sejimakpu.proofs.sejimakpu_plain_run_nonnull.Statement.{statement}
 use Rattle.sejimakpu.proofs.sejimakpu_plain_run_nonnull.Tie as tie
 
-plain-run-requires : tie.Need-plain-run-requires
-plain-run-requires c κs = search needs
-
-run-reply-requires : tie.Need-run-reply-requires
-run-reply-requires c κs = search needs
-
-write-reply-requires : tie.Need-write-reply-requires
-write-reply-requires c κs = search needs
-
-same-length : tie.Need-same-length
-same-length c = search needs
-
 returns : tie.Need-returns
 returns c =
     let after-call = c .before .before .before .before in
@@ -28,4 +16,4 @@ returns c =
 
 pub sejimakpu-plain-run-nonnull-spec : {M : Type 1} → statement M
 sejimakpu-plain-run-nonnull-spec =
-    tie.close (tie.spec plain-run-requires run-reply-requires write-reply-requires same-length returns)
+    tie.close (tie.spec (λ c κs. search needs) (λ c κs. search needs) (λ c κs. search needs) (λ c. search needs) returns)

@@ -9,9 +9,6 @@ use Rattle.sejimakpu.proofs.Reading.{front-fits, left-as, nothing-left}
 use Rattle.sejimakpu.proofs.sejimakpu_read_grammar_nonnull.Statement.{statement}
 use Rattle.sejimakpu.proofs.sejimakpu_read_grammar_nonnull.Tie as tie
 
-read-requires : tie.Need-read-requires
-read-requires c κs = search needs
-
 array-share-prefix-bytes : tie.Need-array-share-prefix-bytes
 array-share-prefix-bytes c = read-fits _ _ (c .before .before .read .ensures) .0
 
@@ -22,12 +19,6 @@ put-front-requires : tie.Need-put-front-requires
 put-front-requires c κs =
     let got = c .before .before .before in
     front-fits (got .read .result) (got .before .before .args .grammar .now) (read-fits _ _ (got .read .ensures)) (omega arith)
-
-read-reply-requires : tie.Need-read-reply-requires
-read-reply-requires c κs = search needs
-
-write-reply-requires : tie.Need-write-reply-requires
-write-reply-requires c κs = search needs
 
 returns : tie.Need-returns
 returns c =
@@ -47,10 +38,10 @@ pub sejimakpu-read-grammar-nonnull-spec : {M : Type 1} → statement M
 sejimakpu-read-grammar-nonnull-spec =
     tie.close
     (tie.spec
-    read-requires
+    (λ c κs. search needs)
     array-share-prefix-bytes
     slice-aggregate-put-front
     put-front-requires
-    read-reply-requires
-    write-reply-requires
+    (λ c κs. search needs)
+    (λ c κs. search needs)
     returns)

@@ -7,9 +7,6 @@ use Rattle.typed.proofs.ReadRight.{text-refused, grammar-read, good-rea
 use Rattle.typed.proofs.build_text.Statement.{statement}
 use Rattle.typed.proofs.build_text.Tie as tie
 
-read-requires : tie.Need-read-requires
-read-requires c κs = search needs
-
 returns : tie.Need-returns
 returns c = unread (text-refused _ _ (c .before .before .before .read .ensures) (c .if1 .taken))
 
@@ -26,9 +23,6 @@ build-read-requires c κs =
     let test = c .before .before .before in
     good-read _ _ (test .before .before .before .read .ensures) (test .if1 .left) .good
 
-same-length : tie.Need-same-length
-same-length c = search needs
-
 returns-2 : tie.Need-returns-2
 returns-2 c =
     let done = c .before .before in
@@ -39,10 +33,10 @@ pub build-text-spec : {M : Type 1} → statement M
 build-text-spec =
     tie.close
     (tie.spec
-    read-requires
+    (λ c κs. search needs)
     returns
     array-share-prefix-bytes
     slice-aggregate-build-read
     build-read-requires
-    same-length
+    (λ c. search needs)
     returns-2)

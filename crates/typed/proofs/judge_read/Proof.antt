@@ -6,12 +6,6 @@ use Rattle.typed.proofs.Calling.{judging-refused, judging-answered}
 use Rattle.typed.proofs.judge_read.Statement.{statement}
 use Rattle.typed.proofs.judge_read.Tie as tie
 
-plan-of-requires : tie.Need-plan-of-requires
-plan-of-requires c κs = search needs
-
-lent-refusal-requires : tie.Need-lent-refusal-requires
-lent-refusal-requires c κs = search needs
-
 returns : tie.Need-returns
 returns c = judging-refused _ _ _ _ (c .before .before .lent-refusal .ensures) (c .if1 .taken)
 
@@ -20,24 +14,17 @@ build-and-judge-requires c κs =
     let test = c .before .before .before in
     let checked = test .before .before in
     let plan = checked .before in
-    let start = plan .before .before .before .before .before .before in
+    let at-shared-slice-known2 = plan .before .before .before .before in
+    let start = at-shared-slice-known2 .before .before in
     record {
       planned = record { good = start .pre; is = plan .plan-of .ensures };
       no-refusal = ap (λ (f : Refusal). f .number) (sym (checked .lent-refusal .ensures)) ∙ test .if1 .left;
     }
 
-same-length : tie.Need-same-length
-same-length c = search needs
-
-same-length-2 : tie.Need-same-length-2
-same-length-2 c = search needs
-
-same-length-3 : tie.Need-same-length-3
-same-length-3 c = search needs
-
 returns-2 : tie.Need-returns-2
 returns-2 c =
-    let done = c .before .before .before .before .before .before in
+    let at-notes = c .before .before .before in
+    let done = at-notes .before .before .before in
     let test = done .before .before .before .before in
     judging-answered _ _ _ _ (test .before .before .lent-refusal .ensures) (test .if1 .left) _ _ (done .build-and-judge .ensures)
 
@@ -45,11 +32,11 @@ pub judge-read-spec : {M : Type 1} → statement M
 judge-read-spec =
     tie.close
     (tie.spec
-    plan-of-requires
-    lent-refusal-requires
+    (λ c κs. search needs)
+    (λ c κs. search needs)
     returns
     build-and-judge-requires
-    same-length
-    same-length-2
-    same-length-3
+    (λ c. search needs)
+    (λ c. search needs)
+    (λ c. search needs)
     returns-2)

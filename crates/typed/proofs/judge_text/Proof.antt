@@ -7,9 +7,6 @@ use Rattle.typed.proofs.ReadRight.{text-refused, grammar-read, good-rea
 use Rattle.typed.proofs.judge_text.Statement.{statement}
 use Rattle.typed.proofs.judge_text.Tie as tie
 
-read-requires : tie.Need-read-requires
-read-requires c κs = search needs
-
 returns : tie.Need-returns
 returns c = unread (text-refused _ _ (c .before .before .before .read .ensures) (c .if1 .taken))
 
@@ -23,34 +20,28 @@ slice-aggregate-judge-read c =
 
 judge-read-requires : tie.Need-judge-read-requires
 judge-read-requires c κs =
-    let test = c .before .before .before .before .before in
+    let at-bytes = c .before .before .before .before in
+    let test = at-bytes .before in
     good-read _ _ (test .before .before .before .read .ensures) (test .if1 .left) .good
-
-same-length : tie.Need-same-length
-same-length c = search needs
-
-same-length-2 : tie.Need-same-length-2
-same-length-2 c = search needs
-
-same-length-3 : tie.Need-same-length-3
-same-length-3 c = search needs
 
 returns-2 : tie.Need-returns-2
 returns-2 c =
-    let done = c .before .before .before .before .before .before in
-    let test = done .before .before .before .before .before .before in
+    let at-notes = c .before .before .before in
+    let done = at-notes .before .before .before in
+    let at-bytes2 = done .before .before .before .before in
+    let test = at-bytes2 .before .before in
     done .judge-read .ensures _ (grammar-read _ _ (test .before .before .before .read .ensures) (test .if1 .left) .says)
 
 pub judge-text-spec : {M : Type 1} → statement M
 judge-text-spec =
     tie.close
     (tie.spec
-    read-requires
+    (λ c κs. search needs)
     returns
     array-share-prefix-bytes
     slice-aggregate-judge-read
     judge-read-requires
-    same-length
-    same-length-2
-    same-length-3
+    (λ c. search needs)
+    (λ c. search needs)
+    (λ c. search needs)
     returns-2)

@@ -4,18 +4,6 @@ use borrow.Author.Needs.{needs}
 use Rattle.sejimakpu.proofs.reply.build_reply.Statement.{statement}
 use Rattle.sejimakpu.proofs.reply.build_reply.Tie as tie
 
-enum-known-built : tie.Need-enum-known-built
-enum-known-built c = search needs
-
-refusal-reply-requires : tie.Need-refusal-reply-requires
-refusal-reply-requires c κs = search needs
-
-enum-known-built-2 : tie.Need-enum-known-built-2
-enum-known-built-2 c = search needs
-
-count-reply-requires : tie.Need-count-reply-requires
-count-reply-requires c κs = search needs
-
 returns : tie.Need-returns
 unfolding of-built
 returns c = rw (c .before .before .built .given .1) (c .refusal-reply .ensures)
@@ -28,9 +16,9 @@ pub build-reply-spec : {M : Type 1} → statement M
 build-reply-spec =
     tie.close
     (tie.spec
-    enum-known-built
-    refusal-reply-requires
-    enum-known-built-2
-    count-reply-requires
+    (λ c. search needs)
+    (λ c κs. search needs)
+    (λ c. search needs)
+    (λ c κs. search needs)
     returns
     returns-2)

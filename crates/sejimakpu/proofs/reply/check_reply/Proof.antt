@@ -4,18 +4,6 @@ use borrow.Author.Needs.{needs}
 use Rattle.sejimakpu.proofs.reply.check_reply.Statement.{statement}
 use Rattle.sejimakpu.proofs.reply.check_reply.Tie as tie
 
-enum-known-checked : tie.Need-enum-known-checked
-enum-known-checked c = search needs
-
-refusal-reply-requires : tie.Need-refusal-reply-requires
-refusal-reply-requires c κs = search needs
-
-enum-told : tie.Need-enum-told
-enum-told c = search needs
-
-count-reply-requires : tie.Need-count-reply-requires
-count-reply-requires c κs = search needs
-
 returns : tie.Need-returns
 unfolding of-checked
 returns c = rw (c .before .before .checked .given .1) (c .refusal-reply .ensures)
@@ -27,4 +15,4 @@ returns-2 c = rw (c .before .enum-told .given .1) (c .count-reply .ensures)
 pub check-reply-spec : {M : Type 1} → statement M
 check-reply-spec =
     tie.close
-    (tie.spec enum-known-checked refusal-reply-requires enum-told count-reply-requires returns returns-2)
+    (tie.spec (λ c. search needs) (λ c κs. search needs) (λ c. search needs) (λ c κs. search needs) returns returns-2)

@@ -6,21 +6,6 @@ use borrow.Author.Needs.{needs}
 use Rattle.sejimakpu.proofs.reply.exit_number.Statement.{statement}
 use Rattle.sejimakpu.proofs.reply.exit_number.Tie as tie
 
-enum-known-exit : tie.Need-enum-known-exit
-enum-known-exit c = search needs
-
-termination-verdict-requires : tie.Need-termination-verdict-requires
-termination-verdict-requires c κs = search needs
-
-verdict-number-requires : tie.Need-verdict-number-requires
-verdict-number-requires c κs = search needs
-
-enum-told : tie.Need-enum-told
-enum-told c = search needs
-
-enum-told-2 : tie.Need-enum-told-2
-enum-told-2 c = search needs
-
 returns : tie.Need-returns
 unfolding exit-number
 returns c =
@@ -39,11 +24,11 @@ pub exit-number-spec : {M : Type 1} → statement M
 exit-number-spec =
     tie.close
     (tie.spec
-    enum-known-exit
-    termination-verdict-requires
-    verdict-number-requires
-    enum-told
-    enum-told-2
+    (λ c. search needs)
+    (λ c κs. search needs)
+    (λ c κs. search needs)
+    (λ c. search needs)
+    (λ c. search needs)
     returns
     returns-2
     returns-3)

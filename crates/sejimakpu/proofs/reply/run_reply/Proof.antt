@@ -5,24 +5,6 @@ use borrow.Author.Needs.{needs}
 use Rattle.sejimakpu.proofs.reply.run_reply.Statement.{statement}
 use Rattle.sejimakpu.proofs.reply.run_reply.Tie as tie
 
-enum-known-ran : tie.Need-enum-known-ran
-enum-known-ran c = search needs
-
-refusal-reply-requires : tie.Need-refusal-reply-requires
-refusal-reply-requires c κs = search needs
-
-enum-known-ran-2 : tie.Need-enum-known-ran-2
-enum-known-ran-2 c = search needs
-
-exit-number-requires : tie.Need-exit-number-requires
-exit-number-requires c κs = search needs
-
-cast-answer-reply : tie.Need-cast-answer-reply
-cast-answer-reply c = search needs
-
-answer-reply-requires : tie.Need-answer-reply-requires
-answer-reply-requires c κs = search needs
-
 returns : tie.Need-returns
 unfolding of-ran
 returns c = rw (c .before .before .ran .given .1) (c .refusal-reply .ensures)
@@ -35,11 +17,11 @@ pub run-reply-spec : {M : Type 1} → statement M
 run-reply-spec =
     tie.close
     (tie.spec
-    enum-known-ran
-    refusal-reply-requires
-    enum-known-ran-2
-    exit-number-requires
-    cast-answer-reply
-    answer-reply-requires
+    (λ c. search needs)
+    (λ c κs. search needs)
+    (λ c. search needs)
+    (λ c κs. search needs)
+    (λ c. search needs)
+    (λ c κs. search needs)
     returns
     returns-2)

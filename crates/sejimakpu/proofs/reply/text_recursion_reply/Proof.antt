@@ -5,21 +5,6 @@ use Rattle.typed.specs.Replies.{of-text-recursion}
 use Rattle.sejimakpu.proofs.reply.text_recursion_reply.Statement.{statement}
 use Rattle.sejimakpu.proofs.reply.text_recursion_reply.Tie as tie
 
-enum-told : tie.Need-enum-told
-enum-told c = search needs
-
-count-reply-requires : tie.Need-count-reply-requires
-count-reply-requires c κs = search needs
-
-enum-known-checked : tie.Need-enum-known-checked
-enum-known-checked c = search needs
-
-refusal-reply-requires : tie.Need-refusal-reply-requires
-refusal-reply-requires c κs = search needs
-
-enum-known-checked-2 : tie.Need-enum-known-checked-2
-enum-known-checked-2 c = search needs
-
 returns : tie.Need-returns
 unfolding of-text-recursion
 returns c = rw (c .before .enum-told .given .1) (c .count-reply .ensures)
@@ -36,11 +21,11 @@ pub text-recursion-reply-spec : {M : Type 1} → statement M
 text-recursion-reply-spec =
     tie.close
     (tie.spec
-    enum-told
-    count-reply-requires
-    enum-known-checked
-    refusal-reply-requires
-    enum-known-checked-2
+    (λ c. search needs)
+    (λ c κs. search needs)
+    (λ c. search needs)
+    (λ c κs. search needs)
+    (λ c. search needs)
     returns
     returns-2
     returns-3)

@@ -5,12 +5,6 @@ use borrow.Author.Needs.{needs}
 use Rattle.sejimakpu.proofs.reply.write_totals.Statement.{statement}
 use Rattle.sejimakpu.proofs.reply.write_totals.Tie as tie
 
-enum-known-report : tie.Need-enum-known-report
-enum-known-report c = search needs
-
-enum-told : tie.Need-enum-told
-enum-told c = search needs
-
 returns : tie.Need-returns
 unfolding totals-left totals-cells
 returns c = rw (c .before .before .report .given .1) refl
@@ -20,4 +14,4 @@ unfolding totals-left
 returns-2 c = rw (c .enum-told .given .1) refl
 
 pub write-totals-spec : {M : Type 1} → statement M
-write-totals-spec = tie.close (tie.spec enum-known-report enum-told returns returns-2)
+write-totals-spec = tie.close (tie.spec (λ c. search needs) (λ c. search needs) returns returns-2)

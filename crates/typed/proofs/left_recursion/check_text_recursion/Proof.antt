@@ -8,9 +8,6 @@ use Rattle.typed.proofs.RuleNamed.{text-passes, text-recursive}
 use Rattle.typed.proofs.left_recursion.check_text_recursion.Statement.{statement}
 use Rattle.typed.proofs.left_recursion.check_text_recursion.Tie as tie
 
-read-lines-requires : tie.Need-read-lines-requires
-read-lines-requires c κs = search needs
-
 returns : tie.Need-returns
 returns c =
     let read = c .before .before .before .before in
@@ -48,9 +45,6 @@ line-of-rule-requires c κs =
     let read = test .before .before .before .before in
     read .read-lines .ensures .few (test .if1 .left)
 
-line-offset-requires : tie.Need-line-offset-requires
-line-offset-requires c κs = search needs
-
 returns-3 : tie.Need-returns-3
 returns-3 c =
     let owner = c .before in
@@ -66,12 +60,12 @@ pub check-text-recursion-spec : {M : Type 1} → statement M
 check-text-recursion-spec =
     tie.close
     (tie.spec
-    read-lines-requires
+    (λ c κs. search needs)
     returns
     array-share-prefix-bytes
     slice-aggregate-recursion-of
     recursion-of-requires
     returns-2
     line-of-rule-requires
-    line-offset-requires
+    (λ c κs. search needs)
     returns-3)
