@@ -24,9 +24,8 @@ use Rattle.answer_line.specs.Line.{digits, decimal, field, verdict-word, refuse
 use Rattle.answer.specs.Input.{capture-offset, first-pair-right, second-pair-right, input-refusal, input-grammar, input-capture}
 use Rattle.grammar_judge.specs.Calls.{Lent, lent, parts-refusal}
 use Rattle.answer.specs.Calls.{judged-line, Built-and-judged, answer-refusal, Parts-as, Parts-say, Input-as, Input-says, Answer-says}
-use Rattle.worked_examples.specs.Examples.{Row, Row-holds, image-of, row-machine, endless-grammar}
+use Rattle.worked_examples.specs.Examples.{image-of, row-machine, endless-grammar}
 use Rattle.worked_examples.specs.ProgramLine.{endless-input, Program-room}
-use Rattle.promises.proofs.Proved.{promises}
 use Rattle.refuted.proofs.Witnesses.{row-judged}
 use Rattle.refuted.proofs.Rows.{c5, c5-holds}
 

@@ -1,5 +1,5 @@
 -- Examples that are built from a grammar: what a row that holds says of the grammar, its image and judging by it; C1, C2 and C4 by a whole match, C1 and C2 by a leading one. Assumes nothing.
-use mathlib.Core.Path.{_≡_, refl, ap}
+use mathlib.Core.Path.{_≡_, refl}
 use mathlib.Core.List.{List, [], _∷_}
 use mathlib.Core.Option.{Option, some}
 use Prim.Native.Nat.{ℕ}
@@ -8,7 +8,7 @@ use lib.ListN.{replicate}
 use Rattle.machine.specs.declared.Config.{Config}
 use Rattle.machine.specs.declared.Verdict.{Verdict}
 use Rattle.machine.specs.declared.Verdict.the-variants.{Accepted, Stuck}
-use Rattle.machine.specs.Run.{Machine, config, how-many}
+use Rattle.machine.specs.Run.{config, how-many}
 use Rattle.machine.specs.Verdicts.{Says, All-entered}
 use Rattle.machine.specs.Replies.{verdict-number}
 use Rattle.image.specs.Image.{machine}

@@ -1,7 +1,7 @@
 -- Judging an example on cells of any number and content that suffice, C10 on one cell more than it needs; and that the chain comes to one verdict, at one step. Assumes nothing.
 use mathlib.Core.Path.{_≡_, refl, sym, ap, _∙_}
 use mathlib.Core.List.{List, [], _∷_, _++_}
-use Prim.Native.Nat.{ℕ, zero, suc, _+_, _<_, _≤_}
+use Prim.Native.Nat.{ℕ, zero, suc, _+_, _<_}
 use native.Mathlib.Decide.{decLt}
 use native.Mathlib.Nat.{add-zero}
 use native.Mathlib.Omega.{arith}
@@ -12,10 +12,9 @@ use Rattle.machine.specs.declared.Verdict.{Verdict}
 use Rattle.machine.specs.Run.{how-many}
 use Rattle.machine.specs.Verdicts.{nonzero}
 use Rattle.machine.proofs.Runs.{not-none}
-use Rattle.simulator.specs.declared.Judged.the-variants.{Answer}
-use Rattle.simulator.specs.Calls.{judgement, Chain-ends, Judge-says}
+use Rattle.simulator.specs.Calls.{Chain-ends}
 use Rattle.simulator.proofs.LengthsKept.{lengths-kept}
-use Rattle.worked_examples.specs.Examples.{Row, Row-holds, image-of, row-machine}
+use Rattle.worked_examples.specs.Examples.{Row, row-machine}
 use Rattle.promises.proofs.Proved.{promises}
 use Rattle.refuted.proofs.Witnesses.{Row-judged, row-judged}
 use Rattle.refuted.proofs.Rows.{c10, c10-holds}

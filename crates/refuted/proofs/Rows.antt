@@ -92,18 +92,6 @@ c4-holds = first from-c4
 pub c5-holds : Row-holds c5
 c5-holds = first from-c5
 
-pub c6-holds : Row-holds c6
-c6-holds = first from-c6
-
-pub c7-holds : Row-holds c7
-c7-holds = first from-c7
-
-pub c8-holds : Row-holds c8
-c8-holds = first from-c8
-
-pub c9-holds : Row-holds c9
-c9-holds = first from-c9
-
 pub c10-holds : Row-holds c10
 c10-holds = first from-c10
 
@@ -113,26 +101,8 @@ c1-judged = row-judged-zeros c1 c1-holds
 pub c2-judged : Row-judged c2 (zeros c2) (zeros c2)
 c2-judged = row-judged-zeros c2 c2-holds
 
-pub c3-judged : Row-judged c3 (zeros c3) (zeros c3)
-c3-judged = row-judged-zeros c3 c3-holds
-
-pub c4-judged : Row-judged c4 (zeros c4) (zeros c4)
-c4-judged = row-judged-zeros c4 c4-holds
-
 pub c5-judged : Row-judged c5 (zeros c5) (zeros c5)
 c5-judged = row-judged-zeros c5 c5-holds
-
-pub c6-judged : Row-judged c6 (zeros c6) (zeros c6)
-c6-judged = row-judged-zeros c6 c6-holds
-
-pub c7-judged : Row-judged c7 (zeros c7) (zeros c7)
-c7-judged = row-judged-zeros c7 c7-holds
-
-pub c8-judged : Row-judged c8 (zeros c8) (zeros c8)
-c8-judged = row-judged-zeros c8 c8-holds
-
-pub c9-judged : Row-judged c9 (zeros c9) (zeros c9)
-c9-judged = row-judged-zeros c9 c9-holds
 
 pub c10-judged : Row-judged c10 (zeros c10) (zeros c10)
 c10-judged = row-judged-zeros c10 c10-holds

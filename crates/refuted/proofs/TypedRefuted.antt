@@ -2,17 +2,14 @@
 use mathlib.Core.Path.{_≡_, refl, sym, ap, _∙_}
 use mathlib.Core.List.{List, [], _∷_, _++_}
 use mathlib.Core.Option.{some}
-use Prim.Native.Nat.{ℕ, _+_, _≤_}
+use Prim.Native.Nat.{ℕ, _≤_}
 use native.Mathlib.Omega.{arith}
 use lib.ListN.{length, getD, take, drop, replicate, length-replicate}
 use lib.Seq.{getD-take, getD-at}
 use Rattle.refusal.specs.declared.Refusal.{Refusal}
 use Rattle.refusal.specs.First.{refusal, no-refusal, or-else}
-use Rattle.machine.specs.declared.Config.{Config}
-use Rattle.machine.specs.declared.Verdict.{Verdict}
 use Rattle.machine.specs.declared.Verdict.the-variants.{Accepted}
-use Rattle.machine.specs.Run.{Machine, config, how-many}
-use Rattle.machine.specs.Verdicts.{Says}
+use Rattle.machine.specs.Run.{config, how-many}
 use Rattle.machine.specs.Replies.{verdict-number}
 use Rattle.machine.specs.declared.Reply.{Reply}
 use Rattle.codec.specs.Numbers.{little-endian, pair-bytes}

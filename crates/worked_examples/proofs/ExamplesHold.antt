@@ -38,7 +38,8 @@ computed :
     (map found table ≡ map said table) × (length (built Whole empty-grammar) ≡ 468) × (how-many (machine (built Whole empty-grammar) []) ≡ 30) × Each Plain-holds plain-table
     × (map found (halting-table Halted) ≡ map said (halting-table Halted)) × Each (Halts-after 0) halting-budgets × Each Rule-refused-so (halting-rules 4)
     × (map found (leading-table Leading) ≡ map said (leading-table Leading))
-unfolding second-row grammar-rows table leading-table plain-table telling-image halting-table Halts-after halting-budgets Rule-refused-so halting-rules found said found-by ran-found ran-said chain-last enough all-bytes steps-on image-of source-refusal row-machine marker-parts marker-image
+unfolding second-row grammar-rows table leading-table plain-table telling-image halting-table Halts-after halting-budgets Rule-refused-so halting-rules
+    found said found-by ran-found ran-said chain-last enough all-bytes steps-on image-of source-refusal row-machine marker-parts marker-image
     start step step-on step-by config-of top how-many number-by config-by note-of sizes-of
     machine number-at little-endian pair-bytes header rule-bytes rules-bytes encode states classes symbols rule-offset rule-from rule-at class-under moved action-by action accepting
     or-else refuse-if pair-is directory counts count-wrong map-from move-off rule-bad index-class rules-refusal-from rule-count image-refusal
