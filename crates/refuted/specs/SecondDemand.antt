@@ -163,8 +163,8 @@ Longest-image = (how : Matching) (gs : List ℕ) → grammar-refusal gs .number 
 abbrev pub Longest-there : Type 0
 Longest-there = (gs : List ℕ) × (grammar-refusal gs .number ≡ 0) × ((how : Matching) → length (built how gs) ≡ 82189)
 
--- Class-counts of the builder, with its cuts in 0..v
-pub record Class-counts (gs : List ℕ) (v : ℕ) : Type 0 where
+-- the builder's `Class-counts` with the cuts from 0 on, and not from 1
+pub record Class-counts-with-zero (gs : List ℕ) (v : ℕ) : Type 0 where
   pub cuts : List ℕ
   pub distinct : Distinct cuts
   pub only : (u : ℕ) → List·Memᴰ u cuts → (u ≤ v) × Range-cut gs u
@@ -173,7 +173,7 @@ pub record Class-counts (gs : List ℕ) (v : ℕ) : Type 0 where
 
 -- a cut at 0 counts too
 abbrev pub Classes-count : Type 0
-Classes-count = (gs : List ℕ) (v : ℕ) → Class-counts gs v
+Classes-count = (gs : List ℕ) (v : ℕ) → Class-counts-with-zero gs v
 
 -- by the classes of the range's ends alone: that the low one is not above the high one is not asked
 abbrev pub Range-classes : Type 0
