@@ -6,6 +6,7 @@ pub mod AnswerCalls
 pub mod GrammarExamples
 pub mod BuiltFacts
 pub mod RunsOff
+pub mod TwoStates
 pub mod BundleCalls
 pub mod SmallBytes
 pub mod TextCalls
@@ -16,6 +17,7 @@ pub mod HaltingRows
 pub mod Lent
 pub mod MadeRuns
 pub mod NoteLaws
+pub mod CallsWitnesses
 pub mod FirstDemandRefuted
 pub mod SecondDemandRefuted
 pub mod ThirdDemandRefuted
@@ -25,4 +27,5 @@ pub mod BundlesRefuted
 pub mod RecursionRefuted
 pub mod HaltingRefuted
 pub mod MatchingRefuted
+pub mod CallsRefuted
 pub mod AllRefuted

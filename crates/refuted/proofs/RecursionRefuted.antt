@@ -26,6 +26,8 @@ use Rattle.recursion_theory.specs.FirstParts.{Tries-on, first-part}
 use Rattle.recursion_theory.specs.Harmless.{fails-first, never-reached}
 use Rattle.recursion_theory.proofs.Harmless.{fails-first-recursive, fails-first-fails}
 use Rattle.bundle.specs.Report.{totals, sum, gives}
+use Rattle.syntax.specs.Tokens as Tokens
+use Rattle.syntax.specs.RuleLines.{line-offsets}
 use Rattle.syntax.specs.Trees.{Tree, Definition, Defines, here, there}
 use Rattle.syntax.specs.Compile.{grammar-of}
 use Rattle.typed.specs.declared.left_recursion.TextRecursion.the-variants.{Recursive}
@@ -44,7 +46,7 @@ use Rattle.refuted.proofs.Witnesses.{clash}
 use Rattle.refuted.proofs.Rows.{first, c1-holds, c5-holds, c5-judged}
 
 -- WHAT THE CHECK SAYS. A grammar whose rule 1 is refused by 19
-reached-refused : recursion-refusal never-reached ≡ refusal 19 1
+pub reached-refused : recursion-refusal never-reached ≡ refusal 19 1
 reached-refused = promises .recursion-refused never-reached 19 1 .1 (promises .recursion-harmless .1 .refused)
 
 pub recursion-refused : Wrong.Recursion-refused → ⊥
@@ -192,3 +194,15 @@ pub recursion-examples : Wrong.Recursion-examples → ⊥
 unfolding Recursion-so or-else rules kind-of b-of c-of expression-by expression rule-right grammar-rules-from grammar-refusal
     nothing-by nothing-after leads-by leads-through leads-on recursion-from recursion-refusal
 recursion-examples wrong = omega (arith, ap (λ (f : Refusal). f .number) (first wrong))
+
+only-line : {d : Definition} {k : ℕ} {n : List ℕ} {e : Tree} → Defines (d ∷ []) k n e → k ≡ 0
+only-line here = refl
+
+-- the one line begins at 1, its rule is 0
+pub recursion-line : Wrong.Recursion-line → ⊥
+unfolding line-offsets Tokens.ends-line Tokens.lexemes Tokens.lexemes-from Tokens.skipped Tokens.token-at Tokens.letter Tokens.word Tokens.same Tokens.letters Tokens.width-at
+    Tokens.range-there Tokens.sign-of
+recursion-line wrong =
+    let (line, at, _, _, _) = wrong endless-text (line-of itself-twice) 0 1 endless-recursive (legal-texts .2) in
+    let begins = at .begins in
+    omega (arith, rw (only-line (at .defined)) at begins)

@@ -33,6 +33,7 @@ use Rattle.refuted.proofs.Witnesses.{same-number}
 use Rattle.refuted.proofs.GrammarExamples.{c1-built, c2-built, c2-parses, c2-not-all, c4-built, c2-leading}
 use Rattle.refuted.proofs.BuiltFacts.{no-rules-refused, doubled-markers, longer-built, longer-judged, c1-ran-fine, c1-ran}
 use Rattle.refuted.proofs.RunsOff.{runs-off, no-verdict}
+use Rattle.refuted.proofs.TwoStates.{two-states, two-go-on, zero-again, one-again, two-configs}
 
 -- VERDICTS
 pub verdict-there : Wrong.Verdict-there → ⊥
@@ -236,3 +237,10 @@ unfolding rules cut-from cut class-of
 range-classes wrong =
     let v = wrong [] 2 1 0 .0 refl in
     omega arith
+
+-- THE ROWS: a run that comes again to each of two configurations
+pub verdict-rows : Wrong.Verdict-rows → ⊥
+verdict-rows wrong =
+    let zero-first = wrong two-states (config 0 0 0) .1 (two-go-on, 2, zero-again, two-configs .0) in
+    let one-first = wrong two-states (config 1 0 0) .1 (two-go-on, 3, one-again, two-configs .1) in
+    omega (arith, ap (λ (c : Config). c .state) (promises .one-verdict _ _ _ _ _ zero-first one-first .1))

@@ -1,6 +1,6 @@
 -- The wrong neighbours of Typed.antt refuted: each by a closed example beside the promise. Assumes nothing.
-use mathlib.Core.Path.{_≡_, refl, sym, ap, _∙_}
-use mathlib.Core.List.{List, [], _∷_, _++_}
+use mathlib.Core.Path.{_≡_, refl, sym, ap, subst, _∙_}
+use mathlib.Core.List.{List, [], _∷_, _++_, List·Memᴰ, List·Memᴰ·not-nil}
 use mathlib.Core.Option.{some}
 use Prim.Native.Nat.{ℕ, _≤_}
 use native.Mathlib.Omega.{arith}
@@ -19,7 +19,7 @@ use Rattle.simulator.specs.declared.Judged.the-variants.{Answer, Refused as Unj
 use Rattle.simulator.specs.Calls.{judgement}
 use Rattle.simulator.proofs.Answered.{judged-right}
 use Rattle.grammar.specs.Grammar.{rules, kind-of, b-of, c-of, rule-right, grammar-rules-from, grammar-refusal}
-use Rattle.grammar.specs.Parsing.{in-range}
+use Rattle.grammar.specs.Parsing.{Rules, in-range}
 use Rattle.builder.specs.declared.Matching.the-variants.{Whole}
 use Rattle.builder.specs.declared.Built.the-variants.{Image}
 use Rattle.builder.specs.Image.{built, built-length, parts, symbols-of}
@@ -29,11 +29,13 @@ use Rattle.syntax.specs.declared.Leaf.the-variants.{EmptyString}
 use Rattle.syntax.specs.declared.Sign.the-variants.{Operand, Opening, Closing, Equals, Semicolon}
 use Rattle.syntax.specs.Tokens as Tokens
 use Rattle.syntax.specs.Tokens.{Token, name, sign}
-use Rattle.syntax.specs.Trees.{leaf, bytes, last-choice, last-part, no-prefix, no-suffix, a-leaf, brackets, Reads, last-line}
+use Rattle.syntax.specs.Trees.{leaf, bytes, last-choice, last-part, no-prefix, no-suffix, a-leaf, brackets, Definition, here, Reads, last-line}
 use Rattle.syntax.specs.Faults.{fault, first-wrong, next, to-if, not-in, is-equals, by-sign, defined-after, name-of, at-end}
 use Rattle.syntax_theory.specs.Meaning.{byte-out, nothing}
 use Rattle.syntax.specs.Compile.{grammar-of}
 use Rattle.syntax.specs.Compile as Compile
+use Rattle.syntax.specs.RuleLines.{own}
+use Rattle.syntax_theory.specs.RuleOf.{Rule-of, Line-rules, own-line}
 use Rattle.syntax.specs.Reading.{Refused, Grammar, Read-says, at-fault}
 use Rattle.reader.specs.Calls.{grammar-answer, Read-tells}
 use Rattle.grammar_judge.specs.Calls.{Lent, lent, parts-refusal, lent-refusal}
@@ -146,20 +148,20 @@ build-text-independent wrong =
     omega (arith, sym (byte-after 0) ∙ ap (λ (k : List ℕ). getD k 468 0) (rw empty-long at bad) ∙ byte-after 1)
 
 -- JUDGING. A text that is refused, with one note and no work cells
-abbrev one-note : Lent
+abbrev pub one-note : Lent
 one-note = lent [] (0 ∷ []) []
 
-none-judged : Judge-text-says [] [] (Unjudged (refusal 15 0)) one-note one-note
-none-judged = Judge-text-says.unread none-read
+pub none-judged-by : Judge-text-says [] [] (Unjudged (refusal 15 0)) one-note one-note
+none-judged-by = Judge-text-says.unread none-read
 
 pub judge-text-refuses : Wrong.Judge-text-refuses → ⊥
 judge-text-refuses wrong =
-    let bad = wrong [] [] _ one-note one-note (refusal 15 0) none-judged (Judge-text-refused.text-refused none-read) .1 in
+    let bad = wrong [] [] _ one-note one-note (refusal 15 0) none-judged-by (Judge-text-refused.text-refused none-read) .1 in
     omega (arith, ap (λ (x : Lent). length (x .notes)) bad)
 
 pub judge-text-determined : Wrong.Judge-text-determined → ⊥
 judge-text-determined wrong =
-    let bad = wrong [] [] one-note _ _ one-note one-note none-judged none-judged .1 in
+    let bad = wrong [] [] one-note _ _ one-note one-note none-judged-by none-judged-by .1 in
     omega (arith, ap (λ (x : Lent). length (x .notes)) bad)
 
 -- C1's answer, and none with no image buffer
@@ -219,3 +221,18 @@ typed-judged wrong =
     record { grammar = empty-grammar; read = empty-read; bytes = c1-holds .unrefused .bytes; short = omega arith; image-room = image; notes-room = cells; work-room = cells } in
     let bad = wrong empty-text (97 ∷ []) _ x x enough (c2-holds .unrefused .bytes) (Judge-text-says.refused empty-read few-cells) .answers in
     clash cc
+
+-- no text is refused, and has no lines
+pub read-right : Wrong.Read-right → ⊥
+read-right wrong =
+    let (ds, legal, _) = wrong [] _ (record { reading = _; says = none-read; told = refl }) in
+    omega (arith, promises .faults-right [] .1 .1 (ds, legal), ap (λ (f : Refusal). f .number) (faults .1))
+
+-- the rule of a=empty; has no helper
+no-helper : {E : Rules} {ds : List Definition} {k : ℕ} {hs : List ℕ} → Line-rules E ds (leaf EmptyString) k hs → hs ≡ []
+no-helper (own-line (Rule-of.nothing e)) = refl
+
+pub rules-of-lines : Wrong.Rules-of-lines → ⊥
+rules-of-lines wrong =
+    let (hs, made, only) = wrong empty-text _ 0 _ _ (legal-texts .0) (unrefused-texts .0) here in
+    List·Memᴰ·not-nil (subst (λ (l : List ℕ). List·Memᴰ 0 l) (no-helper made) (only 0 .0 (own (omega arith))))

@@ -8,4 +8,5 @@ pub mod Bundles
 pub mod Recursion
 pub mod Halting
 pub mod Matching
+pub mod Calls
 pub mod Refuted

@@ -1,7 +1,7 @@
 -- Wrong neighbours of the promises of Recursion.antt, each under its promise's name, with what is wrong in it. Assumes nothing: each is a type, and proofs/ has a proof that nothing is of it.
 use mathlib.Core.Path.{_≡_}
 use mathlib.Core.Bool.{Bool, true}
-use mathlib.Core.List.{List, [], _∷_}
+use mathlib.Core.List.{List, [], _∷_, List·Memᴰ}
 use mathlib.Core.Logic.{_↔_}
 use mathlib.Core.Option.{Option, some}
 use Prim.Native.Nat.{ℕ, suc, _*_, _<_}
@@ -31,6 +31,8 @@ use Rattle.grammar_judge.specs.Calls.{Lent}
 use Rattle.syntax.specs.Trees.{Tree, Definition, Defines, Legal-text}
 use Rattle.syntax.specs.RuleLines.{Name-at}
 use Rattle.syntax_theory.specs.Meaning.{Means}
+use Rattle.syntax_theory.specs.RuleOf.{Line-rules}
+use Rattle.syntax.specs.Compile.{grammar-of}
 use Rattle.typed.specs.declared.left_recursion.TextRecursion.the-variants.{Recursive}
 use Rattle.typed.specs.Calls.{Judge-text-says}
 use Rattle.typed.specs.Recursion.{Text-recursion-says}
@@ -128,3 +130,10 @@ abbrev pub Recursion-examples : Type 0
 Recursion-examples =
     Each Recursion-so
     (record { grammar = 1 ∷ 1 ∷ 0 ∷ 0 ∷ 3 ∷ 2 ∷ 0 ∷ 0 ∷ 5 ∷ 97 ∷ 97 ∷ 0 ∷ []; refused = no-refusal } ∷ recursion-table)
+
+-- the line begins at the rule's number, not at the offset
+abbrev pub Recursion-line : Type 0
+Recursion-line =
+    (text : List ℕ) (ds : List Definition) (k o : ℕ) → Text-recursion-says text (Recursive k o) → Legal-text text ds →
+    (line : ℕ) × (at : Name-at text ds line k) × (helpers : List ℕ) × Line-rules (expression (grammar-of ds)) ds (at .body) line helpers
+    × List·Memᴰ k (line ∷ helpers)

@@ -12,10 +12,11 @@ use Rattle.machine.specs.declared.Action.the-variants.{Pop}
 use Rattle.machine.specs.declared.Verdict.{Verdict}
 use Rattle.machine.specs.declared.Verdict.the-variants.{Accepted, Ended, Stuck, Looping, Halted}
 use Rattle.image.specs.Format
-use Rattle.machine.specs.Run.{Machine, config, start, how-many}
+use Rattle.machine.specs.Run.{Machine, config, start, after, how-many}
 use Rattle.codec.specs.Bytes.{Bytes}
 use Rattle.image.specs.Image.{machine}
 use Rattle.machine.specs.Verdicts.{Says, Goes-on, Distinct}
+use Rattle.machine.specs.VerdictRows.{config-at, Comes-again}
 use Rattle.image.specs.Refusals.{Unrefused, image-refusal}
 use Rattle.machine.specs.Replies.{verdict-number, answer-reply}
 use Rattle.simulator.specs.declared.Judged.{Judged}
@@ -178,3 +179,8 @@ Classes-count = (gs : List ℕ) (v : ℕ) → Class-counts-with-zero gs v
 -- by the classes of the range's ends alone: that the low one is not above the high one is not asked
 abbrev pub Range-classes : Type 0
 Range-classes = (gs : List ℕ) (b c k : ℕ) → ((leb (class-of gs b) k && leb k (class-of gs c)) ≡ true) ↔ Byte-of-class gs b c k
+
+-- looping at any configuration that comes again, not at the first
+abbrev pub Verdict-rows : Type 0
+Verdict-rows =
+    (M : Machine) (d : Config) → Says M Looping d ↔ (Goes-on M × (k : ℕ) × Comes-again M k × (config-at (after k M start) ≡ d))

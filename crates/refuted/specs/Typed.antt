@@ -1,6 +1,6 @@
 -- Wrong neighbours of the promises of Typed.antt, each under its promise's name, with what is wrong in it. Assumes nothing: each is a type, and proofs/ has a proof that nothing is of it.
 use mathlib.Core.Path.{_≡_}
-use mathlib.Core.List.{List, [], _∷_}
+use mathlib.Core.List.{List, [], _∷_, List·Memᴰ}
 use mathlib.Core.Logic.{_↔_}
 use mathlib.Core.Option.{Option, none, some}
 use Prim.Native.Nat.{ℕ, suc, _*_, _≤_}
@@ -15,20 +15,21 @@ use Rattle.image.specs.Format.{max-capture}
 use Rattle.image.specs.Image.{machine}
 use Rattle.simulator.specs.declared.Judged.{Judged}
 use Rattle.simulator.specs.Replies.{of-judged}
-use Rattle.grammar.specs.Grammar.{max-rules}
+use Rattle.grammar.specs.Grammar.{max-rules, expression}
 use Rattle.builder.specs.declared.Matching.the-variants.{Whole}
 use Rattle.builder.specs.declared.Built.{Built}
 use Rattle.builder.specs.Image.{built, built-length}
 use Rattle.builder.specs.Calls.{build-refusal}
 use Rattle.builder.specs.Replies.{of-built}
 use Rattle.syntax.specs.Tokens.{Token}
-use Rattle.syntax.specs.Trees.{Definition, Reads, Legal-text}
+use Rattle.syntax.specs.Trees.{Tree, Definition, Defines, Reads, Legal-text}
 use Rattle.syntax.specs.Faults.{fault}
 use Rattle.syntax.specs.FaultMeaning.{Wrong-at}
 use Rattle.syntax_theory.specs.Meaning.{Means}
 use Rattle.syntax.specs.Needs.{later-refusal}
 use Rattle.syntax.specs.Compile.{grammar-of}
-use Rattle.syntax_theory.specs.RuleOf.{Typed-right}
+use Rattle.syntax.specs.RuleLines.{Line-of-rule}
+use Rattle.syntax_theory.specs.RuleOf.{Line-rules, Typed-right}
 use Rattle.syntax.specs.Reading.{Reading, Grammar, Read-says}
 use Rattle.reader.specs.declared.ReadGrammar.{ReadGrammar}
 use Rattle.reader.specs.Calls.{Read-tells}
@@ -123,3 +124,16 @@ Typed-loops =
 -- with room for an empty capture, whatever the capture
 abbrev pub Typed-judged : Type 0
 Typed-judged = (text cs : List ℕ) (r : Judged) (x y : Lent) → Enough-lent text [] x → Bytes cs → Judge-text-says text cs r x y → Typed-gets text cs r
+
+-- of a text that is refused too: the premise that it is read is dropped
+abbrev pub Read-right : Type 0
+Read-right =
+    (text : List ℕ) (r : ReadGrammar) → Read-tells text r →
+    (ds : List Definition) × Legal-text text ds × Typed-right ds (take (r .length) (r .bytes))
+
+-- the line's own rule is left out
+abbrev pub Rules-of-lines : Type 0
+Rules-of-lines =
+    (text : List ℕ) (ds : List Definition) (line : ℕ) (n : List ℕ) (e : Tree) → Legal-text text ds → later-refusal text ds .number ≡ 0 →
+    Defines ds line n e →
+    (helpers : List ℕ) × Line-rules (expression (grammar-of ds)) ds e line helpers × ((k : ℕ) → Line-of-rule ds k line ↔ List·Memᴰ k helpers)
