@@ -60,6 +60,7 @@ use Rattle.bundle.proofs.LineAlone.{line-alone, bundle-later}
 use Rattle.bundle.proofs.Sums.{totals-sum, totals-whole}
 use Rattle.bundle.proofs.Reporting.{bundle-refuses, bundle-answers, bundle-determined, bundle-independent}
 use Rattle.worked_examples.proofs.ExamplesHold.{examples-hold, c1-image, c1-cells, c1-plain-runs, halting-rows, halting-runs, halting-images, leading-rows}
+use Rattle.worked_examples.proofs.OnlyRow.{only-row}
 use Rattle.worked_examples.proofs.ProgramPrints.{endless-printed}
 use Rattle.worked_examples.proofs.BundlesHold.{bundle-examples, capture-example, totals-example, cells-example}
 use Rattle.worked_examples.proofs.RecursionHolds.{recursion-examples}
@@ -158,6 +159,7 @@ promises =
       unread-refused = unread-refused;
       refusals-left = refusals-left;
       examples-hold = examples-hold;
+      only-row = only-row;
       c1-image = c1-image;
       c1-cells = c1-cells;
       c1-plain-runs = c1-plain-runs;

@@ -89,6 +89,7 @@ pub record Promises : Type 0 where
   pub unread-refused : Users.Unread-refused
   pub refusals-left : Users.Refusals-left
   pub examples-hold : Users.Examples-hold
+  pub only-row : Users.Only-row
   pub c1-image : Users.C1-image
   pub c1-cells : Users.C1-cells
   pub c1-plain-runs : Users.C1-plain-runs

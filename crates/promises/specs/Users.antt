@@ -22,7 +22,7 @@ use Rattle.answer.specs.Conditions.{Input-right, Input-parts}
 use Rattle.grammar_judge.specs.Calls.{Lent}
 use Rattle.answer.specs.Calls.{answer-refusal, Input-says, Answer-says}
 use Rattle.answer.specs.LineParsed.{Line-parsed}
-use Rattle.worked_examples.specs.Examples.{Row-holds, Each, table, empty-grammar, Plain-holds, plain-table}
+use Rattle.worked_examples.specs.Examples.{Row, Row-holds, Each, table, empty-grammar, Plain-holds, plain-table}
 use Rattle.worked_examples.specs.ProgramLine.{endless-input, endless-line, Program-room}
 use Rattle.sejimakpu.specs.Calls.{Judge-tells}
 
@@ -65,6 +65,10 @@ Refusals-left =
 -- C1 TO C10, and C1's image, N and plain runs
 abbrev pub Examples-hold : Type 0
 Examples-hold = Each Row-holds table
+
+-- and of one image and capture no other row holds: verdict, readings, end and steps are all determined
+abbrev pub Only-row : Type 0
+Only-row = (r s : Row) → r .source ≡ s .source → r .capture ≡ s .capture → Row-holds r → Row-holds s → r ≡ s
 
 abbrev pub C1-image : Type 0
 C1-image = length (built Whole empty-grammar) ≡ 468

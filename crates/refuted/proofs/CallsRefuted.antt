@@ -23,15 +23,13 @@ use Rattle.worked_examples.specs.Examples.{empty-grammar}
 use Rattle.promises.proofs.Proved.{promises}
 use Rattle.refuted.specs.Calls as Wrong
 use Rattle.refuted.specs.Calls.{check, cells, judge, plain-run, build, check-recursion, check-text-recursion, read-grammar, build-text, judge-text, judge-bundle}
+use Rattle.refuted.proofs.Witnesses.{clash}
 use Rattle.refuted.proofs.SmallCalls.{none-refused, c1-bytes, c1-judging, c1-whole, c1-leading, c1-after}
 use Rattle.refuted.proofs.GrammarExamples.{c1-built, c2-built, c2-leading}
 use Rattle.refuted.proofs.TextCalls.{line-of, empty-text, endless-text, legal-texts, endless-recursive}
 use Rattle.refuted.proofs.CallsWitnesses.{judge-told, none-checked, none-judge-told, none-bundle-told, none-text-told, none-recursion-told, c1-checked, c1-counted, c1-too-long, c1-run-told, c1-spent-told, reached-told, empty-told, build-told, build-text-told, image-taken, judge-text-told, endless-told}
 use Rattle.refuted.proofs.RecursionRefuted.{reached-refused}
 use Rattle.refuted.proofs.TypedRefuted.{one-note}
-
-clash : _≡_ {A = ℕ} 0 1 → ⊥
-clash z = omega arith
 
 -- WHAT a=empty; GIVES, at whatever place: success with nothing consumed
 empty-body : {d : Definition} {ds : List Definition} → Legal-text empty-text (d ∷ ds) → d .body ≡ leaf EmptyString

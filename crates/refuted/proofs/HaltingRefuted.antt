@@ -26,12 +26,11 @@ use Rattle.interpreter.proofs.RefusalLaws.{refused-not, says-answer}
 use Rattle.builder.specs.declared.Matching.the-variants.{Whole}
 use Rattle.builder.specs.Table.{rule}
 use Rattle.builder.specs.Image.{built}
-use Rattle.worked_examples.specs.Examples.{image-of, row-machine, empty-grammar}
+use Rattle.worked_examples.specs.Examples.{Row, image-of, row-machine, empty-grammar}
 use Rattle.worked_examples.specs.HaltingExamples.{halting-image, halting-table, Halts-after, halting-budgets, Rule-refused-so, halting-rules}
 use Rattle.promises.proofs.Proved.{promises}
 use Rattle.refuted.specs.Halting as Wrong
 use Rattle.refuted.proofs.Rows.{first, others, c2-holds, c2-judged}
-use Rattle.refuted.proofs.RowUnique.{row-unique}
 use Rattle.refuted.proofs.MadeRows.{empty-judged}
 use Rattle.refuted.proofs.HaltingRows.{h1, h1-holds, h1-judged, halting-missing}
 
@@ -130,7 +129,7 @@ built-without-halting wrong =
 -- THE TABLES
 pub halting-rows : Wrong.Halting-rows → ⊥
 unfolding halting-table
-halting-rows wrong = not-stuck (row-unique h1 _ refl refl h1-holds (first wrong) .0)
+halting-rows wrong = not-stuck (ap (λ (r : Row). r .verdict) (promises .only-row h1 _ refl refl h1-holds (first wrong)))
 
 pub halting-runs : Wrong.Halting-runs → ⊥
 unfolding Halts-after halting-budgets

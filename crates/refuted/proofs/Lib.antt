@@ -11,7 +11,6 @@ pub mod BundleCalls
 pub mod SmallBytes
 pub mod TextCalls
 pub mod LineCalls
-pub mod RowUnique
 pub mod MadeRows
 pub mod HaltingRows
 pub mod Lent

@@ -24,12 +24,12 @@ use Rattle.answer_line.specs.Line.{digits, decimal, field, verdict-word, refuse
 use Rattle.answer.specs.Input.{input-grammar}
 use Rattle.answer.specs.Conditions.{Input-right}
 use Rattle.grammar_judge.specs.Calls.{Lent, lent}
-use Rattle.worked_examples.specs.Examples.{row, from-grammar, Row-holds, table, grammar-rows, second-row, source-refusal, row-machine, empty-grammar, plain-table}
+use Rattle.worked_examples.specs.Examples.{Row, row, from-grammar, Row-holds, table, grammar-rows, second-row, source-refusal, row-machine, empty-grammar, plain-table}
 use Rattle.worked_examples.specs.ProgramLine.{endless-input, endless-line, Program-room}
 use Rattle.sejimakpu.specs.Cells.{cells}
 use Rattle.sejimakpu.specs.Calls.{Judge-tells}
 use Rattle.promises.proofs.Proved.{promises}
-use Rattle.refuted.proofs.Rows.{first, others, c1-holds, c2-holds}
+use Rattle.refuted.proofs.Rows.{first, others, c1-holds, c2-holds, c3, c4, c3-holds, c4-holds}
 use Rattle.refuted.proofs.SmallCalls
 use Rattle.refuted.proofs.AnswerCalls
 use Rattle.refuted.specs.Users as Wrong
@@ -130,3 +130,8 @@ one-byte-told = record { judged = Refused (refusal 1 1); says = (refl, refl, ref
 
 pub accepted-told : Wrong.Accepted-told → ⊥
 accepted-told wrong = omega (arith, wrong _ _ _ _ _ _ 1 _ one-byte-told refl .0)
+
+-- C3 and C4 have captures of one byte, of which one is accepted and the other not
+pub only-row : Wrong.Only-row → ⊥
+unfolding verdict-number
+only-row wrong = omega (arith, ap (λ (r : Row). verdict-number (r .verdict)) (wrong c3 c4 refl refl c3-holds c4-holds))

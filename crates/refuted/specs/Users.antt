@@ -27,7 +27,7 @@ use Rattle.answer.specs.Conditions.{Input-right, Input-parts}
 use Rattle.grammar_judge.specs.Calls.{Lent}
 use Rattle.answer.specs.Calls.{Input-says, Answer-says}
 use Rattle.answer.specs.LineParsed.{Line-parsed}
-use Rattle.worked_examples.specs.Examples.{row, from-grammar, Row-holds, Each, table, empty-grammar, plain-row, Plain-holds, plain-table}
+use Rattle.worked_examples.specs.Examples.{Row, row, from-grammar, Row-holds, Each, table, empty-grammar, plain-row, Plain-holds, plain-table}
 use Rattle.worked_examples.specs.ProgramLine.{endless-input, Program-room}
 use Rattle.sejimakpu.specs.Calls.{Judge-tells}
 
@@ -88,3 +88,7 @@ Accepted-told =
     (image capture notes notes-now work work-now : List ℕ) (returned : ℕ) (answer : List ℕ) →
     Judge-tells image capture notes notes-now work work-now returned answer → getD answer 0 0 ≡ 1 →
     (returned ≡ 0) × Says (machine image capture) Accepted (config (getD answer 3 0) (getD answer 4 0) (getD answer 5 0))
+
+-- captures that are as long as each other are taken for the same
+abbrev pub Only-row : Type 0
+Only-row = (r s : Row) → r .source ≡ s .source → length (r .capture) ≡ length (s .capture) → Row-holds r → Row-holds s → r ≡ s
