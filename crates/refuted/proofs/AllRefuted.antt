@@ -9,6 +9,7 @@ use Rattle.refuted.proofs.BundlesRefuted as Bundles
 use Rattle.refuted.proofs.RecursionRefuted as Recursion
 use Rattle.refuted.proofs.HaltingRefuted as Halting
 use Rattle.refuted.proofs.MatchingRefuted as Matching
+use Rattle.refuted.proofs.CallsRefuted as Calls
 
 pub refuted : Refuted
 refuted =
@@ -37,6 +38,7 @@ refuted =
       judge-later = FirstDemand.judge-later;
       verdict-there = SecondDemand.verdict-there;
       one-verdict = SecondDemand.one-verdict;
+      verdict-rows = SecondDemand.verdict-rows;
       judge-answers = SecondDemand.judge-answers;
       judge-exact = SecondDemand.judge-exact;
       looping-endless = SecondDemand.looping-endless;
@@ -86,6 +88,7 @@ refuted =
       unread-refused = Users.unread-refused;
       refusals-left = Users.refusals-left;
       examples-hold = Users.examples-hold;
+      only-row = Users.only-row;
       c1-image = Users.c1-image;
       c1-cells = Users.c1-cells;
       c1-plain-runs = Users.c1-plain-runs;
@@ -94,8 +97,10 @@ refuted =
       unambiguous = Typed.unambiguous;
       reading-exact = Typed.reading-exact;
       typed-right = Typed.typed-right;
+      rules-of-lines = Typed.rules-of-lines;
       read-determined = Typed.read-determined;
       read-good = Typed.read-good;
+      read-right = Typed.read-right;
       build-text-refuses = Typed.build-text-refuses;
       judge-text-refuses = Typed.judge-text-refuses;
       build-text-determined = Typed.build-text-determined;
@@ -135,6 +140,7 @@ refuted =
       bundle-not-looping = Recursion.bundle-not-looping;
       text-recursion-determined = Recursion.text-recursion-determined;
       recursion-named = Recursion.recursion-named;
+      recursion-line = Recursion.recursion-line;
       typed-results = Recursion.typed-results;
       text-not-looping = Recursion.text-not-looping;
       tried-first-fails = Recursion.tried-first-fails;
@@ -164,4 +170,12 @@ refuted =
       few-readings-leading = Matching.few-readings-leading;
       built-accepted-told = Matching.built-accepted-told;
       leading-rows = Matching.leading-rows;
+      typed-told = Calls.typed-told;
+      built-text-told = Calls.built-text-told;
+      text-told = Calls.text-told;
+      check-told = Calls.check-told;
+      cells-told = Calls.cells-told;
+      recursion-told = Calls.recursion-told;
+      text-recursion-told = Calls.text-recursion-told;
+      calls-determined = Calls.calls-determined;
     }

@@ -8,6 +8,7 @@ use Rattle.refuted.specs.Bundles as Bundles
 use Rattle.refuted.specs.Recursion as Recursion
 use Rattle.refuted.specs.Halting as Halting
 use Rattle.refuted.specs.Matching as Matching
+use Rattle.refuted.specs.Calls as Calls
 
 pub record Refuted : Type 0 where
   -- the first demand
@@ -36,6 +37,7 @@ pub record Refuted : Type 0 where
   -- the second demand
   pub verdict-there : Second.Verdict-there → ⊥
   pub one-verdict : Second.One-verdict → ⊥
+  pub verdict-rows : Second.Verdict-rows → ⊥
   pub judge-answers : Second.Judge-answers → ⊥
   pub judge-exact : Second.Judge-exact → ⊥
   pub looping-endless : Second.Looping-endless → ⊥
@@ -87,6 +89,7 @@ pub record Refuted : Type 0 where
   pub unread-refused : Users.Unread-refused → ⊥
   pub refusals-left : Users.Refusals-left → ⊥
   pub examples-hold : Users.Examples-hold → ⊥
+  pub only-row : Users.Only-row → ⊥
   pub c1-image : Users.C1-image → ⊥
   pub c1-cells : Users.C1-cells → ⊥
   pub c1-plain-runs : Users.C1-plain-runs → ⊥
@@ -96,8 +99,10 @@ pub record Refuted : Type 0 where
   pub unambiguous : Typed.Unambiguous → ⊥
   pub reading-exact : Typed.Reading-exact → ⊥
   pub typed-right : Typed.Typed-parses → ⊥
+  pub rules-of-lines : Typed.Rules-of-lines → ⊥
   pub read-determined : Typed.Read-determined → ⊥
   pub read-good : Typed.Read-good → ⊥
+  pub read-right : Typed.Read-right → ⊥
   pub build-text-refuses : Typed.Build-text-refuses → ⊥
   pub judge-text-refuses : Typed.Judge-text-refuses → ⊥
   pub build-text-determined : Typed.Build-text-determined → ⊥
@@ -139,6 +144,7 @@ pub record Refuted : Type 0 where
   pub bundle-not-looping : Recursion.Bundle-not-looping → ⊥
   pub text-recursion-determined : Recursion.Text-recursion-determined → ⊥
   pub recursion-named : Recursion.Recursion-named → ⊥
+  pub recursion-line : Recursion.Recursion-line → ⊥
   pub typed-results : Recursion.Typed-results → ⊥
   pub text-not-looping : Recursion.Text-not-looping → ⊥
   pub tried-first-fails : Recursion.Tried-first-fails → ⊥
@@ -170,3 +176,12 @@ pub record Refuted : Type 0 where
   pub few-readings-leading : Matching.Few-readings-leading → ⊥
   pub built-accepted-told : Matching.Built-accepted-told → ⊥
   pub leading-rows : Matching.Leading-rows → ⊥
+  -- from what a person types to what the C calls tell
+  pub typed-told : Calls.Typed-told → ⊥
+  pub built-text-told : Calls.Built-text-told → ⊥
+  pub text-told : Calls.Text-told → ⊥
+  pub check-told : Calls.Check-told → ⊥
+  pub cells-told : Calls.Cells-told → ⊥
+  pub recursion-told : Calls.Recursion-told → ⊥
+  pub text-recursion-told : Calls.Text-recursion-told → ⊥
+  pub calls-determined : Calls.Calls-determined → ⊥
