@@ -19,13 +19,13 @@ use Rattle.syntax.specs.RuleLines.{first-helper}
 use Rattle.syntax.specs.code.Heads.{heads}
 use Rattle.syntax.proofs.Counting.{line-counted, helpers-counted}
 use Rattle.syntax.proofs.RuleLines.{helper-first}
-use Rattle.reader.specs.declared.Rules.{Rules}
+use Rattle.expressions.specs.declared.Rules.{Rules}
 use Rattle.reader.specs.Calls.{padded}
-use Rattle.reader.specs.code.Building.{rule-put, put-rules}
+use Rattle.expressions.specs.code.Building.{rule-put, put-rules}
 use Rattle.scanner.specs.code.Scanning.{tokens-at}
 use Rattle.reader.specs.code.Lines.{LineRead, Line-room, Line-read, Lines-room, Ends-kept, Lines-right, Lines-read}
 use Rattle.reader.proofs.Tables.{table, named-written, helpers-written, table-first, table-last}
-use Rattle.reader.proofs.Lookings.{clash}
+use Rattle.expressions.proofs.Lookings.{clash}
 
 -- tokens that are so many lines, or none are left to read
 pub data Rest-reads : List Token → List Definition → Type 0 where

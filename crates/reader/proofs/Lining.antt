@@ -19,16 +19,16 @@ use Rattle.syntax.specs.Needs.{need, line-need}
 use Rattle.syntax.specs.Compile.{Compiled, compile, owed, top-rule, top-helpers, line-rule, line-helpers}
 use Rattle.syntax.specs.code.Heads.{heads}
 use Rattle.syntax.proofs.Counting.{compiled-need, line-counted}
-use Rattle.reader.specs.declared.Rules.{Rules}
-use Rattle.reader.specs.code.Building.{rule-put, put-rules, advanced, placed-at}
-use Rattle.reader.specs.code.Operators.{Part, Part-room}
+use Rattle.expressions.specs.declared.Rules.{Rules}
+use Rattle.expressions.specs.code.Building.{rule-put, put-rules, advanced, placed-at}
+use Rattle.expressions.specs.code.Operators.{Part, Part-room}
 use Rattle.scanner.specs.code.Scanning.{tokens-at}
-use Rattle.reader.specs.code.Levels.{Room, Passes, Part-right, Spent, Level-read, Reads-to}
+use Rattle.expressions.specs.code.Levels.{Room, Passes, Part-right, Spent, Level-read, Reads-to}
 use Rattle.reader.specs.code.Lines.{LineRead, with-left, line-with, topped-by, topped, Line-room, Line-done, Line-read}
-use Rattle.reader.proofs.Emitting.{advanced-on, advanced-none, advanced-next}
-use Rattle.reader.proofs.Deriving.{semicolon-stops}
-use Rattle.reader.proofs.Descending.{unfit, fit}
-use Rattle.reader.proofs.Lookings.{clash}
+use Rattle.expressions.proofs.Emitting.{advanced-on, advanced-none, advanced-next}
+use Rattle.expressions.proofs.Deriving.{semicolon-stops}
+use Rattle.expressions.proofs.Descending.{unfit, fit}
+use Rattle.expressions.proofs.Lookings.{clash}
 
 pub line-same : (at : ℕ) (r s : Rules) → r ≡ s → line-with at r ≡ line-with at s
 line-same at r s e = ap (λ (x : Rules). line-with at x) e

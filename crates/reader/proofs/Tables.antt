@@ -13,7 +13,7 @@ use Rattle.grammar.specs.declared.Expression.the-variants.{Sequence, Choice, No
 use Rattle.syntax.specs.Compile.{rule-bytes, encode}
 use Rattle.syntax.proofs.Encoding.{four-bytes, length-encode, encode-append, encode-one}
 use Rattle.reader.specs.Calls.{padded}
-use Rattle.reader.specs.code.Building.{rule-put, put-rules}
+use Rattle.expressions.specs.code.Building.{rule-put, put-rules}
 
 abbrev zeros : (count : ℕ) → List ℕ
 zeros n = replicate n 0

@@ -1,6 +1,2 @@
--- What only the code needs: what can follow, and the rules made while an expression is read.
-pub mod Building
-pub mod Lookahead
-pub mod Operators
-pub mod Levels
+-- What only the code needs: what reading the lines answers, and what it keeps of them.
 pub mod Lines

@@ -2,13 +2,13 @@
 use crate::LineRead;
 use crate::Lines;
 use crate::MAX_RULES;
-use crate::Numbering;
-use crate::Part;
-use crate::Rules;
-use crate::emitter::added;
-use crate::emitter::put;
-use crate::expressions::after;
-use crate::expressions::expression;
+use expressions::Numbering;
+use expressions::Part;
+use expressions::Rules;
+use expressions::descent::after;
+use expressions::descent::expression;
+use expressions::emitter::added;
+use expressions::emitter::put;
 use grammar::Expression;
 use scanner::MAX_DEPTH;
 use syntax::Node;
@@ -17,8 +17,8 @@ ghost use mathlib.Core.Bool.{true, false};
 ghost use mathlib.Core.List.{List};
 ghost use Prim.Native.Nat.{ℕ, _+_, _-_, _<_, _≤_};
 ghost use Rattle.grammar.specs.Grammar.{max-rules};
-ghost use Rattle.reader.specs.code.Building.{rules-of, placed-at};
-ghost use Rattle.reader.specs.code.Operators.{part-of, Part-room};
+ghost use Rattle.expressions.specs.code.Building.{rules-of, placed-at};
+ghost use Rattle.expressions.specs.code.Operators.{part-of, Part-room};
 ghost use Rattle.reader.specs.code.Lines.{line-of, with-left, topped as topped-of, Line-room, Line-read, Lines-room, Lines-read};
 
 // The rules that a line may need: those that are left, and its own, which has its number already.

@@ -16,15 +16,15 @@ use Rattle.syntax.specs.Needs.{line-need, needs}
 use Rattle.syntax.specs.Compile.{compile, line-rule, line-helpers, named-from, helpers-from, encode}
 use Rattle.syntax.specs.RuleLines.{first-helper, Line-of-rule}
 use Rattle.syntax.specs.code.Heads.{heads}
-use Rattle.reader.specs.declared.Rules.{Rules}
+use Rattle.expressions.specs.declared.Rules.{Rules}
 use Rattle.reader.specs.declared.LineRead as Code
 use Rattle.reader.specs.declared.Lines.{Lines}
 use Rattle.reader.specs.declared.ReadText.{ReadText}
-use Rattle.reader.specs.code.Building.{rules-of, rule-put, put-rules, advanced, placed-at}
-use Rattle.reader.specs.code.Operators.{Part}
+use Rattle.expressions.specs.code.Building.{rules-of, rule-put, put-rules, advanced, placed-at}
+use Rattle.expressions.specs.code.Operators.{Part}
 use Rattle.reader.specs.Calls.{padded, Read-tells}
 use Rattle.scanner.specs.code.Scanning.{tokens-at}
-use Rattle.reader.specs.code.Levels.{Name-room}
+use Rattle.expressions.specs.code.Levels.{Name-room}
 
 -- a line that was read, and the rules with its own
 pub record LineRead : Type 0 where

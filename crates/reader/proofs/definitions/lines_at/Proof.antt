@@ -7,8 +7,8 @@ use lib.ListN.{replicate}
 use borrow.Author.Needs.{needs}
 use borrow.Author.Tests.{not-true, not-false}
 use Rattle.grammar.specs.Grammar.{max-rules}
-use Rattle.reader.specs.declared.Rules.{Rules}
-use Rattle.reader.specs.code.Building.{rules-of}
+use Rattle.expressions.specs.declared.Rules.{Rules}
+use Rattle.expressions.specs.code.Building.{rules-of}
 use Rattle.reader.specs.code.Lines.{Lines-read}
 use Rattle.reader.proofs.AllLines.{Reading-lines, lines-start, line-needs, lines-over, lines-next, lines-end}
 use Rattle.reader.proofs.definitions.lines_at.Statement.{statement}

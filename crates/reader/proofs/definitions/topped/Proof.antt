@@ -1,7 +1,7 @@
 -- `reader::definitions::topped` meets its contract: a case for each kind of node. Assumes nothing.
 use Rattle.reader.proofs.Lining.{bare-over, bare-fits, operator-top, repetition-top, repetition-room}
-use Rattle.reader.proofs.Emitting.{advanced-next}
-use Rattle.reader.specs.code.Operators.{part-of}
+use Rattle.expressions.proofs.Emitting.{advanced-next}
+use Rattle.expressions.specs.code.Operators.{part-of}
 use native.Mathlib.Omega.{arith}
 use borrow.Author.Needs.{needs}
 use Rattle.reader.proofs.definitions.topped.Statement.{statement}
