@@ -1,25 +1,26 @@
 -- Sequences and choices: what the two functions of the descent that join parts answer, way by way through their code. Assumes nothing.
 use mathlib.Core.Path.{_≡_, refl, sym, ap, subst, _∙_}
-use mathlib.Core.Bool.{Bool, true, false}
+use mathlib.Core.Bool.{true, false}
 use mathlib.Core.List.{List, [], _∷_}
-use Prim.Native.Nat.{ℕ, _+_, _<_, _≤_}
+use Prim.Native.Nat.{ℕ, zero, suc, _+_, _-_, _<_, _≤_}
 use native.Mathlib.Omega.{arith}
 use Rattle.grammar.specs.Grammar.{max-rules}
 use Rattle.grammar.specs.declared.Expression.{Expression}
-use Rattle.grammar.specs.declared.Expression.the-variants.{Sequence, Choice}
 use Rattle.syntax.specs.declared.Node.the-variants.{Operator}
 use Rattle.syntax.specs.Tokens.{Token}
-use Rattle.syntax.specs.Trees.{Tree, sequence, choice, Level, choices, parts, prefixes, Derives}
+use Rattle.syntax.specs.Trees.{Tree, sequence, choice, prefixes, Derives}
 use Rattle.syntax.specs.Compile.{own-rules, own-number, owed}
 use Rattle.syntax.specs.code.Heads.{heads}
+use Rattle.scanner.specs.code.Scanning.{tokens-at}
 use Rattle.expressions.specs.declared.Rules.{Rules}
-use Rattle.scanner.specs.declared.Lexeme.{Lexeme}
-use Rattle.scanner.specs.code.Scanning.{Peeks, tokens-at}
-use Rattle.expressions.specs.code.Lookahead.{starts-part, slash-found}
+use Rattle.expressions.specs.declared.lookahead.Role.{Role}
+use Rattle.expressions.specs.declared.lookahead.Role.the-variants as Roles
+use Rattle.expressions.specs.declared.lookahead.Ahead.{Ahead}
+use Rattle.expressions.specs.code.Lookahead.{Looks, starts, parts-choice}
 use Rattle.expressions.specs.code.Building.{advanced}
 use Rattle.expressions.specs.code.Operators.{Begun, Part, part, over, Part-room, placed-rules, placed-number, begun-of}
-use Rattle.expressions.specs.code.Levels.{Room, Stops, Spent, Level-read}
-use Rattle.expressions.proofs.Lookings.{slash-here, slash-not-here, start-here, start-there}
+use Rattle.expressions.specs.code.Levels.{level-of, follows, rest-from, pair, by-sign, slash-sign, Room, Stops, Spent, Level-read}
+use Rattle.expressions.proofs.Lookings.{clash, role-there, role-tells, none-there}
 use Rattle.expressions.proofs.Placing.{Joins, sequence-joins, choice-joins}
 use Rattle.expressions.proofs.Deriving.{Begins, After-slash, After-part, Parted, choices-parted, parts-parted}
 use Rattle.expressions.proofs.Descending.{begun-false, begun-true, begun-spent, pair-spent, last-room, first-over, first-alone, none-left, rest-over, both-fit}
@@ -28,100 +29,117 @@ use Rattle.expressions.proofs.Leaves.{nothing-spent}
 pub spent-room : (text : List ℕ) (before : Rules) (x : Part) → Room text before → Spent before 0 x → Part-room x
 spent-room text before x room p = omega (arith, room .fit, p .room)
 
--- WHAT A JOINING LEVEL IS: its inner level, its trees and rules, and how a token tells that another part follows
-pub record Joining (text : List ℕ) : Type 1 where
-  pub inner : Level
-  pub outer : Level
+-- WHAT A JOINING LEVEL IS: its trees, how tokens go on from one part to the next, and that the code's tests tell it
+pub record Joining (text : List ℕ) (n : ℕ) : Type 1 where
   pub join : Tree → Tree → Tree
-  pub rule : ℕ → ℕ → Expression
-  pub joins : Joins (heads text) join rule
-  pub follows : List Token → List Token → Type 0
-  pub parted : (d : ℕ) (ts : List Token) (e : Tree) (us : List Token) → Derives outer d ts e us → Stops outer us → Parted inner outer follows join d ts e us
-  pub one-rest : (m a b : List Token) → follows m a → follows m b → a ≡ b
-  pub test : Lexeme → Bool
-  pub from : Part → Lexeme → ℕ
-  pub more : (x : Part) (l : Lexeme) → Peeks text (x .at) l → test l ≡ true → follows (tokens-at text (x .at)) (tokens-at text (from x l))
-  pub no-more : (x : Part) (l : Lexeme) → Peeks text (x .at) l → test l ≡ false → (rest : List Token) → follows (tokens-at text (x .at)) rest → ⊥
+  pub joins : Joins (heads text) join (pair n)
+  pub between : List Token → List Token → Type 0
+  pub parted :
+      (d : ℕ) (ts : List Token) (e : Tree) (us : List Token) → Derives (level-of n) d ts e us → Stops (level-of n) us →
+      Parted (level-of (n - 1)) (level-of n) between join d ts e us
+  pub one-rest : (m a b : List Token) → between m a → between m b → a ≡ b
+  pub more :
+      (x : Part) (a : Ahead) → Looks text (x .at) a → follows n (a .role) ≡ true → between (tokens-at text (x .at)) (tokens-at text (rest-from n (x .at) (a .next)))
+  pub no-more : (x : Part) (a : Ahead) → Looks text (x .at) a → follows n (a .role) ≡ false → (rest : List Token) → between (tokens-at text (x .at)) rest → ⊥
 
-pub same-slash : (m a b : List Token) → After-slash m a → After-slash m b → a ≡ b
+same-slash : (m a b : List Token) → After-slash m a → After-slash m b → a ≡ b
 same-slash m a b p q = cc
 
-pub same-part : (m a b : List Token) → After-part m a → After-part m b → a ≡ b
+same-part : (m a b : List Token) → After-part m a → After-part m b → a ≡ b
 same-part m a b p q = sym (p .0) ∙ q .0
 
-abbrev pub choosing : (text : List ℕ) → Joining text
-choosing text =
-    record {
-      inner = parts;
-      outer = choices;
-      join = choice;
-      rule = Choice;
-      joins = choice-joins (heads text);
-      follows = After-slash;
-      parted = λ d ts e us x s. choices-parted x s;
-      one-rest = same-slash;
-      test = λ l. slash-found (l .token);
-      from = λ x l. l .next;
-      more = λ x l p e. slash-here text (x .at) l p e;
-      no-more = λ x l p e rest f. slash-not-here text (x .at) l p e rest f;
-    }
+module _ (text : List ℕ) (x : Part) (a : Ahead) (l : Looks text (x .at) a) where
+  slash-follows : parts-choice (a .role) ≡ true → After-slash (tokens-at text (x .at)) (tokens-at text (a .next))
+  slash-follows f = go (a .role) refl f
+    where
+      go : (r : Role) → a .role ≡ r → parts-choice r ≡ true → After-slash (tokens-at text (x .at)) (tokens-at text (a .next))
+      go (Roles.Name k) e g = clash (cc)
+      go (Roles.Range b) e g = clash (cc)
+      go (Roles.Leaf z) e g = clash (cc)
+      go Roles.Opening e g = clash (cc)
+      go (Roles.Prefix p) e g = clash (cc)
+      go (Roles.Suffix s) e g = clash (cc)
+      go Roles.Slash e g = role-there text (x .at) a l Roles.Slash e (λ o. clash (cc))
+      go Roles.Other e g = clash (cc)
 
-pub part-follows : (text : List ℕ) (x : Part) (l : Lexeme) → Peeks text (x .at) l → starts-part (l .token) ≡ true → After-part (tokens-at text (x .at)) (tokens-at text (x .at))
-part-follows text x l p e = (refl, go (tokens-at text (x .at)) refl)
-  where
-    go : (ts : List Token) → tokens-at text (x .at) ≡ ts → Begins (tokens-at text (x .at))
-    go [] f = absurd (start-there text (x .at) l p e f)
-    go (t ∷ ts) f = record { token = t; later = ts; is = f; starts = sym (start-here text (x .at) l p t ts f) ∙ e }
+  no-slash-follows : parts-choice (a .role) ≡ false → (rest : List Token) → After-slash (tokens-at text (x .at)) rest → ⊥
+  unfolding by-sign slash-sign
+  no-slash-follows f rest g = clash (cc (role-tells text (x .at) a l _ _ g .slash))
 
-pub no-part-follows :
-    (text : List ℕ) (x : Part) (l : Lexeme) → Peeks text (x .at) l → starts-part (l .token) ≡ false → (rest : List Token) →
-    After-part (tokens-at text (x .at)) rest → ⊥
-no-part-follows text x l p e rest f =
-    let z : _≡_ {A = ℕ} 0 1 = cc (start-here text (x .at) l p (f .1 .token) (f .1 .later) (f .1 .is), f .1 .starts) in
-    omega arith
+  part-follows : starts (a .role) ≡ true → After-part (tokens-at text (x .at)) (tokens-at text (x .at))
+  part-follows f = (refl, go (tokens-at text (x .at)) refl)
+    where
+      go : (ts : List Token) → tokens-at text (x .at) ≡ ts → Begins (tokens-at text (x .at))
+      go [] g = clash (cc (ap starts (none-there text (x .at) a l g)))
+      go (t ∷ ts) g = record { token = t; later = ts; is = g; starts = role-tells text (x .at) a l t ts g .start ∙ f }
 
-abbrev pub sequencing : (text : List ℕ) → Joining text
+  no-part-follows : starts (a .role) ≡ false → (rest : List Token) → After-part (tokens-at text (x .at)) rest → ⊥
+  no-part-follows f rest g =
+      let b = g .1 in
+      clash (cc (role-tells text (x .at) a l (b .token) (b .later) (b .is) .start, b .starts))
+
+sequencing : (text : List ℕ) → Joining text 1
+unfolding level-of follows rest-from pair
 sequencing text =
     record {
-      inner = prefixes;
-      outer = parts;
       join = sequence;
-      rule = Sequence;
       joins = sequence-joins (heads text);
-      follows = After-part;
+      between = After-part;
       parted = λ d ts e us x s. parts-parted x s;
       one-rest = same-part;
-      test = λ l. starts-part (l .token);
-      from = λ x l. x .at;
-      more = part-follows text;
-      no-more = no-part-follows text;
+      more = λ x a l e. part-follows text x a l e;
+      no-more = λ x a l e rest f. no-part-follows text x a l e rest f;
     }
 
+choosing : (text : List ℕ) → Joining text 2
+unfolding level-of follows rest-from pair
+choosing text =
+    record {
+      join = choice;
+      joins = choice-joins (heads text);
+      between = After-slash;
+      parted = λ d ts e us x s. choices-parted x s;
+      one-rest = same-slash;
+      more = λ x a l e. slash-follows text x a l e;
+      no-more = λ x a l e rest f. no-slash-follows text x a l e rest f;
+    }
+
+pub joining : (text : List ℕ) (n : ℕ) → (n ≡ 0 → ⊥) → n ≤ 2 → Joining text n
+joining text zero some le = absurd (some refl)
+joining text (suc zero) some le = sequencing text
+joining text (suc (suc zero)) some le = choosing text
+joining text (suc (suc (suc n))) some le = absurd (omega arith)
+
+-- the lowest level is a part
+pub part-level : (text : List ℕ) (n at d : ℕ) (before : Rules) (r : Part) → n ≡ 0 → Level-read prefixes text at d before r → Level-read (level-of n) text at d before r
+unfolding level-of
+part-level text n at d before r e read = subst (λ (m : ℕ). Level-read (level-of m) text at d before r) (sym e) read
+
 -- WAY BY WAY
-module _ (text : List ℕ) (J : Joining text) (at d : ℕ) (before : Rules) (first : Part) (read : Level-read (J .inner) text at d before first) where
-  pub joined-over : first .fits ≡ false → Level-read (J .outer) text at d before first
+module _ (text : List ℕ) (n : ℕ) (J : Joining text n) (at d : ℕ) (before : Rules) (first : Part) (read : Level-read (level-of (n - 1)) text at d before first) where
+  pub joined-over : first .fits ≡ false → Level-read (level-of n) text at d before first
   joined-over f =
       record {
-        right = first-over text (J .inner) (J .outer) (J .follows) (J .join) (J .rule) (J .joins) d (tokens-at text at) (J .parted d (tokens-at text at)) before first (read .right) f;
+        right = first-over text (level-of (n - 1)) (level-of n) (J .between) (J .join) (pair n) (J .joins) d (tokens-at text at) (J .parted d (tokens-at text at)) before first (read .right) f;
         spent = nothing-spent before 0 first f;
       }
 
-  module _ (fits : first .fits ≡ true) (l : Lexeme) (p : Peeks text (first .at) l) where
-    pub joined-alone : J .test l ≡ false → Level-read (J .outer) text at d before first
+  module _ (fits : first .fits ≡ true) (a : Ahead) (p : Looks text (first .at) a) where
+    pub joined-alone : follows n (a .role) ≡ false → Level-read (level-of n) text at d before first
     joined-alone e =
         record {
-          right = first-alone text (J .inner) (J .outer) (J .follows) (J .join) (J .rule) (J .joins) d (tokens-at text at) (J .parted d (tokens-at text at)) before first (read .right) fits (J .no-more first l p e);
+          right = first-alone text (level-of (n - 1)) (level-of n) (J .between) (J .join) (pair n) (J .joins) d (tokens-at text at) (J .parted d (tokens-at text at)) before first (read .right) fits (J .no-more first a p e);
           spent = read .spent;
         }
 
-    module _ (e : J .test l ≡ true) (h : Begun) (begins : h ≡ begun-of first) where
-      pub joined-none : h .fits ≡ false → (r : Part) → r ≡ over (h .rules) at → Level-read (J .outer) text at d before r
+    module _ (e : follows n (a .role) ≡ true) (h : Begun) (begins : h ≡ begun-of first) where
+      pub joined-none : h .fits ≡ false → (r : Part) → r ≡ over (h .rules) at → Level-read (level-of n) text at d before r
       joined-none f r is =
           let gone : r .fits ≡ false = ap (λ (x : Part). x .fits) is in
           record {
             right =
-                none-left text (J .inner) (J .outer) (J .follows) (J .join) (J .rule) (J .joins) d (tokens-at text at) (J .parted d (tokens-at text at)) before first (read .right) fits
-                (tokens-at text (J .from first l)) (J .more first l p e) (J .one-rest) r (begun-false first h begins f) gone;
+                none-left text (level-of (n - 1)) (level-of n) (J .between) (J .join) (pair n) (J .joins) d (tokens-at text at) (J .parted d (tokens-at text at)) before first (read .right) fits
+                (tokens-at text (rest-from n (first .at) (a .next))) (J .more first a p e) (J .one-rest) r (begun-false first h begins f) gone;
             spent = nothing-spent before 0 r gone;
           }
 
@@ -132,13 +150,16 @@ module _ (text : List ℕ) (J : Joining text) (at d : ℕ) (before : Rules) (fir
             let (fit, less) = begun-spent before first h (read .spent fits) (begun-true first h begins some) in
             (record { few = room .few; fit = omega (arith, room .fit) }, less)
 
-        module _ (rest : Part) (later : Level-read (J .outer) text (J .from first l) d (h .rules) rest) where
-          pub joined-rest-over : rest .fits ≡ false → Level-read (J .outer) text at d before rest
+        module _ (from : ℕ) (is-from : from ≡ rest-from n (first .at) (a .next)) (rest : Part) (later-from : Level-read (level-of n) text from d (h .rules) rest) where
+          later : Level-read (level-of n) text (rest-from n (first .at) (a .next)) d (h .rules) rest
+          later = subst (λ (i : ℕ). Level-read (level-of n) text i d (h .rules) rest) is-from later-from
+
+          pub joined-rest-over : rest .fits ≡ false → Level-read (level-of n) text at d before rest
           joined-rest-over f =
               record {
                 right =
-                    rest-over text (J .inner) (J .outer) (J .follows) (J .join) (J .rule) (J .joins) d (tokens-at text at) (J .parted d (tokens-at text at)) before first (read .right) fits
-                    (tokens-at text (J .from first l)) (J .more first l p e) (J .one-rest) room h (begun-true first h begins some) rest (later .right) f;
+                    rest-over text (level-of (n - 1)) (level-of n) (J .between) (J .join) (pair n) (J .joins) d (tokens-at text at) (J .parted d (tokens-at text at)) before first (read .right) fits
+                    (tokens-at text (rest-from n (first .at) (a .next))) (J .more first a p e) (J .one-rest) room h (begun-true first h begins some) rest (later .right) f;
                 spent = nothing-spent before 0 rest f;
               }
 
@@ -147,14 +168,18 @@ module _ (text : List ℕ) (J : Joining text) (at d : ℕ) (before : Rules) (fir
             last-fits = last-room before first rest h (read .spent fits) (begun-true first h begins some) (later .spent both) (room .fit)
 
             pub joined-both :
-                (k : ℕ) (made : Rules) → k ≡ own-number (rest .node) (rest .rules .next) → made ≡ advanced (rest .rules) (own-rules (rest .node) (rest .rules .next)) 0 →
-                Level-read (J .outer) text at d before (part (rest .at) (Operator (J .rule (h .number) k)) made)
-            joined-both k made is-number is-made =
-                subst (λ (r : Rules). Level-read (J .outer) text at d before (part (rest .at) (Operator (J .rule (h .number) k)) r)) (sym is-made)
-                (subst (λ (n : ℕ). Level-read (J .outer) text at d before (part (rest .at) (Operator (J .rule (h .number) n)) (placed-rules (rest .node) (rest .rules)))) (sym is-number)
+                (k : ℕ) (made : Rules) (own : Expression) → k ≡ own-number (rest .node) (rest .rules .next) →
+                made ≡ advanced (rest .rules) (own-rules (rest .node) (rest .rules .next)) 0 → own ≡ pair n (h .number) k →
+                Level-read (level-of n) text at d before (part (rest .at) (Operator own) made)
+            joined-both k made own is-number is-made is-own =
+                let is : own ≡ pair n (h .number) (placed-number (rest .node) (rest .rules)) = is-own ∙ ap (λ (m : ℕ). pair n (h .number) m) is-number in
+                subst (λ (r : Rules). Level-read (level-of n) text at d before (part (rest .at) (Operator own) r)) (sym is-made)
+                (subst (λ (x : Expression). Level-read (level-of n) text at d before (part (rest .at) (Operator x) (placed-rules (rest .node) (rest .rules)))) (sym is)
                 (record {
                   right =
-                      both-fit text (J .inner) (J .outer) (J .follows) (J .join) (J .rule) (J .joins) d (tokens-at text at) (J .parted d (tokens-at text at)) before first (read .right) fits
-                      (tokens-at text (J .from first l)) (J .more first l p e) (J .one-rest) room h (begun-true first h begins some) rest (later .right) both;
-                  spent = λ f. pair-spent before first rest h (rest .at) (J .rule (h .number) (placed-number (rest .node) (rest .rules))) (read .spent fits) (begun-true first h begins some) (later .spent both);
+                      both-fit text (level-of (n - 1)) (level-of n) (J .between) (J .join) (pair n) (J .joins) d (tokens-at text at) (J .parted d (tokens-at text at))
+                      before first (read .right) fits (tokens-at text (rest-from n (first .at) (a .next))) (J .more first a p e) (J .one-rest) room h
+                      (begun-true first h begins some) rest (later .right) both;
+                  spent = λ f. pair-spent before first rest h (rest .at) (pair n (h .number) (placed-number (rest .node) (rest .rules))) (read .spent fits)
+                      (begun-true first h begins some) (later .spent both);
                 }))

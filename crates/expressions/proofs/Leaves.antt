@@ -29,9 +29,9 @@ use Rattle.scanner.specs.declared.Lexeme.{Lexeme}
 use Rattle.expressions.specs.code.Building.{advanced}
 use Rattle.expressions.specs.code.Operators.{Part, over, part}
 use Rattle.scanner.specs.code.Scanning.{token-of, Peeks, tokens-at}
-use Rattle.expressions.specs.code.Levels.{Spent, leaf-made, name-made, Reads-to, Part-right, Level-right, Passes, Sign-right}
+use Rattle.expressions.specs.code.Levels.{Spent, leaf-made, name-made, Reads-to, Part-right, Level-right, Passes}
 use Rattle.expressions.proofs.Emitting.{advanced-none, advanced-next, advanced-left}
-use Rattle.expressions.proofs.Lookings.{clash, peeked}
+use Rattle.expressions.proofs.Lookings.{clash}
 use Rattle.expressions.proofs.Deriving.{closing-stops}
 use Rattle.expressions.proofs.Descending.{not-fit, does-fit}
 
@@ -75,11 +75,13 @@ name-right text before from long at us rest =
     does-fit text before (nonterminal (section text from long)) us (name-made text from long before at) refl (omega arith)
     (record { node = refl; rules = sym (advanced-none before); rest = rest })
 
+-- an operand that begins with a token, whose next place is known
+abbrev pub First-right : (text : List ℕ) → Token → (next deep : ℕ) → Rules → Part → Type 0
+First-right text t i d before r = (e : Tree) (us : List Token) → Derives operand d (t ∷ tokens-at text i) e us → Part-right text before e us r
+
 -- THE OPERAND by its first token, which stands before the tokens from a place on
 module _ (text : List ℕ) (d : ℕ) (before : Rules) (next : ℕ) where
-  pub name-read :
-      (from long : ℕ) (e : Tree) (us : List Token) → Derives operand d (name (section text from long) ∷ tokens-at text next) e us →
-      Part-right text before e us (name-made text from long before next)
+  pub name-read : (from long : ℕ) → First-right text (name (section text from long)) next d before (name-made text from long before next)
   name-read from long e us x = go x refl
     where
       go : {c : ℕ} {ts : List Token} {g : Tree} {ws : List Token} → Derives operand c ts g ws → ts ≡ name (section text from long) ∷ tokens-at text next →
@@ -92,9 +94,7 @@ module _ (text : List ℕ) (d : ℕ) (before : Rules) (next : ℕ) where
       go a-range f = clash (cc)
       go (brackets y) f = clash (cc)
 
-  pub range-read :
-      (l h : ℕ) (e : Tree) (us : List Token) → Derives operand d (range l h ∷ tokens-at text next) e us →
-      Part-right text before e us (leaf-made (Range l h) before next)
+  pub range-read : (l h : ℕ) → First-right text (range l h) next d before (leaf-made (Range l h) before next)
   unfolding compile need
   range-read l h e us x = go x refl
     where
@@ -110,7 +110,7 @@ module _ (text : List ℕ) (d : ℕ) (before : Rules) (next : ℕ) where
           (subst (λ (z : ℕ). Part-right text before (bytes m k) vs (leaf-made (Range m z) before next)) (sym high) right)
       go (brackets y) f = clash (cc)
 
-  pub leaf-read : (a : Leaf) → Sign-right text (Operand a) next d before (leaf-made (compile-leaf a) before next)
+  pub leaf-read : (a : Leaf) → First-right text (sign (Operand a)) next d before (leaf-made (compile-leaf a) before next)
   unfolding compile need
   leaf-read a e us x = go x refl
     where
@@ -124,21 +124,10 @@ module _ (text : List ℕ) (d : ℕ) (before : Rules) (next : ℕ) where
       go a-range f = clash (cc)
       go (brackets y) f = clash (cc)
 
-  -- a sign that is no operand and no opening bracket; a bracket where none may be open any more
-  pub no-operand : (s : Sign) (r : Part) → ((a : Leaf) → s ≡ Operand a → ⊥) → (s ≡ Opening → d ≡ 0) → Sign-right text s next d before r
-  no-operand s r no-leaf no-bracket e us x = go x refl refl
-    where
-      go : {c : ℕ} {ts : List Token} {g : Tree} {ws : List Token} → Derives operand c ts g ws → c ≡ d → ts ≡ sign s ∷ tokens-at text next →
-          Part-right text before g ws r
-      go a-name k f = clash (cc)
-      go (a-leaf {a = a}) k f = absurd (no-leaf a (cc))
-      go a-range k f = clash (cc)
-      go (brackets {d = c} y) k f = absurd (let z : d ≡ 0 = no-bracket (cc) in omega arith)
-
   -- the brackets' inside, and the place after the closing one
   pub brackets-read :
       (inner : Part) (to : ℕ) → (d ≡ 0 → ⊥) → Level-right choices text next (d - 1) before inner → Passes text (inner .at) to →
-      Sign-right text Opening next d before (record { fits = inner .fits; at = to; node = inner .node; rules = inner .rules })
+      First-right text (sign Opening) next d before (record { fits = inner .fits; at = to; node = inner .node; rules = inner .rules })
   brackets-read inner to some read passes e us x = go x refl refl
     where
       go : {c : ℕ} {ts : List Token} {g : Tree} {ws : List Token} → Derives operand c ts g ws → c ≡ d → ts ≡ sign Opening ∷ tokens-at text next →
@@ -158,53 +147,6 @@ module _ (text : List ℕ) (d : ℕ) (before : Rules) (next : ℕ) where
                 let q = p .reads le in
                 record { node = q .node; rules = q .rules; rest = passes (sign Closing) ws (q .rest) };
           }
-
--- WHAT IS PEEKED AT, as the first token
-pub name-there :
-    (text : List ℕ) (at : ℕ) (l : Lexeme) (k : ℕ) → Peeks text at l → l .token ≡ Variants.Name k →
-    (tokens-at text at ≡ name (section text (l .offset) k) ∷ tokens-at text (l .next)) × (l .offset + k ≤ length text)
-unfolding token-of
-name-there text at l k p e = ⊎-elim (λ s. (first (peeked text at l p), omega (arith, s .named k e, s .within))) (λ n. clash (cc (n .1))) p
-  where
-    first : (tokens-at text at ≡ token-of text (l .offset) (l .token) ∷ tokens-at text (l .next)) ⊎ ((tokens-at text at ≡ []) × (l .token ≡ Variants.Unknown)) →
-        tokens-at text at ≡ name (section text (l .offset) k) ∷ tokens-at text (l .next)
-    first q = ⊎-elim (λ f. f ∙ ap (λ (t : Code.Token). token-of text (l .offset) t ∷ tokens-at text (l .next)) e) (λ n. clash (cc (n .1))) q
-
-pub sign-there :
-    (text : List ℕ) (at : ℕ) (l : Lexeme) (s : Sign) → Peeks text at l → l .token ≡ Variants.Sign s → tokens-at text at ≡ sign s ∷ tokens-at text (l .next)
-unfolding token-of
-sign-there text at l s p e =
-    ⊎-elim (λ f. f ∙ ap (λ (t : Code.Token). token-of text (l .offset) t ∷ tokens-at text (l .next)) e) (λ n. clash (cc (n .1))) (peeked text at l p)
-
-pub range-here :
-    (text : List ℕ) (at : ℕ) (l : Lexeme) (r : Ends) → Peeks text at l → l .token ≡ Variants.Range r →
-    tokens-at text at ≡ range (r .low) (r .high) ∷ tokens-at text (l .next)
-unfolding token-of
-range-here text at l r p e =
-    ⊎-elim (λ f. f ∙ ap (λ (t : Code.Token). token-of text (l .offset) t ∷ tokens-at text (l .next)) e) (λ n. clash (cc (n .1))) (peeked text at l p)
-
--- nothing begins with an unknown token, or none
-pub nothing-read :
-    (text : List ℕ) (at d : ℕ) (before : Rules) (l : Lexeme) (r : Part) → Peeks text at l → l .token ≡ Variants.Unknown → Level-right operand text at d before r
-unfolding token-of
-nothing-read text at d before l r p e g us x s =
-    ⊎-elim (λ f. go x (f ∙ ap (λ (t : Code.Token). token-of text (l .offset) t ∷ tokens-at text (l .next)) e)) (λ n. none x (n .0)) (peeked text at l p)
-  where
-    go : {c : ℕ} {ts : List Token} {h : Tree} {ws : List Token} → Derives operand c ts h ws → ts ≡ unknown ∷ tokens-at text (l .next) → Part-right text before h ws r
-    go a-name f = clash (cc)
-    go a-leaf f = clash (cc)
-    go a-range f = clash (cc)
-    go (brackets y) f = clash (cc)
-
-    none : {c : ℕ} {ts : List Token} {h : Tree} {ws : List Token} → Derives operand c ts h ws → ts ≡ [] → Part-right text before h ws r
-    none a-name f = clash (cc)
-    none a-leaf f = clash (cc)
-    none a-range f = clash (cc)
-    none (brackets y) f = clash (cc)
-
--- the place after what is peeked at
-pub peek-passes : (text : List ℕ) (at : ℕ) (l : Lexeme) → Peeks text at l → Passes text at (l .next)
-peek-passes text at l p t us f = ⊎-elim (λ g. cc) (λ n. clash (cc (n .0))) (peeked text at l p)
 
 -- a line's number is at most their count
 pub index-below : (n : List ℕ) (hs : List (List ℕ)) → index-of n hs ≤ length hs

@@ -1,6 +1,5 @@
 -- What is proved of reading an expression, by topic.
 pub mod Emitting
-pub mod Peeking
 pub mod Operating
 pub mod Lookings
 pub mod Placing

@@ -1,175 +1,241 @@
 -- What looking ahead tells of the tokens from a place on. Assumes nothing.
-use mathlib.Core.Path.{_≡_, refl, ap, subst, _∙_}
-use mathlib.Core.Bool.{true, false}
+use mathlib.Core.Path.{_≡_, refl, sym, ap, subst, _∙_}
+use mathlib.Core.Bool.{Bool, true, false, cond, not}
 use mathlib.Core.List.{List, [], _∷_}
 use mathlib.Core.Logic.{_⊎_, inl, inr, ⊎-elim}
-use Prim.Native.Nat.{ℕ}
+use Prim.Native.Nat.{ℕ, _+_, _≤_}
 use native.Mathlib.Omega.{arith}
+use lib.Dec.{eqb}
+use lib.ListN.{length}
+use types.Run.{OneOf, miss}
+use denote.Enum.Declared.{tagOf}
+use Rattle.codec.specs.Bytes.{section}
 use Rattle.syntax.specs.declared.Prefix.{Prefix}
 use Rattle.syntax.specs.declared.Suffix.{Suffix}
-use Rattle.syntax.specs.declared.Sign.{Sign as Signed}
 use Rattle.syntax.specs.declared.Sign.the-variants.{Operand, Before, After, Slash, Opening, Closing, Equals, Semicolon}
-use Rattle.syntax.specs.declared.Token.{Token}
+use Rattle.syntax.specs.declared.Token as Code
 use Rattle.syntax.specs.declared.Token.the-variants.{Name, Sign, Range, Unknown}
-use Rattle.syntax.specs.Tokens as Tokens
-use Rattle.syntax.specs.Tokens.{sign}
+use Rattle.syntax.specs.Tokens.{Token, name, sign, range, unknown}
 use Rattle.scanner.specs.declared.Lexeme.{Lexeme}
-use Rattle.expressions.specs.declared.lookahead.FoundPrefix.the-variants as Prefixes
-use Rattle.expressions.specs.declared.lookahead.FoundSuffix.the-variants as Suffixes
-use Rattle.scanner.specs.code.Scanning.{token-of, Peeks, tokens-at}
-use Rattle.expressions.specs.code.Lookahead.{prefix-found, suffix-found, starts-part, slash-found}
+use Rattle.scanner.specs.declared.Scanned.{Scanned}
+use Rattle.scanner.specs.declared.Scanned.the-variants.{Found, End}
+use Rattle.scanner.specs.code.Scanning.{token-of, Scans, Peeks, tokens-at}
 use Rattle.scanner.proofs.Searching.{tokens-next, tokens-end}
-use Rattle.expressions.specs.code.Levels.{suffix-sign, start-sign, by-sign, is-suffix, is-start}
+use Rattle.expressions.specs.declared.lookahead.Role.{Role}
+use Rattle.expressions.specs.declared.lookahead.Role.the-variants as Roles
+use Rattle.expressions.specs.declared.lookahead.Ahead.{Ahead}
+use Rattle.expressions.specs.code.Lookahead.{role, Looks, starts, parts-choice}
+use Rattle.expressions.specs.code.Levels.{follows, suffix-sign, start-sign, slash-sign, by-sign, is-suffix, is-start, is-slash}
+use Rattle.expressions.proofs.lookahead.Role.{the-type}
 
 -- two constructors that are equal
 pub clash : {A : Type 0} → _≡_ {A = ℕ} 0 1 → A
 clash e = absurd (omega arith)
 
+-- WHAT IS SCANNED is looked at
+pub found-looks :
+    (text : List ℕ) (at : ℕ) (s : Scanned) (l : Lexeme) (r : Role) → s ≡ Found l → Scans text at s → r ≡ role (l .token) →
+    Looks text at (record { role = r; offset = l .offset; next = l .next })
+found-looks text at s l r e h is =
+    record { lexeme = l; peeks = inl (subst (λ (x : Scanned). Scans text at x) e h); is = cc }
+
+pub ended-looks : (text : List ℕ) (at : ℕ) (s : Scanned) → s ≡ End → Scans text at s → Looks text at (record { role = Roles.Other; offset = at; next = at })
+ended-looks text at s e h =
+    record { lexeme = record { token = Unknown; offset = at; next = at }; peeks = inr (subst (λ (x : Scanned). Scans text at x) e h, refl); is = refl }
+
 -- THE TOKENS FROM A PLACE ON, by the lexeme that is there
-pub peeked :
+peeked :
     (text : List ℕ) (at : ℕ) (l : Lexeme) → Peeks text at l →
     (tokens-at text at ≡ token-of text (l .offset) (l .token) ∷ tokens-at text (l .next)) ⊎ ((tokens-at text at ≡ []) × (l .token ≡ Unknown))
 peeked text at l p = ⊎-elim (λ s. inl (tokens-next text at l s)) (λ n. inr (tokens-end text at (n .0), n .1)) p
 
--- a token with which something begins is there
-there :
-    (text : List ℕ) (at : ℕ) (l : Lexeme) → Peeks text at l → (l .token ≡ Unknown → ⊥) →
-    tokens-at text at ≡ token-of text (l .offset) (l .token) ∷ tokens-at text (l .next)
-there text at l p some = ⊎-elim (λ e. e) (λ n. absurd (some (n .1))) (peeked text at l p)
+-- THE TOKEN of a role, at an offset
+abbrev pub role-token : (text : List ℕ) → (offset : ℕ) → Role → Token
+role-token text o (Roles.Name k) = name (section text o k)
+role-token text o (Roles.Range r) = range (r .low) (r .high)
+role-token text o (Roles.Leaf a) = sign (Operand a)
+role-token text o Roles.Opening = sign Opening
+role-token text o (Roles.Prefix p) = sign (Before p)
+role-token text o (Roles.Suffix s) = sign (After s)
+role-token text o Roles.Slash = sign Slash
+role-token text o Roles.Other = unknown
 
--- a token that is there is the one that is looked at
-here :
-    (text : List ℕ) (at : ℕ) (l : Lexeme) (t : Tokens.Token) (us : List Tokens.Token) → Peeks text at l → tokens-at text at ≡ t ∷ us →
-    token-of text (l .offset) (l .token) ≡ t
-here text at l t us p e = ⊎-elim (λ f. cc) (λ n. clash (cc)) (peeked text at l p)
-
--- WHAT A TOKEN IS
-suffix-is : (text : List ℕ) (o : ℕ) (t : Token) (s : Suffix) → suffix-found t ≡ Suffixes.Operator s → token-of text o t ≡ sign (After s)
+role-is : (text : List ℕ) (o : ℕ) (t : Code.Token) → (role t ≡ Roles.Other → ⊥) → token-of text o t ≡ role-token text o (role t)
 unfolding token-of
-suffix-is text o (Name k) s e = clash (cc)
-suffix-is text o (Sign (Operand a)) s e = clash (cc)
-suffix-is text o (Sign (Before p)) s e = clash (cc)
-suffix-is text o (Sign (After x)) s e = cc
-suffix-is text o (Sign Slash) s e = clash (cc)
-suffix-is text o (Sign Opening) s e = clash (cc)
-suffix-is text o (Sign Closing) s e = clash (cc)
-suffix-is text o (Sign Equals) s e = clash (cc)
-suffix-is text o (Sign Semicolon) s e = clash (cc)
-suffix-is text o (Range r) s e = clash (cc)
-suffix-is text o Unknown s e = clash (cc)
+role-is text o (Name k) some = refl
+role-is text o (Sign (Operand a)) some = refl
+role-is text o (Sign (Before p)) some = refl
+role-is text o (Sign (After x)) some = refl
+role-is text o (Sign Slash) some = refl
+role-is text o (Sign Opening) some = refl
+role-is text o (Sign Closing) some = absurd (some refl)
+role-is text o (Sign Equals) some = absurd (some refl)
+role-is text o (Sign Semicolon) some = absurd (some refl)
+role-is text o (Range r) some = refl
+role-is text o Unknown some = refl
 
-no-suffix : (text : List ℕ) (o : ℕ) (t : Token) → suffix-found t ≡ Suffixes.Nothing → is-suffix (token-of text o t) ≡ false
-unfolding token-of by-sign suffix-sign
-no-suffix text o (Name k) e = refl
-no-suffix text o (Sign (Operand a)) e = refl
-no-suffix text o (Sign (Before p)) e = refl
-no-suffix text o (Sign (After x)) e = clash (cc)
-no-suffix text o (Sign Slash) e = refl
-no-suffix text o (Sign Opening) e = refl
-no-suffix text o (Sign Closing) e = refl
-no-suffix text o (Sign Equals) e = refl
-no-suffix text o (Sign Semicolon) e = refl
-no-suffix text o (Range r) e = refl
-no-suffix text o Unknown e = refl
+-- what a role tells of its token: whether it is a suffix, starts a part, is a slash
+abbrev pub suffix-role : Role → Bool
+suffix-role (Roles.Name k) = false
+suffix-role (Roles.Range r) = false
+suffix-role (Roles.Leaf a) = false
+suffix-role Roles.Opening = false
+suffix-role (Roles.Prefix p) = false
+suffix-role (Roles.Suffix s) = true
+suffix-role Roles.Slash = false
+suffix-role Roles.Other = false
 
-prefix-is : (text : List ℕ) (o : ℕ) (t : Token) (p : Prefix) → prefix-found t ≡ Prefixes.Operator p → token-of text o t ≡ sign (Before p)
-unfolding token-of
-prefix-is text o (Name k) p e = clash (cc)
-prefix-is text o (Sign (Operand a)) p e = clash (cc)
-prefix-is text o (Sign (Before q)) p e = cc
-prefix-is text o (Sign (After x)) p e = clash (cc)
-prefix-is text o (Sign Slash) p e = clash (cc)
-prefix-is text o (Sign Opening) p e = clash (cc)
-prefix-is text o (Sign Closing) p e = clash (cc)
-prefix-is text o (Sign Equals) p e = clash (cc)
-prefix-is text o (Sign Semicolon) p e = clash (cc)
-prefix-is text o (Range r) p e = clash (cc)
-prefix-is text o Unknown p e = clash (cc)
+pub record Told (r : Role) (t : Token) : Type 0 where
+  pub suffix : is-suffix t ≡ suffix-role r
+  pub start : is-start t ≡ starts r
+  pub slash : is-slash t ≡ parts-choice r
 
-no-prefix : (text : List ℕ) (o : ℕ) (t : Token) (p : Prefix) → prefix-found t ≡ Prefixes.Nothing → token-of text o t ≡ sign (Before p) → ⊥
-unfolding token-of
-no-prefix text o (Name k) p e f = clash (cc)
-no-prefix text o (Sign s) p e f = go s e (cc)
-  where
-    go : (x : Signed) → prefix-found (Sign x) ≡ Prefixes.Nothing → x ≡ Before p → ⊥
-    go (Operand a) g h = clash (cc)
-    go (Before q) g h = clash (cc)
-    go (After x) g h = clash (cc)
-    go Slash g h = clash (cc)
-    go Opening g h = clash (cc)
-    go Closing g h = clash (cc)
-    go Equals g h = clash (cc)
-    go Semicolon g h = clash (cc)
-no-prefix text o (Range r) p e f = clash (cc)
-no-prefix text o Unknown p e f = clash (cc)
+tells : (text : List ℕ) (o : ℕ) (t : Code.Token) → Told (role t) (token-of text o t)
+unfolding token-of by-sign suffix-sign start-sign slash-sign
+tells text o (Name k) = record { suffix = refl; start = refl; slash = refl }
+tells text o (Sign (Operand a)) = record { suffix = refl; start = refl; slash = refl }
+tells text o (Sign (Before p)) = record { suffix = refl; start = refl; slash = refl }
+tells text o (Sign (After x)) = record { suffix = refl; start = refl; slash = refl }
+tells text o (Sign Slash) = record { suffix = refl; start = refl; slash = refl }
+tells text o (Sign Opening) = record { suffix = refl; start = refl; slash = refl }
+tells text o (Sign Closing) = record { suffix = refl; start = refl; slash = refl }
+tells text o (Sign Equals) = record { suffix = refl; start = refl; slash = refl }
+tells text o (Sign Semicolon) = record { suffix = refl; start = refl; slash = refl }
+tells text o (Range r) = record { suffix = refl; start = refl; slash = refl }
+tells text o Unknown = record { suffix = refl; start = refl; slash = refl }
 
-starts-is : (text : List ℕ) (o : ℕ) (t : Token) → starts-part t ≡ is-start (token-of text o t)
-unfolding token-of by-sign start-sign
-starts-is text o (Name k) = refl
-starts-is text o (Sign (Operand a)) = refl
-starts-is text o (Sign (Before q)) = refl
-starts-is text o (Sign (After x)) = refl
-starts-is text o (Sign Slash) = refl
-starts-is text o (Sign Opening) = refl
-starts-is text o (Sign Closing) = refl
-starts-is text o (Sign Equals) = refl
-starts-is text o (Sign Semicolon) = refl
-starts-is text o (Range r) = refl
-starts-is text o Unknown = refl
+-- WHAT IS LOOKED AT
+module _ (text : List ℕ) (at : ℕ) (a : Ahead) (l : Looks text at a) where
+  abbrev at-lexeme : Lexeme
+  at-lexeme = l .lexeme
 
-slash-is : (text : List ℕ) (o : ℕ) (t : Token) → slash-found t ≡ true → token-of text o t ≡ sign Slash
-unfolding token-of
-slash-is text o (Name k) e = clash (cc)
-slash-is text o (Sign (Operand a)) e = clash (cc)
-slash-is text o (Sign (Before q)) e = clash (cc)
-slash-is text o (Sign (After x)) e = clash (cc)
-slash-is text o (Sign Slash) e = refl
-slash-is text o (Sign Opening) e = clash (cc)
-slash-is text o (Sign Closing) e = clash (cc)
-slash-is text o (Sign Equals) e = clash (cc)
-slash-is text o (Sign Semicolon) e = clash (cc)
-slash-is text o (Range r) e = clash (cc)
-slash-is text o Unknown e = clash (cc)
+  -- a token that is something to an expression is the first one
+  pub role-there : (r : Role) → a .role ≡ r → (r ≡ Roles.Other → ⊥) → tokens-at text at ≡ role-token text (a .offset) r ∷ tokens-at text (a .next)
+  role-there r e some =
+      subst (λ (b : Ahead). b .role ≡ r → tokens-at text at ≡ role-token text (b .offset) r ∷ tokens-at text (b .next)) (sym (l .is)) there e
+    where
+      there : role (at-lexeme .token) ≡ r → tokens-at text at ≡ role-token text (at-lexeme .offset) r ∷ tokens-at text (at-lexeme .next)
+      there f =
+          ⊎-elim
+          (λ g. g ∙ ap (λ (t : Token). t ∷ tokens-at text (at-lexeme .next))
+          (role-is text (at-lexeme .offset) (at-lexeme .token) (λ o. some (sym f ∙ o)) ∙ ap (λ (q : Role). role-token text (at-lexeme .offset) q) f))
+          (λ n. absurd (some (sym f ∙ ap role (n .1))))
+          (peeked text at at-lexeme (l .peeks))
 
-no-slash : (text : List ℕ) (o : ℕ) (t : Token) → slash-found t ≡ false → token-of text o t ≡ sign Slash → ⊥
-unfolding token-of
-no-slash text o (Name k) e f = clash (cc)
-no-slash text o (Sign s) e f = clash (cc (ap (λ (x : Signed). slash-found (Sign x)) (slash-sign-of s f)))
-  where
-    slash-sign-of : (x : Signed) → sign x ≡ sign Slash → x ≡ Slash
-    slash-sign-of x g = cc
-no-slash text o (Range r) e f = clash (cc)
-no-slash text o Unknown e f = clash (cc)
+  -- what it tells of the first token, if there is one
+  pub role-tells : (t : Token) (us : List Token) → tokens-at text at ≡ t ∷ us → Told (a .role) t
+  role-tells t us f =
+      subst (λ (b : Ahead). Told (b .role) t) (sym (l .is))
+      (⊎-elim
+      (λ g. let same : token-of text (at-lexeme .offset) (at-lexeme .token) ≡ t = cc in
+      subst (λ (u : Token). Told (role (at-lexeme .token)) u) same (tells text (at-lexeme .offset) (at-lexeme .token)))
+      (λ n. clash (cc (n .0)))
+      (peeked text at at-lexeme (l .peeks)))
 
--- A SUFFIX, A PREFIX, A SLASH, A PART'S START from a place on, or none
-module _ (text : List ℕ) (at : ℕ) (l : Lexeme) (p : Peeks text at l) where
-  pub suffix-here : (s : Suffix) → suffix-found (l .token) ≡ Suffixes.Operator s → tokens-at text at ≡ sign (After s) ∷ tokens-at text (l .next)
-  suffix-here s e =
-      there text at l p (λ u. clash (cc (ap suffix-found u)))
-      ∙ ap (λ (t : Tokens.Token). t ∷ tokens-at text (l .next)) (suffix-is text (l .offset) (l .token) s e)
+  pub none-there : tokens-at text at ≡ [] → a .role ≡ Roles.Other
+  none-there f =
+      ap (λ (b : Ahead). b .role) (l .is) ∙ ⊎-elim (λ g. clash (cc)) (λ n. ap role (n .1)) (peeked text at at-lexeme (l .peeks))
 
-  pub suffix-not-here : suffix-found (l .token) ≡ Suffixes.Nothing → (t : Tokens.Token) (us : List Tokens.Token) → tokens-at text at ≡ t ∷ us → is-suffix t ≡ false
-  suffix-not-here e t us f = subst (λ (x : Tokens.Token). is-suffix x ≡ false) (here text at l t us p f) (no-suffix text (l .offset) (l .token) e)
+  -- a name lies in the text
+  pub name-within : (k : ℕ) → a .role ≡ Roles.Name k → a .offset + k ≤ length text
+  name-within k e =
+      subst (λ (b : Ahead). b .role ≡ Roles.Name k → b .offset + k ≤ length text) (sym (l .is))
+      (λ f. ⊎-elim (λ s. omega (arith, s .named k (name-is (at-lexeme .token) f), s .within)) (λ n. clash (cc (ap role (n .1)))) (l .peeks)) e
+    where
+      name-is : (t : Code.Token) → role t ≡ Roles.Name k → t ≡ Name k
+      name-is (Name m) f = cc
+      name-is (Sign (Operand x)) f = clash (cc)
+      name-is (Sign (Before p)) f = clash (cc)
+      name-is (Sign (After x)) f = clash (cc)
+      name-is (Sign Slash) f = clash (cc)
+      name-is (Sign Opening) f = clash (cc)
+      name-is (Sign Closing) f = clash (cc)
+      name-is (Sign Equals) f = clash (cc)
+      name-is (Sign Semicolon) f = clash (cc)
+      name-is (Range r) f = clash (cc)
+      name-is Unknown f = clash (cc)
 
-  pub prefix-here : (q : Prefix) → prefix-found (l .token) ≡ Prefixes.Operator q → tokens-at text at ≡ sign (Before q) ∷ tokens-at text (l .next)
-  prefix-here q e =
-      there text at l p (λ u. clash (cc (ap prefix-found u)))
-      ∙ ap (λ (t : Tokens.Token). t ∷ tokens-at text (l .next)) (prefix-is text (l .offset) (l .token) q e)
+  -- the place after it
+  pub passes : (t : Token) (us : List Token) → tokens-at text at ≡ t ∷ us → tokens-at text (a .next) ≡ us
+  passes t us f =
+      subst (λ (b : Ahead). tokens-at text (b .next) ≡ us) (sym (l .is))
+      (⊎-elim (λ g. cc) (λ n. clash (cc (n .0))) (peeked text at at-lexeme (l .peeks)))
+
+is-first : (b : Bool) → b ≡ cond b true false
+is-first true = refl
+is-first false = refl
+
+is-second : (b : Bool) → not b ≡ cond b false true
+is-second true = refl
+is-second false = refl
+
+is-neither : (b : Bool) → false ≡ cond b false false
+is-neither true = refl
+is-neither false = refl
+
+-- WHETHER A PART FOLLOWS, by the tags of the roles
+pub start-follows : (n : ℕ) (r : Role) → OneOf (0 ∷ 1 ∷ 2 ∷ 3 ∷ 4 ∷ []) (tagOf the-type r) → eqb n 1 ≡ follows n r
+unfolding follows
+start-follows n (Roles.Name k) h = is-first (eqb n 1)
+start-follows n (Roles.Range x) h = is-first (eqb n 1)
+start-follows n (Roles.Leaf a) h = is-first (eqb n 1)
+start-follows n Roles.Opening h = is-first (eqb n 1)
+start-follows n (Roles.Prefix p) h = is-first (eqb n 1)
+start-follows n (Roles.Suffix s) h = absurd (miss (0 ∷ 1 ∷ 2 ∷ 3 ∷ 4 ∷ []) 5 tt h)
+start-follows n Roles.Slash h = absurd (miss (0 ∷ 1 ∷ 2 ∷ 3 ∷ 4 ∷ []) 6 tt h)
+start-follows n Roles.Other h = absurd (miss (0 ∷ 1 ∷ 2 ∷ 3 ∷ 4 ∷ []) 7 tt h)
+
+pub slash-follows : (n : ℕ) (r : Role) → r ≡ Roles.Slash → not (eqb n 1) ≡ follows n r
+unfolding follows
+slash-follows n r e = subst (λ (q : Role). not (eqb n 1) ≡ follows n q) (sym e) (is-second (eqb n 1))
+
+pub none-follows : (n : ℕ) (r : Role) → OneOf (5 ∷ 7 ∷ []) (tagOf the-type r) → false ≡ follows n r
+unfolding follows
+none-follows n (Roles.Name k) h = absurd (miss (5 ∷ 7 ∷ []) 0 tt h)
+none-follows n (Roles.Range x) h = absurd (miss (5 ∷ 7 ∷ []) 1 tt h)
+none-follows n (Roles.Leaf a) h = absurd (miss (5 ∷ 7 ∷ []) 2 tt h)
+none-follows n Roles.Opening h = absurd (miss (5 ∷ 7 ∷ []) 3 tt h)
+none-follows n (Roles.Prefix p) h = absurd (miss (5 ∷ 7 ∷ []) 4 tt h)
+none-follows n (Roles.Suffix s) h = is-neither (eqb n 1)
+none-follows n Roles.Slash h = absurd (miss (5 ∷ 7 ∷ []) 6 tt h)
+none-follows n Roles.Other h = is-neither (eqb n 1)
+
+-- NONE OF SOME ROLES
+pub no-suffix-role : (r : Role) → OneOf (0 ∷ 1 ∷ 2 ∷ 3 ∷ 4 ∷ 6 ∷ 7 ∷ []) (tagOf the-type r) → suffix-role r ≡ false
+no-suffix-role (Roles.Name k) h = refl
+no-suffix-role (Roles.Range x) h = refl
+no-suffix-role (Roles.Leaf a) h = refl
+no-suffix-role Roles.Opening h = refl
+no-suffix-role (Roles.Prefix p) h = refl
+no-suffix-role (Roles.Suffix s) h = absurd (miss (0 ∷ 1 ∷ 2 ∷ 3 ∷ 4 ∷ 6 ∷ 7 ∷ []) 5 tt h)
+no-suffix-role Roles.Slash h = refl
+no-suffix-role Roles.Other h = refl
+
+module _ (text : List ℕ) (at : ℕ) (a : Ahead) (l : Looks text at a) where
+  pub suffix-here : (s : Suffix) → a .role ≡ Roles.Suffix s → tokens-at text at ≡ sign (After s) ∷ tokens-at text (a .next)
+  suffix-here s e = role-there text at a l (Roles.Suffix s) e (λ o. clash (cc))
+
+  pub prefix-here : (p : Prefix) → a .role ≡ Roles.Prefix p → tokens-at text at ≡ sign (Before p) ∷ tokens-at text (a .next)
+  prefix-here p e = role-there text at a l (Roles.Prefix p) e (λ o. clash (cc))
+
+  pub suffix-not-here :
+      OneOf (0 ∷ 1 ∷ 2 ∷ 3 ∷ 4 ∷ 6 ∷ 7 ∷ []) (tagOf the-type (a .role)) → (t : Token) (us : List Token) → tokens-at text at ≡ t ∷ us → is-suffix t ≡ false
+  suffix-not-here h t us f = role-tells text at a l t us f .suffix ∙ no-suffix-role (a .role) h
 
   pub prefix-not-here :
-      prefix-found (l .token) ≡ Prefixes.Nothing → (q : Prefix) (us : List Tokens.Token) → tokens-at text at ≡ sign (Before q) ∷ us → ⊥
-  prefix-not-here e q us f = no-prefix text (l .offset) (l .token) q e (here text at l _ us p f)
+      OneOf (0 ∷ 1 ∷ 2 ∷ 3 ∷ 5 ∷ 6 ∷ 7 ∷ []) (tagOf the-type (a .role)) → (q : Prefix) (us : List Token) → tokens-at text at ≡ sign (Before q) ∷ us → ⊥
+  unfolding by-sign start-sign
+  prefix-not-here h q us f = go (a .role) refl h
+    where
+      first : (r : Role) → a .role ≡ r → (r ≡ Roles.Other → ⊥) → role-token text (a .offset) r ≡ sign (Before q)
+      first r e some = let g = role-there text at a l r e some in cc
 
-  pub slash-here : slash-found (l .token) ≡ true → tokens-at text at ≡ sign Slash ∷ tokens-at text (l .next)
-  slash-here e =
-      there text at l p (λ u. clash (cc (ap slash-found u)))
-      ∙ ap (λ (t : Tokens.Token). t ∷ tokens-at text (l .next)) (slash-is text (l .offset) (l .token) e)
-
-  pub slash-not-here : slash-found (l .token) ≡ false → (us : List Tokens.Token) → tokens-at text at ≡ sign Slash ∷ us → ⊥
-  slash-not-here e us f = no-slash text (l .offset) (l .token) e (here text at l _ us p f)
-
-  pub start-here : (t : Tokens.Token) (us : List Tokens.Token) → tokens-at text at ≡ t ∷ us → starts-part (l .token) ≡ is-start t
-  start-here t us f = starts-is text (l .offset) (l .token) ∙ ap is-start (here text at l t us p f)
-
-  pub start-there : starts-part (l .token) ≡ true → tokens-at text at ≡ [] → ⊥
-  start-there e f = ⊎-elim (λ g. clash (cc)) (λ n. clash (cc (ap starts-part (n .1)))) (peeked text at l p)
+      go : (r : Role) → a .role ≡ r → OneOf (0 ∷ 1 ∷ 2 ∷ 3 ∷ 5 ∷ 6 ∷ 7 ∷ []) (tagOf the-type r) → ⊥
+      go (Roles.Name k) e g = clash (cc (first _ e (λ o. clash (cc))))
+      go (Roles.Range x) e g = clash (cc (first _ e (λ o. clash (cc))))
+      go (Roles.Leaf x) e g = clash (cc (first _ e (λ o. clash (cc))))
+      go Roles.Opening e g = clash (cc (first _ e (λ o. clash (cc))))
+      go (Roles.Prefix p) e g = miss (0 ∷ 1 ∷ 2 ∷ 3 ∷ 5 ∷ 6 ∷ 7 ∷ []) 4 tt g
+      go (Roles.Suffix s) e g = clash (cc (first _ e (λ o. clash (cc))))
+      go Roles.Slash e g = clash (cc (first _ e (λ o. clash (cc))))
+      go Roles.Other e g = clash (cc (role-tells text at a l _ us f .start, ap starts e))

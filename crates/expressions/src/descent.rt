@@ -1,15 +1,10 @@
-// Reading an expression of a legal text: recursive descent, a function for each level of the grammar of texts. Each takes the rules that it needs from those
+// Reading an expression of a legal text: recursive descent by the levels of the grammar of texts. Each function takes the rules that it needs from those
 // that are left, and answers that it does not fit where they are too few. So the remaining depth and the rules left bound how deep the calls go.
 use crate::Numbering;
 use crate::Part;
 use crate::emitter::numbered;
-use crate::lookahead::FoundPrefix;
-use crate::lookahead::FoundSuffix;
-use crate::lookahead::is_slash;
+use crate::lookahead::Role;
 use crate::lookahead::peek;
-use crate::lookahead::prefix_of;
-use crate::lookahead::starts;
-use crate::lookahead::suffix_of;
 use crate::operators::begun;
 use crate::operators::over;
 use crate::operators::prefix_need;
@@ -20,18 +15,20 @@ use grammar::Expression;
 use scanner::names::line_of;
 use syntax::Leaf;
 use syntax::Node;
-use syntax::Sign;
-use syntax::Token;
 ghost use mathlib.Core.Path.{_≡_};
 ghost use mathlib.Core.List.{List};
 ghost use Prim.Native.Nat.{ℕ, _+_, _≤_};
 ghost use lib.ListN.{length};
-ghost use Rattle.syntax.specs.declared.Token.the-variants.{Name};
-ghost use Rattle.syntax.specs.Trees.{choices, parts, prefixes, operand};
+ghost use Rattle.syntax.specs.Trees.{prefixes, operand};
 ghost use Rattle.syntax.specs.Compile.{compile-leaf};
 ghost use Rattle.expressions.specs.code.Building.{rules-of};
 ghost use Rattle.expressions.specs.code.Operators.{part-of, Part-room};
-ghost use Rattle.expressions.specs.code.Levels.{Room, Name-room, leaf-made, name-made, Passes, Sign-read, Level-read, Suffixes-read};
+ghost use Rattle.expressions.specs.code.Levels.{Room, Name-room, leaf-made, name-made, Passes, Level-read, Suffixes-read, level-of, follows as follows-at, rest-from, pair as pair-of};
+
+// The levels of an expression: 0 is a part, then a sequence of parts and a choice of sequences.
+const SEQUENCES: usize = 1;
+
+pub const CHOICES: usize = 2;
 
 // A leaf's rule.
 fn leaf_rule(a: Leaf) -> Expression
@@ -80,10 +77,9 @@ fn suffixes(text: &[u8], x: Part, rules: &mut [u8; 124]) -> Part
     ensures { λ r. ⌜ Suffixes-read (now (text .entry)) (part-of x (now (rules .entry))) (part-of r (now (rules .exit))) ⌝ }
 {
     let l = peek(text, x.at);
-    let token = l.token;
-    match suffix_of(token) {
-        FoundSuffix::Nothing => x,
-        FoundSuffix::Operator(s) => {
+    let role = l.role;
+    match role {
+        Role::Suffix(s) => {
             let more = with_suffix(s, x, l.next, rules);
             if more.fits {
                 suffixes(text, more, rules)
@@ -91,6 +87,13 @@ fn suffixes(text: &[u8], x: Part, rules: &mut [u8; 124]) -> Part
                 more
             }
         }
+        Role::Name(_)
+        | Role::Range(_)
+        | Role::Leaf(_)
+        | Role::Opening
+        | Role::Prefix(_)
+        | Role::Slash
+        | Role::Other => x,
     }
 }
 
@@ -102,44 +105,7 @@ pub fn after(text: &[u8], at: usize) -> usize
     l.next
 }
 
-// An operand that is a sign: a leaf, or an expression in brackets.
-fn sign_operand(
-    text: &[u8],
-    s: Sign,
-    next: usize,
-    depth: usize,
-    numbering: Numbering,
-    rules: &mut [u8; 124],
-) -> Part
-    requires { ⌜ Room (now text) (rules-of (now rules) numbering) ⌝ }
-    ensures { λ r. ⌜ Sign-read (now (text .entry)) s next depth (rules-of (now (rules .entry)) numbering) (part-of r (now (rules .exit))) ⌝ }
-{
-    match s {
-        Sign::Operand(a) => leaf(leaf_rule(a), numbering, next),
-        Sign::Opening => {
-            if depth == 0 {
-                return over(numbering, next);
-            }
-            let inner = expression(text, next, depth - 1, numbering, rules);
-            let node = inner.node;
-            let made = inner.numbering;
-            Part {
-                fits: inner.fits,
-                at: after(text, inner.at),
-                node,
-                numbering: made,
-            }
-        }
-        Sign::Before(_) => over(numbering, next),
-        Sign::After(_) => over(numbering, next),
-        Sign::Slash => over(numbering, next),
-        Sign::Closing => over(numbering, next),
-        Sign::Equals => over(numbering, next),
-        Sign::Semicolon => over(numbering, next),
-    }
-}
-
-// An operand.
+// An operand: a name, a range, a leaf, or an expression in brackets.
 fn operand(
     text: &[u8],
     at: usize,
@@ -151,12 +117,26 @@ fn operand(
     ensures { λ r. ⌜ Level-read operand (now (text .entry)) at depth (rules-of (now (rules .entry)) numbering) (part-of r (now (rules .exit))) ⌝ }
 {
     let l = peek(text, at);
-    let token = l.token;
-    match token {
-        Token::Name(long) => named(text, l.offset, long, numbering, l.next),
-        Token::Sign(s) => sign_operand(text, s, l.next, depth, numbering, rules),
-        Token::Range(ends) => leaf(Expression::Range(ends.low, ends.high), numbering, l.next),
-        Token::Unknown => over(numbering, at),
+    let role = l.role;
+    match role {
+        Role::Name(long) => named(text, l.offset, long, numbering, l.next),
+        Role::Range(ends) => leaf(Expression::Range(ends.low, ends.high), numbering, l.next),
+        Role::Leaf(a) => leaf(leaf_rule(a), numbering, l.next),
+        Role::Opening => {
+            if depth == 0 {
+                return over(numbering, at);
+            }
+            let inner = expression(text, l.next, CHOICES, depth - 1, numbering, rules);
+            let node = inner.node;
+            let made = inner.numbering;
+            Part {
+                fits: inner.fits,
+                at: after(text, inner.at),
+                node,
+                numbering: made,
+            }
+        }
+        Role::Prefix(_) | Role::Suffix(_) | Role::Slash | Role::Other => over(numbering, at),
     }
 }
 
@@ -166,22 +146,9 @@ fn part(text: &[u8], at: usize, depth: usize, numbering: Numbering, rules: &mut 
     ensures { λ r. ⌜ Level-read prefixes (now (text .entry)) at depth (rules-of (now (rules .entry)) numbering) (part-of r (now (rules .exit))) ⌝ }
 {
     let l = peek(text, at);
-    let token = l.token;
-    match prefix_of(token) {
-        FoundPrefix::Nothing => {
-            let x = operand(text, at, depth, numbering, rules);
-            if !x.fits {
-                return x;
-            }
-            // without a suffix the operand is not handed on, which would copy it
-            let after_x = peek(text, x.at);
-            let follows = after_x.token;
-            match suffix_of(follows) {
-                FoundSuffix::Nothing => x,
-                FoundSuffix::Operator(_) => suffixes(text, x, rules),
-            }
-        }
-        FoundPrefix::Operator(p) => {
+    let role = l.role;
+    match role {
+        Role::Prefix(p) => {
             let cost = prefix_need(p);
             if numbering.left < cost {
                 return over(numbering, at);
@@ -189,67 +156,71 @@ fn part(text: &[u8], at: usize, depth: usize, numbering: Numbering, rules: &mut 
             let x = part(text, l.next, depth, taken(numbering, cost), rules);
             if x.fits { with_prefix(p, x, rules) } else { x }
         }
+        Role::Name(_)
+        | Role::Range(_)
+        | Role::Leaf(_)
+        | Role::Opening
+        | Role::Suffix(_)
+        | Role::Slash
+        | Role::Other => {
+            let x = operand(text, at, depth, numbering, rules);
+            if x.fits { suffixes(text, x, rules) } else { x }
+        }
     }
 }
 
-// A sequence of parts, to the right.
-fn sequence(
-    text: &[u8],
-    at: usize,
-    depth: usize,
-    numbering: Numbering,
-    rules: &mut [u8; 124],
-) -> Part
-    requires { ⌜ Room (now text) (rules-of (now rules) numbering) ⌝ }
-    ensures { λ r. ⌜ Level-read parts (now (text .entry)) at depth (rules-of (now (rules .entry)) numbering) (part-of r (now (rules .exit))) ⌝ }
+// Whether another part follows, at a level.
+fn follows(level: usize, role: Role) -> bool
+    ensures { λ r. ⌜ r ≡ follows-at level role ⌝ }
 {
-    let first = part(text, at, depth, numbering, rules);
-    if !first.fits {
-        return first;
-    }
-    let l = peek(text, first.at);
-    let token = l.token;
-    if !starts(token) {
-        return first;
-    }
-    let head = begun(first, rules);
-    let made = head.numbering;
-    if !head.fits {
-        return over(made, at);
-    }
-    let rest = sequence(text, first.at, depth, made, rules);
-    if !rest.fits {
-        return rest;
-    }
-    let node = rest.node;
-    let last = numbered(rules, rest.numbering, node);
-    let all = last.numbering;
-    Part {
-        fits: true,
-        at: rest.at,
-        node: Node::Operator(Expression::Sequence(head.number, last.number)),
-        numbering: all,
+    match role {
+        Role::Name(_) | Role::Range(_) | Role::Leaf(_) | Role::Opening | Role::Prefix(_) => {
+            level == SEQUENCES
+        }
+        Role::Slash => level != SEQUENCES,
+        Role::Suffix(_) | Role::Other => false,
     }
 }
 
-// A choice of sequences, to the right: an expression.
+// Where it begins: in a sequence at once, in a choice after the slash.
+fn rest_at(level: usize, at: usize, next: usize) -> usize
+    ensures { λ r. ⌜ r ≡ rest-from level at next ⌝ }
+{
+    if level == SEQUENCES { at } else { next }
+}
+
+fn pair(level: usize, first: u8, rest: u8) -> Expression
+    ensures { λ r. ⌜ r ≡ pair-of level first rest ⌝ }
+{
+    if level == SEQUENCES {
+        Expression::Sequence(first, rest)
+    } else {
+        Expression::Choice(first, rest)
+    }
+}
+
+// An expression at a level. Sequences and choices go on to the right.
 pub fn expression(
     text: &[u8],
     at: usize,
+    level: usize,
     depth: usize,
     numbering: Numbering,
     rules: &mut [u8; 124],
 ) -> Part
-    requires { ⌜ Room (now text) (rules-of (now rules) numbering) ⌝ }
-    ensures { λ r. ⌜ Level-read choices (now (text .entry)) at depth (rules-of (now (rules .entry)) numbering) (part-of r (now (rules .exit))) ⌝ }
+    requires { ⌜ (level ≤ 2) × Room (now text) (rules-of (now rules) numbering) ⌝ }
+    ensures { λ r. ⌜ Level-read (level-of level) (now (text .entry)) at depth (rules-of (now (rules .entry)) numbering) (part-of r (now (rules .exit))) ⌝ }
 {
-    let first = sequence(text, at, depth, numbering, rules);
+    if level == 0 {
+        return part(text, at, depth, numbering, rules);
+    }
+    let first = expression(text, at, level - 1, depth, numbering, rules);
     if !first.fits {
         return first;
     }
     let l = peek(text, first.at);
-    let token = l.token;
-    if !is_slash(token) {
+    let role = l.role;
+    if !follows(level, role) {
         return first;
     }
     let head = begun(first, rules);
@@ -257,17 +228,19 @@ pub fn expression(
     if !head.fits {
         return over(made, at);
     }
-    let rest = expression(text, l.next, depth, made, rules);
+    let from = rest_at(level, first.at, l.next);
+    let rest = expression(text, from, level, depth, made, rules);
     if !rest.fits {
         return rest;
     }
     let node = rest.node;
     let last = numbered(rules, rest.numbering, node);
     let all = last.numbering;
+    let own = pair(level, head.number, last.number);
     Part {
         fits: true,
         at: rest.at,
-        node: Node::Operator(Expression::Choice(head.number, last.number)),
+        node: Node::Operator(own),
         numbering: all,
     }
 }

@@ -1,143 +1,78 @@
-// Looking ahead: the token from a place on, and what it can begin or go on with.
-use scanner::Lexeme;
+// Looking ahead: what the token from a place on is to an expression.
 use scanner::Scanned;
 use scanner::tokens::scan;
+use syntax::Ends;
+use syntax::Leaf;
 use syntax::Prefix;
 use syntax::Sign;
 use syntax::Suffix;
 use syntax::Token;
 ghost use mathlib.Core.Path.{_≡_};
-ghost use Rattle.scanner.specs.code.Scanning.{Peeks};
-ghost use Rattle.expressions.specs.code.Lookahead.{prefix-found, suffix-found, starts-part, slash-found};
+ghost use Rattle.expressions.specs.code.Lookahead.{role, Looks};
 
-// A prefix, where the token is one.
-pub enum FoundPrefix {
-    Operator(Prefix),
-    Nothing,
+// What a token is to an expression: an operand begins with it, or it is an operator or a slash, or none of these.
+pub enum Role {
+    Name(usize),
+    Range(Ends),
+    Leaf(Leaf),
+    Opening,
+    Prefix(Prefix),
+    Suffix(Suffix),
+    Slash,
+    Other,
 }
 
-// A suffix, where the token is one.
-pub enum FoundSuffix {
-    Operator(Suffix),
-    Nothing,
+// The next token: its role, where it stands, and the place after it.
+pub struct Ahead {
+    pub role: Role,
+    pub offset: usize,
+    pub next: usize,
 }
 
-// The lexeme from a place on; where there is none, a byte that begins none.
-pub fn peek(text: &[u8], at: usize) -> Lexeme
-    ensures { λ r. ⌜ Peeks (now (text .entry)) at r ⌝ }
+fn sign_role(s: Sign) -> Role
+    ensures { λ r. ⌜ r ≡ role (Token.Sign s) ⌝ }
+{
+    match s {
+        Sign::Operand(a) => Role::Leaf(a),
+        Sign::Before(p) => Role::Prefix(p),
+        Sign::After(x) => Role::Suffix(x),
+        Sign::Slash => Role::Slash,
+        Sign::Opening => Role::Opening,
+        Sign::Closing => Role::Other,
+        Sign::Equals => Role::Other,
+        Sign::Semicolon => Role::Other,
+    }
+}
+
+fn role_of(token: Token) -> Role
+    ensures { λ r. ⌜ r ≡ role token ⌝ }
+{
+    match token {
+        Token::Name(long) => Role::Name(long),
+        Token::Sign(s) => sign_role(s),
+        Token::Range(ends) => Role::Range(ends),
+        Token::Unknown => Role::Other,
+    }
+}
+
+// The token from a place on; where there is none, one that is nothing to an expression.
+pub fn peek(text: &[u8], at: usize) -> Ahead
+    ensures { λ r. ⌜ Looks (now (text .entry)) at r ⌝ }
 {
     let found = scan(text, at);
     match found {
-        Scanned::Found(l) => l,
-        Scanned::End => Lexeme {
-            token: Token::Unknown,
+        Scanned::Found(l) => {
+            let token = l.token;
+            Ahead {
+                role: role_of(token),
+                offset: l.offset,
+                next: l.next,
+            }
+        }
+        Scanned::End => Ahead {
+            role: Role::Other,
             offset: at,
             next: at,
         },
-    }
-}
-
-fn sign_prefix(s: Sign) -> FoundPrefix
-    ensures { λ r. ⌜ r ≡ prefix-found (Token.Sign s) ⌝ }
-{
-    match s {
-        Sign::Operand(_) => FoundPrefix::Nothing,
-        Sign::Before(p) => FoundPrefix::Operator(p),
-        Sign::After(_) => FoundPrefix::Nothing,
-        Sign::Slash => FoundPrefix::Nothing,
-        Sign::Opening => FoundPrefix::Nothing,
-        Sign::Closing => FoundPrefix::Nothing,
-        Sign::Equals => FoundPrefix::Nothing,
-        Sign::Semicolon => FoundPrefix::Nothing,
-    }
-}
-
-pub fn prefix_of(token: Token) -> FoundPrefix
-    ensures { λ r. ⌜ r ≡ prefix-found token ⌝ }
-{
-    match token {
-        Token::Name(_) => FoundPrefix::Nothing,
-        Token::Sign(s) => sign_prefix(s),
-        Token::Range(_) => FoundPrefix::Nothing,
-        Token::Unknown => FoundPrefix::Nothing,
-    }
-}
-
-fn sign_suffix(s: Sign) -> FoundSuffix
-    ensures { λ r. ⌜ r ≡ suffix-found (Token.Sign s) ⌝ }
-{
-    match s {
-        Sign::Operand(_) => FoundSuffix::Nothing,
-        Sign::Before(_) => FoundSuffix::Nothing,
-        Sign::After(x) => FoundSuffix::Operator(x),
-        Sign::Slash => FoundSuffix::Nothing,
-        Sign::Opening => FoundSuffix::Nothing,
-        Sign::Closing => FoundSuffix::Nothing,
-        Sign::Equals => FoundSuffix::Nothing,
-        Sign::Semicolon => FoundSuffix::Nothing,
-    }
-}
-
-pub fn suffix_of(token: Token) -> FoundSuffix
-    ensures { λ r. ⌜ r ≡ suffix-found token ⌝ }
-{
-    match token {
-        Token::Name(_) => FoundSuffix::Nothing,
-        Token::Sign(s) => sign_suffix(s),
-        Token::Range(_) => FoundSuffix::Nothing,
-        Token::Unknown => FoundSuffix::Nothing,
-    }
-}
-
-fn sign_starts(s: Sign) -> bool
-    ensures { λ r. ⌜ r ≡ starts-part (Token.Sign s) ⌝ }
-{
-    match s {
-        Sign::Operand(_) => true,
-        Sign::Before(_) => true,
-        Sign::After(_) => false,
-        Sign::Slash => false,
-        Sign::Opening => true,
-        Sign::Closing => false,
-        Sign::Equals => false,
-        Sign::Semicolon => false,
-    }
-}
-
-// Whether a part of a sequence begins with the token.
-pub fn starts(token: Token) -> bool
-    ensures { λ r. ⌜ r ≡ starts-part token ⌝ }
-{
-    match token {
-        Token::Name(_) => true,
-        Token::Sign(s) => sign_starts(s),
-        Token::Range(_) => true,
-        Token::Unknown => false,
-    }
-}
-
-fn sign_slash(s: Sign) -> bool
-    ensures { λ r. ⌜ r ≡ slash-found (Token.Sign s) ⌝ }
-{
-    match s {
-        Sign::Operand(_) => false,
-        Sign::Before(_) => false,
-        Sign::After(_) => false,
-        Sign::Slash => true,
-        Sign::Opening => false,
-        Sign::Closing => false,
-        Sign::Equals => false,
-        Sign::Semicolon => false,
-    }
-}
-
-pub fn is_slash(token: Token) -> bool
-    ensures { λ r. ⌜ r ≡ slash-found token ⌝ }
-{
-    match token {
-        Token::Name(_) => false,
-        Token::Sign(s) => sign_slash(s),
-        Token::Range(_) => false,
-        Token::Unknown => false,
     }
 }

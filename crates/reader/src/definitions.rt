@@ -5,6 +5,7 @@ use crate::MAX_RULES;
 use expressions::Numbering;
 use expressions::Part;
 use expressions::Rules;
+use expressions::descent::CHOICES;
 use expressions::descent::after;
 use expressions::descent::expression;
 use expressions::emitter::added;
@@ -100,7 +101,7 @@ fn line(text: &[u8], at: usize, k: usize, numbering: Numbering, rules: &mut [u8;
 {
     let equals = after(text, at);
     let body = after(text, equals);
-    let x = expression(text, body, MAX_DEPTH, refilled(numbering), rules);
+    let x = expression(text, body, CHOICES, MAX_DEPTH, refilled(numbering), rules);
     if !x.fits {
         return unread(numbering, at);
     }

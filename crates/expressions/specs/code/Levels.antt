@@ -8,6 +8,7 @@ use lib.ListN.{length}
 use Rattle.codec.specs.Bytes.{section}
 use Rattle.grammar.specs.Grammar.{max-rules}
 use Rattle.grammar.specs.declared.Expression.{Expression}
+use Rattle.grammar.specs.declared.Expression.the-variants.{Sequence, Choice}
 use Rattle.syntax.specs.declared.Node.the-variants.{Numbered, Operator}
 use Rattle.syntax.specs.declared.Suffix.{Suffix}
 use Rattle.syntax.specs.declared.Sign.{Sign}
@@ -18,6 +19,8 @@ use Rattle.syntax.specs.Needs.{need}
 use Rattle.syntax.specs.Compile.{index-of, compile, owed}
 use Rattle.syntax.specs.code.Heads.{heads}
 use Rattle.expressions.specs.declared.Rules.{Rules}
+use Rattle.expressions.specs.declared.lookahead.Role.{Role}
+use Rattle.expressions.specs.code.Lookahead.{starts, parts-choice}
 use Rattle.scanner.specs.code.Scanning.{tokens-at}
 use Rattle.expressions.specs.code.Building.{advanced}
 use Rattle.expressions.specs.code.Operators.{Part, over, part}
@@ -30,6 +33,20 @@ Name-room text = length (heads text) ≤ max-rules
 pub record Room (text : List ℕ) (r : Rules) : Type 0 where
   pub few : Name-room text
   pub fit : r .next + r .left ≤ suc max-rules
+
+-- THE LEVELS BY NUMBER, as the code has them: a part, a sequence of parts, a choice of sequences
+unfoldable pub level-of : ℕ → Level
+level-of n = cond (eqb n 0) prefixes (cond (eqb n 1) parts choices)
+
+-- whether another part follows a token's place, where it begins, and the rule of the two
+unfoldable pub follows : (level : ℕ) → Role → Bool
+follows n r = cond (eqb n 1) (starts r) (parts-choice r)
+
+unfoldable pub rest-from : (level at next : ℕ) → ℕ
+rest-from n at next = cond (eqb n 1) at next
+
+unfoldable pub pair : (level first rest : ℕ) → Expression
+pair n a b = cond (eqb n 1) (Sequence a b) (Choice a b)
 
 -- operands
 unfoldable pub leaf-made : Expression → Rules → (at : ℕ) → Part
@@ -125,10 +142,6 @@ Suffixes-right text x r =
 abbrev pub Passes : (text : List ℕ) → (at to : ℕ) → Type 0
 Passes text i j = (t : Token) (us : List Token) → tokens-at text i ≡ t ∷ us → tokens-at text j ≡ us
 
--- an operand that begins with a sign, whose next place is known
-abbrev pub Sign-right : (text : List ℕ) → Sign → (next deep : ℕ) → Rules → Part → Type 0
-Sign-right text s i d before r = (e : Tree) (us : List Token) → Derives operand d (sign s ∷ tokens-at text i) e us → Part-right text before e us r
-
 -- WHATEVER THE TOKENS ARE, an expression that fits has spent no more rules than there were, its own among them
 pub record Spent (before : Rules) (own : ℕ) (r : Part) : Type 0 where
   pub room : r .rules .next + r .rules .left + owed (r .node) ≤ before .next + before .left + own
@@ -141,7 +154,3 @@ pub record Level-read (v : Level) (text : List ℕ) (at deep : ℕ) (before : Ru
 pub record Suffixes-read (text : List ℕ) (x r : Part) : Type 0 where
   pub right : Suffixes-right text x r
   pub spent : r .fits ≡ true → Spent (x .rules) (owed (x .node)) r
-
-pub record Sign-read (text : List ℕ) (s : Sign) (next deep : ℕ) (before : Rules) (r : Part) : Type 0 where
-  pub right : Sign-right text s next deep before r
-  pub spent : r .fits ≡ true → Spent before 0 r
