@@ -128,7 +128,8 @@ module _ (text : List ℕ) (n : ℕ) (J : Joining text n) (at d : ℕ) (before :
     pub joined-alone : follows n (a .role) ≡ false → Level-read (level-of n) text at d before first
     joined-alone e =
         record {
-          right = first-alone text (level-of (n - 1)) (level-of n) (J .between) (J .join) (pair n) (J .joins) d (tokens-at text at) (J .parted d (tokens-at text at)) before first (read .right) fits (J .no-more first a p e);
+          right = first-alone text (level-of (n - 1)) (level-of n) (J .between) (J .join) (pair n) (J .joins) d (tokens-at text at) (J .parted d (tokens-at text at))
+              before first (read .right) fits (J .no-more first a p e);
           spent = read .spent;
         }
 

@@ -2,7 +2,6 @@
 use mathlib.Core.Path.{_≡_, refl, sym, ap, subst, _∙_}
 use mathlib.Core.Bool.{Bool, true, false, cond}
 use mathlib.Core.List.{List, [], _∷_}
-use mathlib.Core.Logic.{_⊎_, ⊎-elim}
 use Prim.Native.Nat.{ℕ, suc, _+_, _-_, _≤_}
 use native.Mathlib.Nat.{pos-of-ne-zero}
 use native.Mathlib.Omega.{arith}
@@ -13,22 +12,17 @@ use Rattle.codec.specs.Bytes.{section}
 use Rattle.grammar.specs.declared.Expression.{Expression}
 use Rattle.grammar.specs.declared.Expression.the-variants.{Range}
 use Rattle.syntax.specs.declared.Leaf.{Leaf}
-use Rattle.syntax.specs.declared.Sign.{Sign}
 use Rattle.syntax.specs.declared.Sign.the-variants.{Operand, Opening, Closing}
 use Rattle.syntax.specs.declared.Node.the-variants.{Numbered, Operator}
-use Rattle.syntax.specs.declared.Token as Code
-use Rattle.syntax.specs.declared.Token.the-variants as Variants
-use Rattle.syntax.specs.declared.Ends.{Ends}
-use Rattle.syntax.specs.Tokens.{Token, name, sign, range, unknown, same}
+use Rattle.syntax.specs.Tokens.{Token, name, sign, range, same}
 use Rattle.syntax.specs.Trees.{Tree, nonterminal, leaf, bytes, choices, operand, Derives, a-name, a-leaf, a-range, brackets}
 use Rattle.syntax.specs.Needs.{need}
 use Rattle.syntax.specs.Compile.{index-of, owed, Compiled, compile-leaf, compile}
 use Rattle.syntax.specs.code.Heads.{heads}
 use Rattle.expressions.specs.declared.Rules.{Rules}
-use Rattle.scanner.specs.declared.Lexeme.{Lexeme}
 use Rattle.expressions.specs.code.Building.{advanced}
 use Rattle.expressions.specs.code.Operators.{Part, over, part}
-use Rattle.scanner.specs.code.Scanning.{token-of, Peeks, tokens-at}
+use Rattle.scanner.specs.code.Scanning.{tokens-at}
 use Rattle.expressions.specs.code.Levels.{Spent, leaf-made, name-made, Reads-to, Part-right, Level-right, Passes}
 use Rattle.expressions.proofs.Emitting.{advanced-none, advanced-next, advanced-left}
 use Rattle.expressions.proofs.Lookings.{clash}
@@ -59,7 +53,8 @@ leaf-right text before e us x at one is rest = go (eqb (before .left) 0) refl
         let reads : Reads-to text before e us (part at (Operator x) (advanced before [] 1)) =
         record {
           node = sym (ap (λ (c : Compiled). c .node) is);
-          rules = ap (λ (hs : List Expression). advanced before hs 1) (sym (ap (λ (c : Compiled). c .helpers) is)) ∙ ap (λ (n : ℕ). advanced before (compile (heads text) e (before .next) .helpers) n) (sym one);
+          rules = ap (λ (hs : List Expression). advanced before hs 1) (sym (ap (λ (c : Compiled). c .helpers) is))
+              ∙ ap (λ (n : ℕ). advanced before (compile (heads text) e (before .next) .helpers) n) (sym one);
           rest = rest;
         }
         in

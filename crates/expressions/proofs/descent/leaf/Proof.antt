@@ -5,17 +5,11 @@ use borrow.Author.Needs.{needs}
 use Rattle.expressions.proofs.descent.leaf.Statement.{statement}
 use Rattle.expressions.proofs.descent.leaf.Tie as tie
 
-over-requires : tie.Need-over-requires
-over-requires c κs = search needs
-
 returns : tie.Need-returns
 returns c = λ bytes. c .over .ensures bytes ∙ leaf-none _ _ _ (c .before .if1 .taken)
-
-taken-requires : tie.Need-taken-requires
-taken-requires c κs = search needs
 
 returns-2 : tie.Need-returns-2
 returns-2 c = λ bytes. leaf-some _ _ _ _ (c .before .if1 .left) (c .taken .ensures bytes)
 
 pub leaf-spec : {M : Type 1} → statement M
-leaf-spec = tie.close (tie.spec over-requires returns taken-requires returns-2)
+leaf-spec = tie.close (tie.spec (λ c κs. search needs) returns (λ c κs. search needs) returns-2)

@@ -7,14 +7,18 @@ use borrow.Author.Needs.{needs}
 use Rattle.expressions.proofs.descent.named.Statement.{statement}
 use Rattle.expressions.proofs.descent.named.Tie as tie
 
-line-of-requires : tie.Need-line-of-requires
-line-of-requires c κs = search needs
-
 cast-t7 : tie.Need-cast-t7
-cast-t7 c = omega (arith, c .line-of .ensures, index-below (section (c .before .before .args .text .now) (c .before .before .args .name) (c .before .before .args .long)) (heads (c .before .before .args .text .now)), c .before .before .pre .1)
+cast-t7 c =
+    let start = c .before .before in
+    omega (
+      arith,
+      c .line-of .ensures,
+      index-below (section (start .args .text .now) (start .args .name) (start .args .long)) (heads (start .args .text .now)),
+      start .pre .1,
+    )
 
 returns : tie.Need-returns
 returns c = λ bytes. name-is _ _ _ _ (c .line-of .ensures)
 
 pub named-spec : {M : Type 1} → statement M
-named-spec = tie.close (tie.spec line-of-requires cast-t7 returns)
+named-spec = tie.close (tie.spec (λ c κs. search needs) cast-t7 returns)

@@ -4,14 +4,8 @@ use borrow.Author.Needs.{needs}
 use Rattle.expressions.proofs.emitter.added.Statement.{statement}
 use Rattle.expressions.proofs.emitter.added.Tie as tie
 
-put-requires : tie.Need-put-requires
-put-requires c κs = search needs
-
-add-t7 : tie.Need-add-t7
-add-t7 c = search needs
-
 returns : tie.Need-returns
 returns c = one-added _ _ _ (c .put .ensures)
 
 pub added-spec : {M : Type 1} → statement M
-added-spec = tie.close (tie.spec put-requires add-t7 returns)
+added-spec = tie.close (tie.spec (λ c κs. search needs) (λ c. search needs) returns)

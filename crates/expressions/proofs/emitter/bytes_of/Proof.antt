@@ -4,47 +4,22 @@ use Rattle.syntax.specs.Compile.{rule-bytes}
 use Rattle.expressions.proofs.emitter.bytes_of.Statement.{statement}
 use Rattle.expressions.proofs.emitter.bytes_of.Tie as tie
 
--- src/emitter.rt:36:30
-enum-known-x : tie.Need-enum-known-x
-enum-known-x c = search needs
-
--- src/emitter.rt:41:28
-enum-known-x-2 : tie.Need-enum-known-x-2
-enum-known-x-2 c = search needs
-
--- src/emitter.rt:42:25
-enum-known-x-3 : tie.Need-enum-known-x-3
-enum-known-x-3 c = search needs
-
--- src/emitter.rt:43:30
-enum-told : tie.Need-enum-told
-enum-told c = search needs
-
--- src/emitter.rt:48:27
-enum-known-x-4 : tie.Need-enum-known-x-4
-enum-known-x-4 c = search needs
-
--- src/emitter.rt:32:1
 returns : tie.Need-returns
 unfolding rule-bytes
 returns c = simp (c .before .x .given .1)
 
--- src/emitter.rt:32:1
 returns-2 : tie.Need-returns-2
 unfolding rule-bytes
 returns-2 c = simp (c .before .x2 .given .1)
 
--- src/emitter.rt:32:1
 returns-3 : tie.Need-returns-3
 unfolding rule-bytes
 returns-3 c = simp (c .before .x3 .given .1)
 
--- src/emitter.rt:32:1
 returns-4 : tie.Need-returns-4
 unfolding rule-bytes
 returns-4 c = simp (c .enum-told .given .1)
 
--- src/emitter.rt:32:1
 returns-5 : tie.Need-returns-5
 unfolding rule-bytes
 returns-5 c = simp (c .before .x4 .given .1)
@@ -53,11 +28,11 @@ pub bytes-of-spec : {M : Type 1} → statement M
 bytes-of-spec =
     tie.close
     (tie.spec
-    enum-known-x
-    enum-known-x-2
-    enum-known-x-3
-    enum-told
-    enum-known-x-4
+    (λ c. search needs)
+    (λ c. search needs)
+    (λ c. search needs)
+    (λ c. search needs)
+    (λ c. search needs)
     returns
     returns-2
     returns-3

@@ -7,28 +7,19 @@ use borrow.Author.Needs.{needs}
 use Rattle.expressions.proofs.emitter.numbered.Statement.{statement}
 use Rattle.expressions.proofs.emitter.numbered.Tie as tie
 
-enum-known-node : tie.Need-enum-known-node
-enum-known-node c = search needs
-
-enum-known-node-2 : tie.Need-enum-known-node-2
-enum-known-node-2 c = search needs
-
-cast-t8 : tie.Need-cast-t8
-cast-t8 c = search needs
-
 added-requires : tie.Need-added-requires
 unfolding owed
-added-requires c κs = omega (arith, simp (c .before .before .before .node2 .given .1) at (c .before .before .before .before .before .pre))
-
-enum-known-node-3 : tie.Need-enum-known-node-3
-enum-known-node-3 c = search needs
-
-cast-t11 : tie.Need-cast-t11
-cast-t11 c = search needs
+added-requires c κs =
+    let at-node2 = c .before .before .before in
+    let start = at-node2 .before .before in
+    omega (arith, simp (at-node2 .node2 .given .1) at (start .pre))
 
 repeated-requires : tie.Need-repeated-requires
 unfolding owed
-repeated-requires c κs = simp (c .before .before .before .node3 .given .1) at (c .before .before .before .before .before .pre)
+repeated-requires c κs =
+    let at-node3 = c .before .before .before in
+    let start = at-node3 .before .before in
+    simp (at-node3 .node3 .given .1) at (start .pre)
 
 returns : tie.Need-returns
 unfolding own-rules own-number
@@ -46,12 +37,12 @@ pub numbered-spec : {M : Type 1} → statement M
 numbered-spec =
     tie.close
     (tie.spec
-    enum-known-node
-    enum-known-node-2
-    cast-t8
+    (λ c. search needs)
+    (λ c. search needs)
+    (λ c. search needs)
     added-requires
-    enum-known-node-3
-    cast-t11
+    (λ c. search needs)
+    (λ c. search needs)
     repeated-requires
     returns
     returns-2

@@ -4,11 +4,8 @@ use borrow.Author.Needs.{needs}
 use Rattle.expressions.proofs.operators.taken.Statement.{statement}
 use Rattle.expressions.proofs.operators.taken.Tie as tie
 
-sub-t4 : tie.Need-sub-t4
-sub-t4 c = search needs
-
 returns : tie.Need-returns
 returns c = λ bytes. fewer-left _ _
 
 pub taken-spec : {M : Type 1} → statement M
-taken-spec = tie.close (tie.spec sub-t4 returns)
+taken-spec = tie.close (tie.spec (λ c. search needs) returns)

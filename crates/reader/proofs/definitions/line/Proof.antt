@@ -10,45 +10,55 @@ use borrow.Author.Needs.{needs}
 use Rattle.reader.proofs.definitions.line.Statement.{statement}
 use Rattle.reader.proofs.definitions.line.Tie as tie
 
-after-requires : tie.Need-after-requires
-after-requires c κs = search needs
-
-after-requires-2 : tie.Need-after-requires-2
-after-requires-2 c κs = search needs
-
-refilled-requires : tie.Need-refilled-requires
-refilled-requires c κs = search needs
-
 expression-requires : tie.Need-expression-requires
-expression-requires c κs = (omega arith, line-ready _ _ _ _ (c .before .before .before .before .before .pre) (c .before .refilled .ensures _))
-
-unread-requires : tie.Need-unread-requires
-unread-requires c κs = search needs
+expression-requires c κs =
+    let at-refilled = c .before in
+    let start = at-refilled .before .before .before .before in
+    (omega arith, line-ready _ _ _ _ (start .pre) (at-refilled .refilled .ensures _))
 
 returns : tie.Need-returns
 unfolding level-of
-returns c = line-over _ _ _ _ _ _ (c .before .before .before .before .before .before .before .before .before .pre) (c .before .before .before .before .before .before .before .after .ensures) (c .before .before .before .before .before .before .after2 .ensures) _ (c .before .before .before .before .before .refilled .ensures _) _ (c .before .before .before .expression .ensures) (not-true _ (c .before .if1 .taken)) _ (ap (λ (y : LineRead). y .fits) (c .unread .ensures []))
-
-after-requires-3 : tie.Need-after-requires-3
-after-requires-3 c κs = search needs
+returns c =
+    let at-if1 = c .before in
+    let at-expression = at-if1 .before .before in
+    let at-refilled = at-expression .before .before in
+    let at-after2 = at-refilled .before in
+    let at-after = at-after2 .before in
+    let start = at-after .before .before in
+    line-over _ _ _ _ _ _ (start .pre) (at-after .after .ensures) (at-after2 .after2 .ensures) _ (at-refilled .refilled .ensures _)
+    _ (at-expression .expression .ensures) (not-true _ (at-if1 .if1 .taken)) _ (ap (λ (y : LineRead). y .fits) (c .unread .ensures []))
 
 topped-requires : tie.Need-topped-requires
-topped-requires c κs = (c .before .before .before .before .before .before .before .before .before .before .pre .below, line-part _ _ _ _ _ (c .before .before .before .before .before .before .before .before .before .before .pre) (c .before .before .before .before .before .before .refilled .ensures _) (c .before .before .before .before .expression .ensures .spent (not-false _ (c .before .before .if1 .left))))
+topped-requires c κs =
+    let at-if1 = c .before .before in
+    let at-expression = at-if1 .before .before in
+    let at-refilled = at-expression .before .before in
+    let start = at-refilled .before .before .before .before in
+    (start .pre .below, line-part _ _ _ _ _ (start .pre) (at-refilled .refilled .ensures _) (at-expression .expression .ensures .spent (not-false _ (at-if1 .if1 .left))))
 
 returns-2 : tie.Need-returns-2
 unfolding level-of
-returns-2 c = line-read _ _ _ _ _ _ (c .before .before .before .before .before .before .before .before .before .before .before .pre) (c .before .before .before .before .before .before .before .before .before .after .ensures) (c .before .before .before .before .before .before .before .before .after2 .ensures) _ (c .before .before .before .before .before .before .before .refilled .ensures _) _ (c .before .before .before .before .before .expression .ensures) (not-false _ (c .before .before .before .if1 .left)) _ (c .before .before .after3 .ensures) _ (c .topped .ensures)
+returns-2 c =
+    let at-after3 = c .before .before in
+    let at-if1 = at-after3 .before in
+    let at-expression = at-if1 .before .before in
+    let at-refilled = at-expression .before .before in
+    let at-after2 = at-refilled .before in
+    let at-after = at-after2 .before in
+    let start = at-after .before .before in
+    line-read _ _ _ _ _ _ (start .pre) (at-after .after .ensures) (at-after2 .after2 .ensures) _ (at-refilled .refilled .ensures _)
+    _ (at-expression .expression .ensures) (not-false _ (at-if1 .if1 .left)) _ (at-after3 .after3 .ensures) _ (c .topped .ensures)
 
 pub line-spec : {M : Type 1} → statement M
 line-spec =
     tie.close
     (tie.spec
-    after-requires
-    after-requires-2
-    refilled-requires
+    (λ c κs. search needs)
+    (λ c κs. search needs)
+    (λ c κs. search needs)
     expression-requires
-    unread-requires
+    (λ c κs. search needs)
     returns
-    after-requires-3
+    (λ c κs. search needs)
     topped-requires
     returns-2)

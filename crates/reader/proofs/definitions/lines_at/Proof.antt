@@ -28,15 +28,13 @@ line-requires c κs =
     let turn = c .before .before in
     line-needs _ (turn .before .before .args .at) _ _ _ _ (turn .loop .ends) (turn .before .before .pre) (turn .loop .inv) (c .before .loop-test .taken)
 
-all-rules-requires : tie.Need-all-rules-requires Inv-loop μ-loop
-all-rules-requires c κs = search needs
-
 returns : tie.Need-returns Inv-loop μ-loop
 returns c =
     let read = c .before .before .before .before in
     let test = read .before .before in
     let turn = test .before in
-    lines-over _ (turn .before .before .args .at) _ _ _ _ (turn .loop .ends) (turn .loop .inv) (test .loop-test .taken) _ (read .line .ensures) (not-true _ (c .before .if1 .taken)) _
+    lines-over _ (turn .before .before .args .at) _ _ _ _ (turn .loop .ends) (turn .loop .inv) (test .loop-test .taken) _
+    (read .line .ensures) (not-true _ (c .before .if1 .taken)) _
 
 cast-ends : tie.Need-cast-ends Inv-loop μ-loop
 cast-ends c =
@@ -45,7 +43,8 @@ cast-ends c =
 
 array-write-ends : tie.Need-array-write-ends Inv-loop μ-loop
 array-write-ends c =
-    let turn = c .before .before .before .before .before .before in
+    let read = c .before .before .before in
+    let turn = read .before .before .before in
     omega (arith, turn .before .before .pre .few)
 
 add-k : tie.Need-add-k Inv-loop μ-loop
@@ -59,10 +58,8 @@ loop-again c =
     let read = c .before .before .before in
     let test = read .before .before in
     let turn = test .before in
-    lines-next _ (turn .before .before .args .at) _ _ _ _ (turn .loop .ends) (turn .loop .inv) (turn .before .before .pre .few) (test .loop-test .taken) _ (read .line .ensures) (not-false _ (c .if1 .left))
-
-all-rules-requires-2 : tie.Need-all-rules-requires-2 Inv-loop μ-loop
-all-rules-requires-2 c κs = search needs
+    lines-next _ (turn .before .before .args .at) _ _ _ _ (turn .loop .ends) (turn .loop .inv) (turn .before .before .pre .few) (test .loop-test .taken) _
+    (read .line .ensures) (not-false _ (c .if1 .left))
 
 returns-2 : tie.Need-returns-2 Inv-loop μ-loop
 returns-2 c =
@@ -79,12 +76,12 @@ lines-at-spec =
     μ-loop
     loop-holds
     line-requires
-    all-rules-requires
+    (λ c κs. search needs)
     returns
     cast-ends
     array-write-ends
     add-k
     loop-less
     loop-again
-    all-rules-requires-2
+    (λ c κs. search needs)
     returns-2)

@@ -5,11 +5,11 @@ use borrow.Author.Needs.{needs}
 use Rattle.reader.proofs.definitions.ruled.Statement.{statement}
 use Rattle.reader.proofs.definitions.ruled.Tie as tie
 
-put-requires : tie.Need-put-requires
-put-requires c κs = search needs
-
 returns : tie.Need-returns
-returns c = ap (λ bs. record { fits = true; at = c .before .before .args .at; rules = record { bytes = bs; next = c .before .before .args .numbering .next; left = c .before .before .args .numbering .left } }) (c .put .ensures)
+returns c =
+    let start = c .before .before in
+    ap (λ bs. record { fits = true; at = start .args .at; rules = record { bytes = bs; next = start .args .numbering .next; left = start .args .numbering .left } })
+    (c .put .ensures)
 
 pub ruled-spec : {M : Type 1} → statement M
-ruled-spec = tie.close (tie.spec put-requires returns)
+ruled-spec = tie.close (tie.spec (λ c κs. search needs) returns)

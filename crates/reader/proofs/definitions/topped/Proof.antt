@@ -7,83 +7,75 @@ use borrow.Author.Needs.{needs}
 use Rattle.reader.proofs.definitions.topped.Statement.{statement}
 use Rattle.reader.proofs.definitions.topped.Tie as tie
 
-enum-known-node : tie.Need-enum-known-node
-enum-known-node c = search needs
-
-unread-requires : tie.Need-unread-requires
-unread-requires c κs = search needs
-
 returns : tie.Need-returns
-returns c = bare-over (part-of (c .before .before .before .before .before .before .args .x) (c .before .before .before .before .before .before .args .rules .now)) _ _ _ _ (c .before .before .before .node .given .1) (c .before .if1 .taken) (c .unread .ensures _)
-
-added-requires : tie.Need-added-requires
-added-requires c κs = search needs
-
-cast-t20 : tie.Need-cast-t20
-cast-t20 c = search needs
-
-ruled-requires : tie.Need-ruled-requires
-ruled-requires c κs = search needs
-
-enum-known-node-2 : tie.Need-enum-known-node-2
-enum-known-node-2 c = search needs
-
-ruled-requires-2 : tie.Need-ruled-requires-2
-ruled-requires-2 c κs = search needs
-
-enum-known-node-3 : tie.Need-enum-known-node-3
-enum-known-node-3 c = search needs
-
-cast-t23 : tie.Need-cast-t23
-cast-t23 c = search needs
+returns c =
+    let at-if1 = c .before in
+    let at-node = at-if1 .before .before in
+    let start = at-node .before .before .before in
+    bare-over (part-of (start .args .x) (start .args .rules .now)) _ _ _ _ (at-node .node .given .1) (at-if1 .if1 .taken)
+    (c .unread .ensures _)
 
 added-requires-2 : tie.Need-added-requires-2
-added-requires-2 c κs = omega (arith, repetition-room (part-of (c .before .before .before .before .before .args .x) (c .before .before .before .before .before .args .rules .now)) _ (c .before .before .node3 .given .1) (c .before .before .before .before .before .pre .1))
+added-requires-2 c κs =
+    let at-node3 = c .before .before in
+    let start = at-node3 .before .before .before in
+    omega (arith, repetition-room (part-of (start .args .x) (start .args .rules .now)) _ (at-node3 .node3 .given .1) (start .pre .1))
 
 added-requires-3 : tie.Need-added-requires-3
-added-requires-3 c κs = omega (arith, repetition-room (part-of (c .before .before .before .before .before .before .before .args .x) (c .before .before .before .before .before .before .before .args .rules .now)) _ (c .before .before .before .before .node3 .given .1) (c .before .before .before .before .before .before .before .pre .1), advanced-next _ _ _ _ (c .before .added2 .ensures))
-
-add-second : tie.Need-add-second
-add-second c = search needs
-
-cast-t23-2 : tie.Need-cast-t23-2
-cast-t23-2 c = search needs
-
-cast-t27 : tie.Need-cast-t27
-cast-t27 c = search needs
-
-ruled-requires-3 : tie.Need-ruled-requires-3
-ruled-requires-3 c κs = search needs
+added-requires-3 c κs =
+    let at-added2 = c .before in
+    let at-node3 = at-added2 .before .before .before in
+    let start = at-node3 .before .before .before in
+    omega (
+      arith,
+      repetition-room (part-of (start .args .x) (start .args .rules .now)) _ (at-node3 .node3 .given .1) (start .pre .1),
+      advanced-next _ _ _ _ (at-added2 .added2 .ensures),
+    )
 
 returns-2 : tie.Need-returns-2
-returns-2 c = bare-fits (part-of (c .before .before .before .before .before .before .before .before .before .args .x) (c .before .before .before .before .before .before .before .before .before .args .rules .now)) _ _ _ _ _ (c .before .before .before .before .before .before .node .given .1) (c .before .before .before .before .if1 .left) (c .before .before .added .ensures) (c .ruled .ensures)
+returns-2 c =
+    let at-added = c .before .before in
+    let at-if1 = at-added .before .before in
+    let at-node = at-if1 .before .before in
+    let start = at-node .before .before .before in
+    bare-fits (part-of (start .args .x) (start .args .rules .now)) _ _ _ _ _ (at-node .node .given .1) (at-if1 .if1 .left)
+    (at-added .added .ensures) (c .ruled .ensures)
 
 returns-3 : tie.Need-returns-3
-returns-3 c = operator-top (part-of (c .before .before .before .before .before .before .args .x) (c .before .before .before .before .before .before .args .rules .now)) _ _ _ _ (c .before .before .before .node2 .given .1) (c .ruled2 .ensures)
+returns-3 c =
+    let at-node2 = c .before .before .before in
+    let start = at-node2 .before .before .before in
+    operator-top (part-of (start .args .x) (start .args .rules .now)) _ _ _ _ (at-node2 .node2 .given .1) (c .ruled2 .ensures)
 
 returns-4 : tie.Need-returns-4
-returns-4 c = repetition-top (part-of (c .before .before .before .before .before .before .before .before .before .before .args .x) (c .before .before .before .before .before .before .before .before .before .before .args .rules .now)) _ _ _ _ _ _ (c .before .before .before .before .before .before .before .node3 .given .1) (c .before .before .before .before .added2 .ensures) (c .before .before .added3 .ensures) (c .ruled3 .ensures)
+returns-4 c =
+    let at-added3 = c .before .before in
+    let at-added2 = at-added3 .before .before in
+    let at-node3 = at-added2 .before .before .before in
+    let start = at-node3 .before .before .before in
+    repetition-top (part-of (start .args .x) (start .args .rules .now)) _ _ _ _ _ _ (at-node3 .node3 .given .1)
+    (at-added2 .added2 .ensures) (at-added3 .added3 .ensures) (c .ruled3 .ensures)
 
 pub topped-spec : {M : Type 1} → statement M
 topped-spec =
     tie.close
     (tie.spec
-    enum-known-node
-    unread-requires
+    (λ c. search needs)
+    (λ c κs. search needs)
     returns
-    added-requires
-    cast-t20
-    ruled-requires
-    enum-known-node-2
-    ruled-requires-2
-    enum-known-node-3
-    cast-t23
+    (λ c κs. search needs)
+    (λ c. search needs)
+    (λ c κs. search needs)
+    (λ c. search needs)
+    (λ c κs. search needs)
+    (λ c. search needs)
+    (λ c. search needs)
     added-requires-2
     added-requires-3
-    add-second
-    cast-t23-2
-    cast-t27
-    ruled-requires-3
+    (λ c. search needs)
+    (λ c. search needs)
+    (λ c. search needs)
+    (λ c κs. search needs)
     returns-2
     returns-3
     returns-4)

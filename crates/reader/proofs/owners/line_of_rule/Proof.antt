@@ -21,9 +21,6 @@ loop-holds c = owner-start _ (c .before .args .t2) _ (c .if1 .left)
 array-read-next : tie.Need-array-read-next Inv-loop μ-loop
 array-read-next c = omega (arith, c .before .before .before .pre)
 
-cast-next : tie.Need-cast-next Inv-loop μ-loop
-cast-next c = search needs
-
 returns-2 : tie.Need-returns-2 Inv-loop μ-loop
 returns-2 c =
     let test = c .before in
@@ -54,7 +51,7 @@ line-of-rule-spec =
     returns
     loop-holds
     array-read-next
-    cast-next
+    (λ c. search needs)
     returns-2
     add-k
     loop-less

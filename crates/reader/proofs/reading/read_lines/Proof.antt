@@ -6,38 +6,50 @@ use borrow.Author.Needs.{needs}
 use Rattle.reader.proofs.reading.read_lines.Statement.{statement}
 use Rattle.reader.proofs.reading.read_lines.Tie as tie
 
-check-text-requires : tie.Need-check-text-requires
-check-text-requires c κs = search needs
-
-refused-requires : tie.Need-refused-requires
-refused-requires c κs = search needs
-
 returns : tie.Need-returns
 returns c = read-fault _ _ _ (c .before .before .before .before .check-text .ensures) (c .before .if1 .taken) (c .refused .ensures)
 
 undefined-of-requires : tie.Need-undefined-of-requires
 undefined-of-requires c κs = c .before .before .before .check-text .ensures .counted (c .if1 .left)
 
-refused-requires-2 : tie.Need-refused-requires-2
-refused-requires-2 c κs = search needs
-
 returns-2 : tie.Need-returns-2
-returns-2 c = read-undefined _ _ (c .before .before .before .before .before .before .before .check-text .ensures) (c .before .before .before .before .if1 .left) _ (c .before .before .before .undefined-of .ensures) _ (c .before .if2 .taken) (c .refused2 .ensures)
-
-refused-requires-3 : tie.Need-refused-requires-3
-refused-requires-3 c κs = search needs
+returns-2 c =
+    let at-if2 = c .before in
+    let at-undefined-of = at-if2 .before .before in
+    let at-if1 = at-undefined-of .before in
+    let at-check-text = at-if1 .before .before .before in
+    read-undefined _ _ (at-check-text .check-text .ensures) (at-if1 .if1 .left) _ (at-undefined-of .undefined-of .ensures)
+    _ (at-if2 .if2 .taken) (c .refused2 .ensures)
 
 returns-3 : tie.Need-returns-3
-returns-3 c = read-many-lines _ _ (c .before .before .before .before .before .before .before .before .before .check-text .ensures) (c .before .before .before .before .before .before .if1 .left) _ (c .before .before .before .before .before .undefined-of .ensures) (c .before .before .before .if2 .left) (c .before .if3 .taken) _ (c .refused3 .ensures)
+returns-3 c =
+    let at-if3 = c .before in
+    let at-if2 = at-if3 .before .before in
+    let at-undefined-of = at-if2 .before .before in
+    let at-if1 = at-undefined-of .before in
+    let at-check-text = at-if1 .before .before .before in
+    read-many-lines _ _ (at-check-text .check-text .ensures) (at-if1 .if1 .left) _ (at-undefined-of .undefined-of .ensures)
+    (at-if2 .if2 .left) (at-if3 .if3 .taken) _ (c .refused3 .ensures)
 
 lines-of-requires : tie.Need-lines-of-requires
-lines-of-requires c κs = read-room _ _ (c .before .before .before .before .before .before .before .before .check-text .ensures) (c .before .before .before .before .before .if1 .left) _ (c .before .before .before .before .undefined-of .ensures) (c .before .before .if2 .left) (c .if3 .left)
-
-refused-requires-4 : tie.Need-refused-requires-4
-refused-requires-4 c κs = search needs
+lines-of-requires c κs =
+    let at-if2 = c .before .before in
+    let at-undefined-of = at-if2 .before .before in
+    let at-if1 = at-undefined-of .before in
+    let at-check-text = at-if1 .before .before .before in
+    read-room _ _ (at-check-text .check-text .ensures) (at-if1 .if1 .left) _ (at-undefined-of .undefined-of .ensures)
+    (at-if2 .if2 .left) (c .if3 .left)
 
 returns-4 : tie.Need-returns-4
-returns-4 c = read-many-rules _ _ (c .before .before .before .before .before .before .before .before .before .before .before .before .check-text .ensures) (c .before .before .before .before .before .before .before .before .before .if1 .left) _ (c .before .before .before .before .before .before .before .before .undefined-of .ensures) (c .before .before .before .before .before .before .if2 .left) _ (c .before .before .before .lines-of .ensures) (not-true _ (c .before .if4 .taken)) _ (c .refused4 .ensures)
+returns-4 c =
+    let at-if4 = c .before in
+    let at-lines-of = at-if4 .before .before in
+    let at-if2 = at-lines-of .before .before .before in
+    let at-undefined-of = at-if2 .before .before in
+    let at-if1 = at-undefined-of .before in
+    let at-check-text = at-if1 .before .before .before in
+    read-many-rules _ _ (at-check-text .check-text .ensures) (at-if1 .if1 .left) _ (at-undefined-of .undefined-of .ensures)
+    (at-if2 .if2 .left) _ (at-lines-of .lines-of .ensures) (not-true _ (at-if4 .if4 .taken)) _ (c .refused4 .ensures)
 
 mul-t14 : tie.Need-mul-t14
 mul-t14 c =
@@ -46,7 +58,11 @@ mul-t14 c =
     let defined = read .before .before .before in
     let undefined = defined .before .before in
     let checked = undefined .before .before .before .before in
-    omega (arith, read-next _ _ (checked .check-text .ensures) (undefined .before .if1 .left) _ (undefined .undefined-of .ensures) (defined .if2 .left) _ (read .lines-of .ensures) (not-false _ (fits .if4 .left)))
+    omega (
+      arith,
+      read-next _ _ (checked .check-text .ensures) (undefined .before .if1 .left) _ (undefined .undefined-of .ensures) (defined .if2 .left) _
+          (read .lines-of .ensures) (not-false _ (fits .if4 .left)),
+    )
 
 returns-5 : tie.Need-returns-5
 returns-5 c =
@@ -55,22 +71,23 @@ returns-5 c =
     let defined = read .before .before .before in
     let undefined = defined .before .before in
     let checked = undefined .before .before .before .before in
-    read-grammar _ _ (checked .check-text .ensures) (undefined .before .if1 .left) _ (undefined .undefined-of .ensures) (defined .if2 .left) _ (read .lines-of .ensures) (not-false _ (fits .if4 .left))
+    read-grammar _ _ (checked .check-text .ensures) (undefined .before .if1 .left) _ (undefined .undefined-of .ensures) (defined .if2 .left) _
+    (read .lines-of .ensures) (not-false _ (fits .if4 .left))
 
 pub read-lines-spec : {M : Type 1} → statement M
 read-lines-spec =
     tie.close
     (tie.spec
-    check-text-requires
-    refused-requires
+    (λ c κs. search needs)
+    (λ c κs. search needs)
     returns
     undefined-of-requires
-    refused-requires-2
+    (λ c κs. search needs)
     returns-2
-    refused-requires-3
+    (λ c κs. search needs)
     returns-3
     lines-of-requires
-    refused-requires-4
+    (λ c κs. search needs)
     returns-4
     mul-t14
     returns-5)
