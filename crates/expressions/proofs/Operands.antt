@@ -19,7 +19,7 @@ use Rattle.syntax.specs.Needs.{need, prefix-need, suffix-need}
 use Rattle.syntax.specs.Compile.{repetition-rules, own-rules, owed}
 use Rattle.expressions.specs.declared.Rules.{Rules}
 use Rattle.expressions.specs.code.Building.{advanced}
-use Rattle.expressions.specs.code.Operators.{Part, over, part, Prefix-room, placed-rules, placed-number, prefix-by, prefix-made, suffix-made, suffix-done}
+use Rattle.expressions.specs.code.Operators.{Part, over, Prefix-room, placed-rules, placed-number, prefix-by, prefix-made, suffix-made, suffix-done}
 use Rattle.scanner.specs.code.Scanning.{tokens-at}
 use Rattle.expressions.specs.code.Levels.{by-sign, suffix-sign, is-suffix, Stops, Reads-to, Part-right, Level-right, suffixed-all, suffix-tokens, Suffixes-right, Room, Spent}
 use Rattle.expressions.proofs.Lookings.{clash}

@@ -2,7 +2,7 @@
 use mathlib.Core.Path.{_≡_, refl, sym, ap, subst, _∙_}
 use mathlib.Core.Bool.{Bool, true, false, cond}
 use mathlib.Core.List.{List, [], _∷_, _++_}
-use Prim.Native.Nat.{ℕ, suc, _+_, _-_, _*_, _<_, _≤_}
+use Prim.Native.Nat.{ℕ, suc, _+_, _-_, _<_, _≤_}
 use native.Mathlib.Omega.{arith}
 use lib.Dec.{leb, eqb}
 use lib.ListN.{length, length-append}
@@ -24,7 +24,7 @@ use Rattle.expressions.specs.code.Building.{rule-put, put-rules, advanced, plac
 use Rattle.expressions.specs.code.Operators.{Part, Part-room}
 use Rattle.scanner.specs.code.Scanning.{tokens-at}
 use Rattle.expressions.specs.code.Levels.{Room, Passes, Part-right, Spent, Level-read, Reads-to}
-use Rattle.reader.specs.code.Lines.{LineRead, with-left, line-with, topped-by, topped, Line-room, Line-done, Line-read}
+use Rattle.reader.specs.code.Lines.{Passes-two, LineRead, with-left, line-with, topped-by, topped, Line-room, Line-done, Line-read}
 use Rattle.expressions.proofs.Emitting.{advanced-on, advanced-none, advanced-next}
 use Rattle.expressions.proofs.Deriving.{semicolon-stops}
 use Rattle.expressions.proofs.Descending.{unfit, fit}
@@ -170,10 +170,10 @@ topped-room x k at room f =
     omega (arith, h, n)
 
 -- WHAT THE FUNCTION ANSWERS, from its callees' answers: the name and the = are passed, the expression is read, and then the semicolon is passed
-module _ (text : List ℕ) (at k equals from : ℕ) (before : Rules) (room : Line-room text k before) (first : Passes text at equals) (second : Passes text equals from)
+module _ (text : List ℕ) (at k from : ℕ) (before : Rules) (room : Line-room text k before) (passed : Passes-two text at from)
     (ready : Rules) (filled : ready ≡ with-left before) (x : Part) (read : Level-read choices text from max-depth ready x) where
   from-body : (n : List ℕ) (ts : List Token) → tokens-at text at ≡ name n ∷ sign Equals ∷ ts → ts ≡ tokens-at text from
-  from-body n ts e = sym (second (sign Equals) ts (first (name n) (sign Equals ∷ ts) e))
+  from-body n ts e = sym (passed (name n) (sign Equals) ts e)
 
   body-read :
       (n : List ℕ) (ts us : List Token) (e : Tree) → tokens-at text at ≡ name n ∷ sign Equals ∷ ts → Derives choices max-depth ts e (sign Semicolon ∷ us) →

@@ -1,8 +1,8 @@
-// A cursor in a text: the text that was lent, and how far it has been read.
-use crate::Lines;
-use crate::definitions::lines_at;
+// A reader of a text: the text that was lent, and how far it has been read. It goes from a line's name to its expression.
+use expressions::descent::after;
 ghost use mathlib.Core.Path.{_≡_};
-ghost use Rattle.reader.specs.code.Lines.{Lines-room, Lines-read};
+ghost use Rattle.expressions.specs.code.Levels.{Passes};
+ghost use Rattle.reader.specs.code.Lines.{Passes-two};
 
 // The text that was lent, and how far it has been read.
 pub struct Reader<'a> {
@@ -10,25 +10,25 @@ pub struct Reader<'a> {
     pub at: usize,
 }
 
-// A text that was lent, of which nothing has been read.
-pub fn new<'a>(text: &'a [u8]) -> Reader<'a>
-    ensures { λ r. ⌜ (r .text ≡ text .entry) × (r .at ≡ 0) ⌝ }
+// A text that was lent, read up to a place.
+pub fn new<'a>(text: &'a [u8], at: usize) -> Reader<'a>
+    ensures { λ r. ⌜ (r .text ≡ text .entry) × (r .at ≡ at) ⌝ }
 {
-    Reader { text, at: 0 }
+    Reader { text, at }
 }
 
-// The lines from where the text has been read to.
-pub fn lines<'a>(r: Reader<'a>, count: usize) -> Lines
-    requires { ⌜ Lines-room (now (r .text)) count ⌝ }
-    ensures { λ s. ⌜ Lines-read (now (r .entry .text)) (r .entry .at) count s ⌝ }
+// The same text, read past one lexeme more.
+pub fn passed<'a>(r: Reader<'a>) -> Reader<'a>
+    ensures { λ q. ⌜ (q .text ≡ r .entry .text) × Passes (now (r .entry .text)) (r .entry .at) (q .at) ⌝ }
 {
-    lines_at(r.text, r.at, count)
+    let at = after(r.text, r.at);
+    Reader { text: r.text, at }
 }
 
-// The lines of a whole text.
-pub fn lines_of(text: &[u8], count: usize) -> Lines
-    requires { ⌜ Lines-room (now text) count ⌝ }
-    ensures { λ s. ⌜ Lines-read (now (text .entry)) 0 count s ⌝ }
+// Where the expression of the line at a place begins: past the line's name and the equals sign.
+pub fn body_at(text: &[u8], at: usize) -> usize
+    ensures { λ r. ⌜ Passes-two (now (text .entry)) at r ⌝ }
 {
-    lines(new(text), count)
+    let body = passed(passed(new(text, at)));
+    body.at
 }

@@ -2,6 +2,7 @@
 use crate::LineRead;
 use crate::Lines;
 use crate::MAX_RULES;
+use crate::cursor::body_at;
 use expressions::Numbering;
 use expressions::Part;
 use expressions::Rules;
@@ -99,8 +100,7 @@ fn line(text: &[u8], at: usize, k: usize, numbering: Numbering, rules: &mut [u8;
     requires { ⌜ Line-room (now text) k (rules-of (now rules) numbering) ⌝ }
     ensures { λ r. ⌜ Line-read (now (text .entry)) at k (rules-of (now (rules .entry)) numbering) (line-of r (now (rules .exit))) ⌝ }
 {
-    let equals = after(text, at);
-    let body = after(text, equals);
+    let body = body_at(text, at);
     let x = expression(text, body, CHOICES, MAX_DEPTH, refilled(numbering), rules);
     if !x.fits {
         return unread(numbering, at);

@@ -2,7 +2,7 @@
 use crate::MAX_RULES;
 use crate::ReadGrammar;
 use crate::ReadText;
-use crate::cursor::lines_of;
+use crate::definitions::lines_at;
 use grammar::check::RULE_BYTES;
 use refusal::Refusal;
 use scanner::faults::check_text;
@@ -44,7 +44,7 @@ pub fn read_lines(text: &[u8]) -> ReadText
     if MAX_RULES < check.lines {
         return refused(16, text.len());
     }
-    let lines = lines_of(text, check.lines);
+    let lines = lines_at(text, 0, check.lines);
     if !lines.fits {
         return refused(16, text.len());
     }

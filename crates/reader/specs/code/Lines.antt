@@ -43,6 +43,10 @@ with-left r = record { bytes = r .bytes; next = r .next; left = suc max-rules - 
 abbrev pub line-with : (at : ℕ) → Rules → LineRead
 line-with i r = record { fits = true; at = i; rules = r }
 
+-- the place after the first two tokens from a place on
+abbrev pub Passes-two : (text : List ℕ) → (at to : ℕ) → Type 0
+Passes-two text i j = (t u : Token) (us : List Token) → tokens-at text i ≡ t ∷ u ∷ us → tokens-at text j ≡ us
+
 -- a line's own rule at its number k, and the helper rules that it needs besides
 unfoldable pub topped-by : Node → Rules → (k at : ℕ) → LineRead
 topped-by (Numbered i) r k at =

@@ -13,7 +13,7 @@ use Rattle.reader.proofs.definitions.line.Tie as tie
 expression-requires : tie.Need-expression-requires
 expression-requires c κs =
     let at-refilled = c .before in
-    let start = at-refilled .before .before .before .before in
+    let start = at-refilled .before .before .before in
     (omega arith, line-ready _ _ _ _ (start .pre) (at-refilled .refilled .ensures _))
 
 returns : tie.Need-returns
@@ -22,10 +22,9 @@ returns c =
     let at-if1 = c .before in
     let at-expression = at-if1 .before .before in
     let at-refilled = at-expression .before .before in
-    let at-after2 = at-refilled .before in
-    let at-after = at-after2 .before in
-    let start = at-after .before .before in
-    line-over _ _ _ _ _ _ (start .pre) (at-after .after .ensures) (at-after2 .after2 .ensures) _ (at-refilled .refilled .ensures _)
+    let at-body = at-refilled .before in
+    let start = at-body .before .before in
+    line-over _ _ _ _ _ (start .pre) (at-body .body-at .ensures) _ (at-refilled .refilled .ensures _)
     _ (at-expression .expression .ensures) (not-true _ (at-if1 .if1 .taken)) _ (ap (λ (y : LineRead). y .fits) (c .unread .ensures []))
 
 topped-requires : tie.Need-topped-requires
@@ -33,27 +32,27 @@ topped-requires c κs =
     let at-if1 = c .before .before in
     let at-expression = at-if1 .before .before in
     let at-refilled = at-expression .before .before in
-    let start = at-refilled .before .before .before .before in
-    (start .pre .below, line-part _ _ _ _ _ (start .pre) (at-refilled .refilled .ensures _) (at-expression .expression .ensures .spent (not-false _ (at-if1 .if1 .left))))
+    let start = at-refilled .before .before .before in (
+      start .pre .below,
+      line-part _ _ _ _ _ (start .pre) (at-refilled .refilled .ensures _) (at-expression .expression .ensures .spent (not-false _ (at-if1 .if1 .left))),
+    )
 
 returns-2 : tie.Need-returns-2
 unfolding level-of
 returns-2 c =
-    let at-after3 = c .before .before in
-    let at-if1 = at-after3 .before in
+    let at-after = c .before .before in
+    let at-if1 = at-after .before in
     let at-expression = at-if1 .before .before in
     let at-refilled = at-expression .before .before in
-    let at-after2 = at-refilled .before in
-    let at-after = at-after2 .before in
-    let start = at-after .before .before in
-    line-read _ _ _ _ _ _ (start .pre) (at-after .after .ensures) (at-after2 .after2 .ensures) _ (at-refilled .refilled .ensures _)
-    _ (at-expression .expression .ensures) (not-false _ (at-if1 .if1 .left)) _ (at-after3 .after3 .ensures) _ (c .topped .ensures)
+    let at-body = at-refilled .before in
+    let start = at-body .before .before in
+    line-read _ _ _ _ _ (start .pre) (at-body .body-at .ensures) _ (at-refilled .refilled .ensures _)
+    _ (at-expression .expression .ensures) (not-false _ (at-if1 .if1 .left)) _ (at-after .after .ensures) _ (c .topped .ensures)
 
 pub line-spec : {M : Type 1} → statement M
 line-spec =
     tie.close
     (tie.spec
-    (λ c κs. search needs)
     (λ c κs. search needs)
     (λ c κs. search needs)
     expression-requires

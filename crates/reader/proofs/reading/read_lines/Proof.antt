@@ -31,8 +31,8 @@ returns-3 c =
     read-many-lines _ _ (at-check-text .check-text .ensures) (at-if1 .if1 .left) _ (at-undefined-of .undefined-of .ensures)
     (at-if2 .if2 .left) (at-if3 .if3 .taken) _ (c .refused3 .ensures)
 
-lines-of-requires : tie.Need-lines-of-requires
-lines-of-requires c κs =
+lines-at-requires : tie.Need-lines-at-requires
+lines-at-requires c κs =
     let at-if2 = c .before .before in
     let at-undefined-of = at-if2 .before .before in
     let at-if1 = at-undefined-of .before in
@@ -43,13 +43,13 @@ lines-of-requires c κs =
 returns-4 : tie.Need-returns-4
 returns-4 c =
     let at-if4 = c .before in
-    let at-lines-of = at-if4 .before .before in
-    let at-if2 = at-lines-of .before .before .before in
+    let at-lines-at = at-if4 .before .before in
+    let at-if2 = at-lines-at .before .before .before in
     let at-undefined-of = at-if2 .before .before in
     let at-if1 = at-undefined-of .before in
     let at-check-text = at-if1 .before .before .before in
     read-many-rules _ _ (at-check-text .check-text .ensures) (at-if1 .if1 .left) _ (at-undefined-of .undefined-of .ensures)
-    (at-if2 .if2 .left) _ (at-lines-of .lines-of .ensures) (not-true _ (at-if4 .if4 .taken)) _ (c .refused4 .ensures)
+    (at-if2 .if2 .left) _ (at-lines-at .lines-at .ensures) (not-true _ (at-if4 .if4 .taken)) _ (c .refused4 .ensures)
 
 mul-t14 : tie.Need-mul-t14
 mul-t14 c =
@@ -61,7 +61,7 @@ mul-t14 c =
     omega (
       arith,
       read-next _ _ (checked .check-text .ensures) (undefined .before .if1 .left) _ (undefined .undefined-of .ensures) (defined .if2 .left) _
-          (read .lines-of .ensures) (not-false _ (fits .if4 .left)),
+          (read .lines-at .ensures) (not-false _ (fits .if4 .left)),
     )
 
 returns-5 : tie.Need-returns-5
@@ -72,7 +72,7 @@ returns-5 c =
     let undefined = defined .before .before in
     let checked = undefined .before .before .before .before in
     read-grammar _ _ (checked .check-text .ensures) (undefined .before .if1 .left) _ (undefined .undefined-of .ensures) (defined .if2 .left) _
-    (read .lines-of .ensures) (not-false _ (fits .if4 .left))
+    (read .lines-at .ensures) (not-false _ (fits .if4 .left))
 
 pub read-lines-spec : {M : Type 1} → statement M
 read-lines-spec =
@@ -86,7 +86,7 @@ read-lines-spec =
     returns-2
     (λ c κs. search needs)
     returns-3
-    lines-of-requires
+    lines-at-requires
     (λ c κs. search needs)
     returns-4
     mul-t14
