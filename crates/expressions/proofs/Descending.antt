@@ -15,7 +15,7 @@ use Rattle.syntax.specs.Trees.{Tree, Level, Derives}
 use Rattle.syntax.specs.Needs.{need}
 use Rattle.syntax.specs.Compile.{own-rules, compile, place, owed}
 use Rattle.syntax.specs.code.Heads.{heads}
-use Rattle.syntax.proofs.Counting.{compiled-need, placed-need}
+use Rattle.syntax.proofs.Counting.{placed-need}
 use Rattle.expressions.specs.declared.Rules.{Rules}
 use Rattle.expressions.specs.code.Building.{advanced}
 use Rattle.expressions.specs.code.Operators.{Begun, Part, part, placed-rules, placed-number, begun-of}
@@ -41,19 +41,6 @@ fit text before e us r p f = leb-true _ _ (sym (p .fits) ∙ f)
 
 pub read-left : (text : List ℕ) (before : Rules) (e : Tree) (us : List Token) (r : Part) → Reads-to text before e us r → r .rules .left ≡ before .left - need e
 read-left text before e us r reads = advanced-left _ _ _ _ (reads .rules)
-
--- THE ROOM after an expression: what is owed to it was taken from what was left
-pub read-room :
-    (text : List ℕ) (before : Rules) (e : Tree) (us : List Token) (r : Part) → Reads-to text before e us r → need e ≤ before .left →
-    r .rules .next + r .rules .left + owed (r .node) ≡ before .next + before .left
-read-room text before e us r reads le =
-    let o : owed (r .node) ≡ owed (compile (heads text) e (before .next) .node) = ap owed (reads .node) in
-    omega (
-      arith,
-      advanced-next _ _ _ _ (reads .rules),
-      advanced-left _ _ _ _ (reads .rules),
-      compiled-need (heads text) e (before .next),
-    )
 
 -- THE FIRST PART OF TWO
 pub begun-false : (x : Part) (h : Begun) → h ≡ begun-of x → h .fits ≡ false → x .rules .left ≡ 0

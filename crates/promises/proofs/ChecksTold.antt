@@ -10,7 +10,7 @@ use lib.ListN.{length, getD}
 use borrow.Author.Tests.{eq-eqb, ne-eqb}
 use Rattle.refusal.specs.declared.Refusal.{Refusal}
 use Rattle.refusal.specs.declared.Checked.the-variants.{Good, Refused}
-use Rattle.refusal.specs.First.{refusal, no-refusal}
+use Rattle.refusal.specs.First.{no-refusal}
 use Rattle.refusal.specs.Checking.{checked}
 use Rattle.machine.specs.declared.Reply.{Reply}
 use Rattle.machine.specs.Run.{how-many}

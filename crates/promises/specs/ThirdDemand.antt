@@ -9,7 +9,6 @@ use Rattle.machine.specs.declared.Verdict.{Verdict}
 use Rattle.image.specs.Format
 use Rattle.machine.specs.Run.{Machine, Valid-config, Entry, start, after, number, how-many}
 use Rattle.codec.specs.Bytes.{Bytes}
-use Rattle.codec.specs.Numbers.{u32-at}
 use Rattle.image.specs.Image.{machine}
 use Rattle.machine.specs.Verdicts.{Entered, over-base, Ends-with, Ends-at, Noted, nonzero, All-entered, note-of, Note-right}
 use Rattle.machine.specs.Removal.{Removed, Note-tells}

@@ -30,9 +30,6 @@ use Rattle.expressions.proofs.Deriving.{semicolon-stops}
 use Rattle.expressions.proofs.Descending.{unfit, fit}
 use Rattle.expressions.proofs.Lookings.{clash}
 
-pub line-same : (at : ℕ) (r s : Rules) → r ≡ s → line-with at r ≡ line-with at s
-line-same at r s e = ap (λ (x : Rules). line-with at x) e
-
 -- THE TOP RULE, by cases
 pub bare-over : (x : Part) (k at i : ℕ) (r : LineRead) → x .node ≡ Numbered i → max-rules ≤ x .rules .next → r ≡ record { fits = false; at = at; rules = x .rules } → r ≡ topped x k at
 unfolding topped-by

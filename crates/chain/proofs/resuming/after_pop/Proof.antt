@@ -17,8 +17,15 @@ registers-of-requires c κs = search needs
 
 returns : tie.Need-returns
 returns c =
-    let back4 = c .before .before .before .before in
-    simp (eq-eqb _ _ (c .before .before .before .if1 .taken), sym (c .before .before .accepts .ensures), sym (c .before .termination-verdict .ensures), sym (back4 .before .before .before .pre .terminator .is)) (c .registers-of .ensures)
+    let none-open = c .before .before .before in
+    let at-entry = none-open .before .before .before .before in
+    simp (
+      eq-eqb _ _ (none-open .if1 .taken),
+      sym (c .before .before .accepts .ensures),
+      sym (c .before .termination-verdict .ensures),
+      sym (at-entry .pre .terminator .is),
+    )
+    (c .registers-of .ensures)
 
 sub-j : tie.Need-sub-j
 sub-j c = search needs
