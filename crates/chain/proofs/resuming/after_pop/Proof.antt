@@ -6,29 +6,18 @@ use borrow.Author.Needs.{needs}
 use Rattle.chain.proofs.resuming.after_pop.Statement.{statement}
 use Rattle.chain.proofs.resuming.after_pop.Tie as tie
 
-accepts-requires : tie.Need-accepts-requires
-accepts-requires c κs = search needs
-
-termination-verdict-requires : tie.Need-termination-verdict-requires
-termination-verdict-requires c κs = search needs
-
-registers-of-requires : tie.Need-registers-of-requires
-registers-of-requires c κs = search needs
-
 returns : tie.Need-returns
 returns c =
-    let none-open = c .before .before .before in
-    let at-entry = none-open .before .before .before .before in
+    let accepted = c .before .before in
+    let test = accepted .before in
+    let start = test .before .before .before .before in
     simp (
-      eq-eqb _ _ (none-open .if1 .taken),
-      sym (c .before .before .accepts .ensures),
+      eq-eqb _ _ (test .if1 .taken),
+      sym (accepted .accepts .ensures),
       sym (c .before .termination-verdict .ensures),
-      sym (at-entry .pre .terminator .is),
+      sym (start .pre .terminator .is),
     )
     (c .registers-of .ensures)
-
-sub-j : tie.Need-sub-j
-sub-j c = search needs
 
 mul-i : tie.Need-mul-i
 mul-i c = search (needs, newest-open (c .before .before .before .before .pre) (c .if1 .left) .work-there)
@@ -53,16 +42,10 @@ shared-slice-read-symbol-told c =
     let back4 = c .before .before .before .before in
     newest-open (back4 .before .before .pre) (c .before .before .if1 .left) .note-there
 
-symbol-told-requires : tie.Need-symbol-told-requires
-symbol-told-requires c κs = search needs
-
 in-row-requires : tie.Need-in-row-requires
 in-row-requires c κs =
     let back4 = c .before .before .before .before in
     resumed-fits (back4 .before .before .before .pre) (c .before .before .before .if1 .left) (c .symbol-told .ensures)
-
-registers-of-requires-2 : tie.Need-registers-of-requires-2
-registers-of-requires-2 c κs = search needs
 
 returns-2 : tie.Need-returns-2
 returns-2 c =
@@ -75,17 +58,17 @@ pub after-pop-spec : {M : Type 1} → statement M
 after-pop-spec =
     tie.close
     (tie.spec
-    accepts-requires
-    termination-verdict-requires
-    registers-of-requires
+    (λ c κs. search needs)
+    (λ c κs. search needs)
+    (λ c κs. search needs)
     returns
-    sub-j
+    (λ c. search needs)
     mul-i
     shared-slice-read-i
     cast-i
     mul-symbol-told
     shared-slice-read-symbol-told
-    symbol-told-requires
+    (λ c κs. search needs)
     in-row-requires
-    registers-of-requires-2
+    (λ c κs. search needs)
     returns-2)

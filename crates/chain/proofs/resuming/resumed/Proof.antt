@@ -5,27 +5,6 @@ use borrow.Author.Needs.{needs}
 use Rattle.chain.proofs.resuming.resumed.Statement.{statement}
 use Rattle.chain.proofs.resuming.resumed.Tie as tie
 
-enum-told : tie.Need-enum-told
-enum-told c = search needs
-
-unmoved-requires : tie.Need-unmoved-requires
-unmoved-requires c κs = search needs
-
-enum-told-2 : tie.Need-enum-told-2
-enum-told-2 c = search needs
-
-unmoved-requires-2 : tie.Need-unmoved-requires-2
-unmoved-requires-2 c κs = search needs
-
-enum-told-3 : tie.Need-enum-told-3
-enum-told-3 c = search needs
-
-unmoved-requires-3 : tie.Need-unmoved-requires-3
-unmoved-requires-3 c κs = search needs
-
-enum-known-action : tie.Need-enum-known-action
-enum-known-action c = search needs
-
 mul-row : tie.Need-mul-row
 mul-row c =
     let back4 = c .before .before .before .before in
@@ -41,9 +20,6 @@ unfolding Step.resumed
 returns c =
     let back4 = c .before .before .before .before in
     rw (back4 .before .action .given .1, c .before .before .if1 .taken) (c .after-pop .ensures)
-
-row-of-requires : tie.Need-row-of-requires
-row-of-requires c κs = search needs
 
 after-pop-requires-2 : tie.Need-after-pop-requires-2
 after-pop-requires-2 c κs =
@@ -72,17 +48,17 @@ pub resumed-spec : {M : Type 1} → statement M
 resumed-spec =
     tie.close
     (tie.spec
-    enum-told
-    unmoved-requires
-    enum-told-2
-    unmoved-requires-2
-    enum-told-3
-    unmoved-requires-3
-    enum-known-action
+    (λ c. search needs)
+    (λ c κs. search needs)
+    (λ c. search needs)
+    (λ c κs. search needs)
+    (λ c. search needs)
+    (λ c κs. search needs)
+    (λ c. search needs)
     mul-row
     after-pop-requires
     returns
-    row-of-requires
+    (λ c κs. search needs)
     after-pop-requires-2
     returns-2
     returns-3
