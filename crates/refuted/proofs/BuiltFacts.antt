@@ -2,7 +2,7 @@
 use mathlib.Core.Path.{_≡_, refl}
 use mathlib.Core.List.{List, [], _∷_, _++_}
 use Prim.Native.Nat.{ℕ}
-use lib.ListN.{take, replicate}
+use lib.ListN.{replicate}
 use Rattle.machine.specs.Run.{start}
 use Rattle.codec.specs.Numbers.{number-at, little-endian, pair-bytes}
 use Rattle.image.specs.Format
@@ -15,7 +15,7 @@ use Rattle.simulator.specs.Calls.{cells-needed, judge-refusal, Judge-as, Judge-
 use Rattle.interpreter.specs.PlainRun.{run-on}
 use Rattle.interpreter.specs.Calls.{run-refusal, answer, Run-as, Run-says}
 use Rattle.grammar.specs.Grammar as Grammar
-use Rattle.builder.specs.declared.Matching.the-variants.{Whole, Leading}
+use Rattle.builder.specs.declared.Matching.the-variants.{Whole}
 use Rattle.builder.specs.declared.Built.the-variants.{Image}
 use Rattle.builder.specs.Classes.{cuts-at, cut-from, cut, class-of, class-count, class-in}
 use Rattle.builder.specs.Table.{no-rule, rows, by-state, select, on-byte, row-zero, class-inside, rows-at, made, state-ok}
@@ -34,8 +34,6 @@ computed :
     × Build-says Whole empty-grammar (Image 468) (replicate 469 0) longer-buffer
     × (judge-refusal longer-buffer [] 30 30 ≡ refusal 2 Format.rules-pair)
     × (run-refusal (built Whole empty-grammar) [] 2 .number ≡ 0)
-    × Build-says Leading empty-grammar (Image 468) (replicate 468 0) (built Leading empty-grammar)
-    × (take 468 (built Leading empty-grammar) ≡ built Leading empty-grammar)
 unfolding machine number-at little-endian pair-bytes header rule-bytes rules-bytes encode states classes symbols rule-offset rule-from rule-at
     or-else refuse-if pair-is directory counts count-wrong map-from move-off rule-bad index-class rules-refusal-from rule-count image-refusal capture-refusal
     cells-needed judge-refusal run-refusal build-refusal Build-as Build-says
@@ -43,7 +41,7 @@ unfolding machine number-at little-endian pair-bytes header rule-bytes rules-byt
     cuts-at cut-from cut class-of class-count class-in
     rows by-state select on-byte row-zero class-inside rows-at made
     symbols-of built-rules rules-made map-made parts built built-length
-computed = (refl, refl, refl, (refl, refl), refl, refl, (refl, refl), refl)
+computed = (refl, refl, refl, (refl, refl), refl, refl)
 
 -- of the grammar without a rule, which is refused, the image is too
 pub no-rules-refused : image-refusal (built Whole []) .number ≡ 6
@@ -73,10 +71,3 @@ pub c1-ran :
     Run-says (built Whole empty-grammar) [] 3 (answer (run-on 3 (machine (built Whole empty-grammar) []) 0 2 start)) (1 ∷ 1 ∷ []) (0 ∷ 0 ∷ [])
 unfolding Run-says Run-as
 c1-ran = rw (computed .5) (refl, refl)
-
--- C2 built to match a leading part, the buffer as long as the image
-pub leading-built : Build-says Leading empty-grammar (Image 468) (replicate 468 0) (built Leading empty-grammar)
-leading-built = computed .6
-
-pub leading-taken : take 468 (built Leading empty-grammar) ≡ built Leading empty-grammar
-leading-taken = computed .7

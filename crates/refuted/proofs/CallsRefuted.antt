@@ -27,7 +27,7 @@ use Rattle.refuted.proofs.Witnesses.{clash}
 use Rattle.refuted.proofs.SmallCalls.{none-refused, c1-bytes, c1-judging, c1-whole, c1-leading, c1-after}
 use Rattle.refuted.proofs.GrammarExamples.{c1-built, c2-built, c2-leading}
 use Rattle.refuted.proofs.TextCalls.{line-of, empty-text, endless-text, legal-texts, endless-recursive}
-use Rattle.refuted.proofs.CallsWitnesses.{judge-told, none-checked, none-judge-told, none-bundle-told, none-text-told, none-recursion-told, c1-checked, c1-counted, c1-too-long, c1-run-told, c1-spent-told, reached-told, empty-told, build-told, build-text-told, image-taken, judge-text-told, endless-told}
+use Rattle.refuted.proofs.CallsWitnesses.{buffer, c2-leading-told, judge-told, none-checked, none-judge-told, none-bundle-told, none-text-told, none-recursion-told, c1-checked, c1-counted, c1-too-long, c1-run-told, c1-spent-told, reached-told, empty-told, build-told, build-text-told, image-taken, judge-text-told, endless-told}
 use Rattle.refuted.proofs.RecursionRefuted.{reached-refused}
 use Rattle.refuted.proofs.TypedRefuted.{one-note}
 
@@ -62,27 +62,23 @@ not-stuck t =
     other (empty-means (t .legal) means)
 
 -- FROM A TEXT TO A VERDICT: C2 by a leading match, by a whole one, and C1 with 3 readings, where 3 is the number of stuck
-abbrev buffer : List ℕ
-buffer = replicate 469 0
-
 pub typed-told : Wrong.Typed-told → ⊥
 unfolding verdict-number
 typed-told wrong =
-    let judged = rw (sym (image-taken Leading buffer)) at (judge-told _ _ _ _ _ _ Accepted 4 (config 2 2 0) (c2-leading .judged)) in
     not-accepted
     (wrong Leading empty-text (replicate 124 0) _ buffer _ (97 ∷ []) _ _ _ _ 0 _ _ _ Accepted (c2-leading .unrefused .bytes) (empty-told (replicate 124 0))
-    (build-told Leading buffer refl) judged refl .1)
+    (build-told Leading buffer refl) c2-leading-told .0 refl .1)
 
 pub built-text-told : Wrong.Built-text-told → ⊥
 unfolding verdict-number
 built-text-told wrong =
     let judged = rw (sym (image-taken Whole buffer)) at (judge-told _ _ _ _ _ _ Stuck 3 (config 2 1 0) (c2-built .judged)) in
     not-stuck-leading
-    (wrong empty-text buffer _ (97 ∷ []) _ _ _ _ 0 _ _ Stuck (c2-built .unrefused .bytes) (build-text-told buffer refl) judged refl .1)
+    (wrong empty-text buffer _ (97 ∷ []) _ _ _ _ 0 _ _ Stuck (c2-built .unrefused .bytes) (build-text-told buffer refl) judged .0 refl .1)
 
 pub text-told : Wrong.Text-told → ⊥
 unfolding verdict-number
-text-told wrong = not-stuck (wrong empty-text [] _ _ 0 _ Stuck (c1-built .unrefused .bytes) judge-text-told refl .1)
+text-told wrong = not-stuck (wrong empty-text [] _ _ 0 _ Stuck (c1-built .unrefused .bytes) judge-text-told .0 refl .1)
 
 -- THE CHECKS. No image is refused by 1 at 0
 pub check-told : Wrong.Check-told → ⊥

@@ -3,15 +3,16 @@ use mathlib.Core.Path.{_≡_, refl, _∙_}
 use mathlib.Core.List.{List, [], _∷_, _++_}
 use mathlib.Core.Option.{some}
 use Prim.Native.Nat.{ℕ}
-use lib.ListN.{length, take, drop}
+use lib.ListN.{length, take, drop, replicate}
 use lib.Seq.{take-at}
 use Rattle.refusal.specs.First.{refusal, or-else, refuse-if}
 use Rattle.refusal.specs.Checking.{checked}
 use Rattle.machine.specs.declared.Config.{Config}
 use Rattle.machine.specs.declared.Verdict.{Verdict}
 use Rattle.machine.specs.declared.Verdict.the-variants.{Accepted}
-use Rattle.machine.specs.Run.{config}
+use Rattle.machine.specs.Run.{config, how-many}
 use Rattle.machine.specs.Replies.{verdict-number, of-checked}
+use Rattle.image.specs.Image.{machine}
 use Rattle.image.specs.Refusals.{image-refusal}
 use Rattle.simulator.specs.declared.Judged.the-variants.{Answer}
 use Rattle.simulator.specs.Calls.{needs, judgement, Judge-says}
@@ -25,7 +26,7 @@ use Rattle.bundle.specs.Replies.{of-report, totals-left}
 use Rattle.grammar.specs.Grammar.{grammar-refusal}
 use Rattle.recursion.specs.Computed.{recursion-refusal}
 use Rattle.builder.specs.declared.Matching.{Matching}
-use Rattle.builder.specs.declared.Matching.the-variants.{Whole}
+use Rattle.builder.specs.declared.Matching.the-variants.{Whole, Leading}
 use Rattle.builder.specs.declared.Built.the-variants.{Image}
 use Rattle.builder.specs.Image.{built}
 use Rattle.builder.specs.Replies.{of-built}
@@ -40,6 +41,7 @@ use Rattle.recursion_theory.specs.Harmless.{never-reached}
 use Rattle.promises.proofs.Proved.{promises}
 use Rattle.refuted.proofs.SmallCalls.{none-refused, none-judged, c1-bytes, c1-unrefused, c1-capture, c1-ran, c1-accepted, c1-spent, c1-length, c1-left, c1-built}
 use Rattle.refuted.proofs.Rows.{c1-holds}
+use Rattle.refuted.proofs.GrammarExamples.{c2-leading}
 use Rattle.refuted.proofs.RecursionRefuted.{reached-refused}
 use Rattle.refuted.proofs.TypedRefuted.{one-note, none-judged-by}
 use Rattle.refuted.proofs.TextCalls.{empty-text, empty-read, endless-text, endless-recursive, room, Text-judged, text-judged-in-room}
@@ -128,7 +130,18 @@ build-text-told a h = record { built = Image 468; says = read empty-read (c1-bui
 pub image-taken : (how : Matching) (a : List ℕ) → take 468 (c1-left how a) ≡ built how empty-grammar
 image-taken how a = take-at (built how empty-grammar) (drop 468 a) 468 (promises .image-length how empty-grammar ∙ c1-length)
 
--- and C1 judged by it
+-- by which C2 is accepted where a leading part may match, and C1 by the text
+abbrev pub buffer : List ℕ
+buffer = replicate 469 0
+
+abbrev pub c2-zeros : List ℕ
+c2-zeros = replicate (how-many (machine (built Leading empty-grammar) (97 ∷ []))) 0
+
+pub c2-leading-told :
+    Judge-tells (take 468 (c1-left Leading buffer)) (97 ∷ []) c2-zeros (c2-leading .notes-now) c2-zeros (c2-leading .work-now) 0
+    (verdict-cells Accepted 4 (config 2 2 0))
+c2-leading-told = rw (image-taken Leading buffer) (judge-told _ _ _ _ _ _ Accepted 4 (config 2 2 0) (c2-leading .judged))
+
 pub c1-by-text : Text-judged empty-text [] Accepted 3 (config 2 1 0) (room empty-grammar [])
 c1-by-text = text-judged-in-room empty-text empty-grammar [] Accepted 3 (config 2 1 0) (some 3) empty-read c1-holds
 

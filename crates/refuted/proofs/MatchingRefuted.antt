@@ -2,37 +2,30 @@
 use mathlib.Core.Path.{_≡_, refl, sym, ap, subst, _∙_}
 use mathlib.Core.List.{List, [], _∷_}
 use mathlib.Core.Option.{Option, some}
-use Prim.Native.Nat.{ℕ, zero, suc}
+use Prim.Native.Nat.{ℕ}
 use native.Mathlib.Omega.{arith}
-use lib.ListN.{take, drop, replicate}
 use Rattle.machine.specs.declared.Verdict.the-variants.{Accepted, Stuck}
-use Rattle.machine.specs.Run.{config, how-many}
+use Rattle.machine.specs.Run.{config}
 use Rattle.machine.specs.Verdicts.{Says}
 use Rattle.machine.specs.Replies.{verdict-number}
 use Rattle.image.specs.Image.{machine, Rule}
 use Rattle.chain.specs.Chain.{chain, reached}
-use Rattle.simulator.specs.declared.Judged.the-variants.{Answer}
-use Rattle.simulator.specs.Calls.{judgement}
-use Rattle.simulator.specs.Replies.{of-judged}
 use Rattle.grammar.specs.Grammar.{rules, kind-of, b-of, c-of, expression-by, expression, range-of}
 use Rattle.grammar.specs.Parsing.{in-range, range}
 use Rattle.builder.specs.declared.Matching.the-variants.{Whole, Leading}
-use Rattle.builder.specs.declared.Built.the-variants.{Image}
 use Rattle.builder.specs.Matching.{default-matching}
 use Rattle.builder.specs.Classes.{cuts-at, cut-from, cut, class-of, class-count}
 use Rattle.builder.specs.Table.{state-ok}
 use Rattle.builder.specs.Image.{symbols-of, built}
-use Rattle.builder.specs.Replies.{of-built}
-use Rattle.sejimakpu.specs.Cells.{cells}
-use Rattle.sejimakpu.specs.Calls.{Judge-tells}
-use Rattle.worked_examples.specs.Examples.{Each, image-of, row-machine, source-refusal, grammar-rows, empty-grammar, byte-grammar}
+use Rattle.worked_examples.specs.Examples.{image-of, row-machine, source-refusal, grammar-rows, empty-grammar, byte-grammar}
 use Rattle.worked_examples.specs.LeadingExamples.{leading-table}
 use Rattle.promises.proofs.Proved.{promises}
 use Rattle.refuted.specs.Matching as Wrong
-use Rattle.refuted.proofs.Rows.{first, others}
+use Rattle.refuted.proofs.Rows.{first, rows-from}
 use Rattle.refuted.proofs.Witnesses.{same-number}
 use Rattle.refuted.proofs.GrammarExamples.{c2-built, c2-parses, c2-not-all, c1-leading, c2-leading}
-use Rattle.refuted.proofs.BuiltFacts.{marker-unruled, leading-built, leading-taken}
+use Rattle.refuted.proofs.BuiltFacts.{marker-unruled}
+use Rattle.refuted.proofs.CallsWitnesses.{buffer, build-told, c2-leading-told}
 
 pub default-leading : Wrong.Default-leading → ⊥
 unfolding default-matching
@@ -87,26 +80,10 @@ few-readings-leading wrong =
     omega (arith, few, three, k .counted (k .steps) (omega arith))
 
 pub built-accepted-told : Wrong.Built-accepted-told → ⊥
-unfolding default-matching of-judged verdict-number of-built cells
+unfolding default-matching verdict-number
 built-accepted-told wrong =
-    let zeros : List ℕ = replicate (how-many (machine (built Leading empty-grammar) (97 ∷ []))) 0 in
-    let told : List ℕ = 0 ∷ 1 ∷ 4 ∷ 2 ∷ 2 ∷ 0 ∷ [] in
-    let judged : Judge-tells (take 468 (built Leading empty-grammar)) (97 ∷ []) zeros (c2-leading .notes-now) zeros (c2-leading .work-now) 0 told =
-    record {
-      judged = Answer (judgement Accepted 4 (config 2 2 0));
-      says = rw leading-taken (c2-leading .judged);
-      tells = record { number = refl; written = refl };
-    } in
     c2-not-all
-    (wrong empty-grammar (97 ∷ []) (replicate 468 0) (built Leading empty-grammar) zeros _ zeros _ 0 (0 ∷ 0 ∷ 468 ∷ 0 ∷ 0 ∷ 0 ∷ []) told
-    (c2-built .unrefused .bytes) judged refl .0
-    (record { built = Image 468; says = leading-built; tells = record { number = refl; written = refl } }))
-
--- the rows from one on
-rows-from : {A : Type 0} {P : A → Type 0} (n : ℕ) (l : List A) → Each P l → Each P (drop n l)
-rows-from zero l ps = ps
-rows-from (suc n) [] ps = ps
-rows-from (suc n) (a ∷ l) ps = rows-from n l (others ps)
+    (wrong empty-grammar (97 ∷ []) buffer _ _ _ _ _ 0 _ _ (c2-built .unrefused .bytes) c2-leading-told refl .0 (build-told Leading buffer refl))
 
 -- the byte 61 and another after it: parsing consumes one of the two
 pub leading-rows : Wrong.Leading-rows → ⊥

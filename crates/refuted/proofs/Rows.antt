@@ -1,6 +1,8 @@
 -- C1 to C10 one by one: each example's row, that it holds, and judging it. Assumes nothing.
 use mathlib.Core.List.{List, [], _∷_}
 use mathlib.Core.Option.{none, some}
+use Prim.Native.Nat.{ℕ, zero, suc}
+use lib.ListN.{drop}
 use Rattle.machine.specs.declared.Verdict.the-variants.{Accepted, Ended, Stuck, Looping}
 use Rattle.machine.specs.Run.{config}
 use Rattle.builder.specs.declared.Matching.the-variants.{Whole}
@@ -14,6 +16,12 @@ first (cons p ps) = p
 
 pub others : {A : Type 0} {P : A → Type 0} {a : A} {rest : List A} → Each P (a ∷ rest) → Each P rest
 others (cons p ps) = ps
+
+-- those from one on
+pub rows-from : {A : Type 0} {P : A → Type 0} (n : ℕ) (l : List A) → Each P l → Each P (drop n l)
+rows-from zero l ps = ps
+rows-from (suc n) [] ps = ps
+rows-from (suc n) (a ∷ l) ps = rows-from n l (others ps)
 
 abbrev pub c1 : Row
 c1 = row (from-grammar Whole empty-grammar) [] Accepted 3 (config 2 1 0) (some 3)
@@ -45,55 +53,31 @@ c9 = row (from-grammar Whole choice-grammar) [] Accepted 8 (config 2 1 0) (some 
 abbrev pub c10 : Row
 c10 = row (from-image popping-image) [] Ended 1 (config 0 0 0) (some 1)
 
--- the table from each row on
-from-c1 : Each Row-holds (c1 ∷ c2 ∷ c3 ∷ c4 ∷ c5 ∷ c6 ∷ c7 ∷ c8 ∷ c9 ∷ c10 ∷ [])
+-- C1 to C10 in their order
+abbrev all-rows : List Row
+all-rows = c1 ∷ c2 ∷ c3 ∷ c4 ∷ c5 ∷ c6 ∷ c7 ∷ c8 ∷ c9 ∷ c10 ∷ []
+
+all-hold : Each Row-holds all-rows
 unfolding table grammar-rows second-row
-from-c1 = promises .examples-hold
-
-from-c2 : Each Row-holds (c2 ∷ c3 ∷ c4 ∷ c5 ∷ c6 ∷ c7 ∷ c8 ∷ c9 ∷ c10 ∷ [])
-from-c2 = others from-c1
-
-from-c3 : Each Row-holds (c3 ∷ c4 ∷ c5 ∷ c6 ∷ c7 ∷ c8 ∷ c9 ∷ c10 ∷ [])
-from-c3 = others from-c2
-
-from-c4 : Each Row-holds (c4 ∷ c5 ∷ c6 ∷ c7 ∷ c8 ∷ c9 ∷ c10 ∷ [])
-from-c4 = others from-c3
-
-from-c5 : Each Row-holds (c5 ∷ c6 ∷ c7 ∷ c8 ∷ c9 ∷ c10 ∷ [])
-from-c5 = others from-c4
-
-from-c6 : Each Row-holds (c6 ∷ c7 ∷ c8 ∷ c9 ∷ c10 ∷ [])
-from-c6 = others from-c5
-
-from-c7 : Each Row-holds (c7 ∷ c8 ∷ c9 ∷ c10 ∷ [])
-from-c7 = others from-c6
-
-from-c8 : Each Row-holds (c8 ∷ c9 ∷ c10 ∷ [])
-from-c8 = others from-c7
-
-from-c9 : Each Row-holds (c9 ∷ c10 ∷ [])
-from-c9 = others from-c8
-
-from-c10 : Each Row-holds (c10 ∷ [])
-from-c10 = others from-c9
+all-hold = promises .examples-hold
 
 pub c1-holds : Row-holds c1
-c1-holds = first from-c1
+c1-holds = first all-hold
 
 pub c2-holds : Row-holds c2
-c2-holds = first from-c2
+c2-holds = first (rows-from 1 all-rows all-hold)
 
 pub c3-holds : Row-holds c3
-c3-holds = first from-c3
+c3-holds = first (rows-from 2 all-rows all-hold)
 
 pub c4-holds : Row-holds c4
-c4-holds = first from-c4
+c4-holds = first (rows-from 3 all-rows all-hold)
 
 pub c5-holds : Row-holds c5
-c5-holds = first from-c5
+c5-holds = first (rows-from 4 all-rows all-hold)
 
 pub c10-holds : Row-holds c10
-c10-holds = first from-c10
+c10-holds = first (rows-from 9 all-rows all-hold)
 
 pub c1-judged : Row-judged c1 (zeros c1) (zeros c1)
 c1-judged = row-judged-zeros c1 c1-holds

@@ -37,16 +37,18 @@ use Rattle.syntax.specs.Compile as Compile
 use Rattle.syntax.specs.RuleLines.{own}
 use Rattle.syntax_theory.specs.RuleOf.{Rule-of, Line-rules, own-line}
 use Rattle.syntax.specs.Reading.{Refused, Grammar, Read-says, at-fault}
+use Rattle.reader.specs.declared.ReadGrammar.{ReadGrammar}
 use Rattle.reader.specs.Calls.{grammar-answer, Read-tells}
 use Rattle.grammar_judge.specs.Calls.{Lent, lent, parts-refusal, lent-refusal}
 use Rattle.typed.specs.TypedCalls.{Enough-lent}
 use Rattle.typed.specs.Calls.{Build-text-says, Judge-text-says, room-refused, Judge-text-refused}
 use Rattle.worked_examples.specs.Examples.{image-of, row-machine, source-refusal, empty-grammar}
+use Rattle.worked_examples.specs.TextExamples.{Read-so, bytes-of, refused-table}
 use Rattle.promises.proofs.Proved.{promises}
 use Rattle.refuted.specs.Typed as Wrong
 use Rattle.refuted.proofs.Witnesses.{few-notes-judged, same-number, clash}
 use Rattle.refuted.proofs.TextCalls.{line-of, empty-text, byte-text, undefined-text, not-there, legal-texts, unrefused-texts, grammars-are, empty-read, room, room-enough, text-judged-in-room, build-fine, text-built, no-room}
-use Rattle.refuted.proofs.Rows.{c1-holds, c2-holds, c4-holds}
+use Rattle.refuted.proofs.Rows.{first, rows-from, c1-holds, c2-holds, c4-holds}
 
 -- READING. a=empty; has no fault, and no text one at its end
 faults : (fault empty-text ≡ no-refusal) × (fault [] ≡ refusal 15 0)
@@ -236,3 +238,13 @@ pub rules-of-lines : Wrong.Rules-of-lines → ⊥
 rules-of-lines wrong =
     let (hs, made, only) = wrong empty-text _ 0 _ _ (legal-texts .0) (unrefused-texts .0) here in
     List·Memᴰ·not-nil (subst (λ (l : List ℕ). List·Memᴰ 0 l) (no-helper made) (only 0 .0 (own (omega arith))))
+
+-- a=b;c is refused at its end
+pub text-examples : Wrong.Text-examples → ⊥
+unfolding refused-table Read-so grammar-answer
+text-examples wrong =
+    let (reading, says, _) = promises .reading-exact (bytes-of "a=b;c") in
+    let tells : Read-tells (bytes-of "a=b;c") (grammar-answer reading) = record { reading = _; says = says; told = refl } in
+    let at-end = first (rows-from 9 refused-table (promises .text-examples .1)) _ tells in
+    let at-name = first (rows-from 9 _ (wrong .1)) _ tells in
+    omega (arith, ap (λ (r : ReadGrammar). r .refusal .place) (sym at-end ∙ at-name))

@@ -29,7 +29,7 @@ Typed-told =
     (read counted answer : List ℕ) (v : Verdict) → Bytes capture → Read-grammar-tells text grammar grammar-now 0 read →
     Build-tells how (take (getD read 2 0) grammar-now) image image-now 0 counted →
     Judge-tells (take (getD counted 2 0) image-now) capture notes notes-now work work-now returned answer →
-    getD answer 1 0 ≡ verdict-number v → (returned ≡ 0) × Text-says Whole text capture v
+    (getD answer 1 0 ≡ verdict-number v) ↔ ((returned ≡ 0) × Text-says Whole text capture v)
 
 -- by a leading match, which is the default of building from a grammar's bytes
 abbrev pub Built-text-told : Type 0
@@ -37,13 +37,14 @@ Built-text-told =
     (text image image-now capture notes notes-now work work-now : List ℕ) (returned : ℕ) (counted answer : List ℕ) (v : Verdict) →
     Bytes capture → Build-text-tells text image image-now 0 counted →
     Judge-tells (take (getD counted 2 0) image-now) capture notes notes-now work work-now returned answer →
-    getD answer 1 0 ≡ verdict-number v → (returned ≡ 0) × Text-says Leading text capture v
+    (getD answer 1 0 ≡ verdict-number v) ↔ ((returned ≡ 0) × Text-says Leading text capture v)
 
 -- the verdict's number sought in cell 2, where the readings are
 abbrev pub Text-told : Type 0
 Text-told =
     (text capture : List ℕ) (before after : Lent) (returned : ℕ) (answer : List ℕ) (v : Verdict) → Bytes capture →
-    Judge-text-tells text capture before after returned answer → getD answer 2 0 ≡ verdict-number v → (returned ≡ 0) × Text-says Whole text capture v
+    Judge-text-tells text capture before after returned answer →
+    (getD answer 2 0 ≡ verdict-number v) ↔ ((returned ≡ 0) × Text-says Whole text capture v)
 
 -- number and place exchanged
 abbrev pub Check-told : Type 0

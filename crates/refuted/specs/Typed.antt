@@ -1,11 +1,12 @@
 -- Wrong neighbours of the promises of Typed.antt, each under its promise's name, with what is wrong in it. Assumes nothing: each is a type, and proofs/ has a proof that nothing is of it.
 use mathlib.Core.Path.{_≡_}
-use mathlib.Core.List.{List, [], _∷_, List·Memᴰ}
+use mathlib.Core.List.{List, [], _∷_, _++_, List·Memᴰ}
 use mathlib.Core.Logic.{_↔_}
 use mathlib.Core.Option.{Option, none, some}
 use Prim.Native.Nat.{ℕ, suc, _*_, _≤_}
-use lib.ListN.{length, take, replicate}
+use lib.ListN.{length, take, drop, replicate}
 use Rattle.refusal.specs.declared.Refusal.{Refusal}
+use Rattle.refusal.specs.First.{refusal}
 use Rattle.codec.specs.Bytes.{Bytes}
 use Rattle.machine.specs.declared.Config.{Config}
 use Rattle.machine.specs.declared.Verdict.the-variants.{Accepted, Stuck, Looping}
@@ -30,12 +31,14 @@ use Rattle.syntax.specs.Needs.{later-refusal}
 use Rattle.syntax.specs.Compile.{grammar-of}
 use Rattle.syntax.specs.RuleLines.{Line-of-rule}
 use Rattle.syntax_theory.specs.RuleOf.{Line-rules, Typed-right}
-use Rattle.syntax.specs.Reading.{Reading, Grammar, Read-says}
+use Rattle.syntax.specs.Reading.{Reading, Refused, Grammar, Read-says}
 use Rattle.reader.specs.declared.ReadGrammar.{ReadGrammar}
 use Rattle.reader.specs.Calls.{Read-tells}
 use Rattle.grammar_judge.specs.Calls.{Lent, lent, lent-refusal, Same-cells}
 use Rattle.typed.specs.Calls.{Build-text-says, Judge-text-says, Build-text-refused, Judge-text-refused}
 use Rattle.typed.specs.TypedCalls.{Typed-grammar, Typed-gets, Enough-lent}
+use Rattle.worked_examples.specs.Examples.{Each}
+use Rattle.worked_examples.specs.TextExamples.{Read-so, read-table, refused-table}
 
 -- no fault is a fault too
 abbrev pub Faults-right : Type 0
@@ -137,3 +140,9 @@ Rules-of-lines =
     (text : List ℕ) (ds : List Definition) (line : ℕ) (n : List ℕ) (e : Tree) → Legal-text text ds → later-refusal text ds .number ≡ 0 →
     Defines ds line n e →
     (helpers : List ℕ) × Line-rules (expression (grammar-of ds)) ds e line helpers × ((k : ℕ) → Line-of-rule ds k line ↔ List·Memᴰ k helpers)
+
+-- a text with an undefined name is refused there, though another fault comes later
+abbrev pub Text-examples : Type 0
+Text-examples =
+    Each Read-so read-table
+    × Each Read-so (take 9 refused-table ++ (record { text = "a=b;c"; reading = Refused (refusal 15 2) } ∷ drop 10 refused-table))
