@@ -5,6 +5,7 @@ use Prim.Native.Nat.{ℕ, _≤_, min}
 use native.Mathlib.Omega.{arith}
 use lib.Dec.{ltb}
 use lib.ListN.{length, drop}
+use borrow.Author.Tests.{le-ltb}
 use Rattle.refusal.specs.First.{refusal, or-else, refuse-if}
 use Rattle.codec.specs.Numbers.{number-at, little-endian, pair-bytes}
 use Rattle.machine.specs.declared.Verdict.the-variants.{Looping}
@@ -22,8 +23,8 @@ use Rattle.builder.specs.Image.{symbols-of, built-rules, rules-made, map-made, 
 use Rattle.builder.specs.Calls.{build-refusal}
 use Rattle.answer_line.specs.Line.{digits, decimal, field, verdict-word, refused-word, refusal-line, answer-line, written, max-line}
 use Rattle.answer.specs.Input.{capture-offset, first-pair-right, second-pair-right, input-refusal, input-grammar, input-capture}
-use Rattle.grammar_judge.specs.Calls.{Lent, lent, parts-refusal}
-use Rattle.answer.specs.Calls.{judged-line, Built-and-judged, answer-refusal, Parts-as, Parts-say, Input-as, Input-says, Answer-says}
+use Rattle.grammar_judge.specs.Calls.{Lent, lent, parts-refusal, lent-refusal}
+use Rattle.answer.specs.Calls.{judged-line, answer-refusal, Parts-as, Parts-say, Input-as, Input-says, Answer-says}
 use Rattle.worked_examples.specs.Examples.{image-of, row-machine, endless-grammar}
 use Rattle.worked_examples.specs.ProgramLine.{endless-input, Program-room}
 use Rattle.refuted.proofs.Witnesses.{row-judged}
@@ -83,6 +84,9 @@ endless-computed = (refl, refl, refl, λ m a b. refl, refl)
 pub endless-fine : input-refusal endless-input ≡ refusal 0 0
 endless-fine = endless-computed .0
 
+pub endless-right : input-grammar endless-input ≡ endless-grammar
+endless-right = endless-computed .1
+
 pub endless-answering :
     (x : Lent) → answer-refusal endless-input x
     ≡ or-else (refuse-if (ltb (length (x .image)) 468) (refusal 13 468))
@@ -98,19 +102,39 @@ c5-judged-on a b p q =
     let j = row-judged c5 c5-holds a b (omega (arith, endless-computed .4)) (omega (arith, endless-computed .4)) in
     (j .notes-now, j .work-now, j .says)
 
--- so in the program's buffers C5's line is told
-endless-read :
-    (x y : Lent) (line out : List ℕ) → Program-room x out → Built-and-judged endless-grammar [] x y line → Input-says endless-input x y line
-unfolding Input-says Input-as Parts-say Parts-as or-else refuse-if
-endless-read x y line out room says =
-    rw (endless-computed .0, endless-computed .1, endless-computed .2, endless-computed .3, room .image, room .notes, room .work) says
+-- with so much room it is not refused, and C5's line is told
+pub record Endless-room (x : Lent) : Type 0 where
+  pub image : 468 ≤ length (x .image)
+  pub notes : 30 ≤ length (x .notes)
+  pub work : 30 ≤ length (x .work)
+
+endless-lent : (x : Lent) → Endless-room x → lent-refusal endless-grammar [] x .number ≡ 0
+unfolding or-else refuse-if
+endless-lent x e = rw (endless-computed .3, le-ltb _ _ (e .image), le-ltb _ _ (e .notes), le-ltb _ _ (e .work))
+
+pub endless-unrefused : (x : Lent) → Endless-room x → answer-refusal endless-input x .number ≡ 0
+unfolding answer-refusal or-else
+endless-unrefused x e = rw (endless-computed .0, endless-computed .1, endless-computed .2) (endless-lent x e)
+
+pub record Endless-line (x : Lent) : Type 0 where
+  pub after : Lent
+  pub says : Input-says endless-input x after (answer-line Looping 2 (config 1 1 1))
+
+pub endless-line : (x : Lent) → Endless-room x → Endless-line x
+unfolding Input-says Input-as Parts-say Parts-as judged-line
+endless-line x e =
+    let (a, b, judges) = c5-judged-on (x .notes) (x .work) (e .notes) (e .work) in
+    record {
+      after = lent (built Whole endless-grammar ++ drop (built-length endless-grammar) (x .image)) a b;
+      says =
+          rw (endless-computed .0, endless-computed .1, endless-computed .2, endless-lent x e)
+          (record { judged = _; image-now = refl; judges = judges; says = refl });
+    }
 
 pub endless-told :
     (x : Lent) (out : List ℕ) → Program-room x out → (y : Lent) × (out-now : List ℕ) × (count : ℕ) × Answer-says endless-input x y out out-now count
-unfolding answer-line verdict-word field decimal digits judged-line
+unfolding answer-line verdict-word field decimal digits
 endless-told x out room =
-    let (a, b, judges) = c5-judged-on (x .notes) (x .work) (omega (arith, room .notes)) (omega (arith, room .work)) in
-    let y : Lent = lent (built Whole endless-grammar ++ drop (built-length endless-grammar) (x .image)) a b in
-    let line : List ℕ = answer-line Looping 2 (config 1 1 1) in
-    let read = endless-read x y line out room (record { judged = _; image-now = refl; judges = judges; says = refl }) in
-    (y, _, _, told endless-input x y line out read (omega arith))
+    let enough : Endless-room x = record { image = omega (arith, room .image); notes = omega (arith, room .notes); work = omega (arith, room .work) } in
+    let line = endless-line x enough in
+    (line .after, _, _, told endless-input x (line .after) (answer-line Looping 2 (config 1 1 1)) out (line .says) (omega arith))

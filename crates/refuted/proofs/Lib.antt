@@ -10,7 +10,6 @@ pub mod TwoStates
 pub mod BundleCalls
 pub mod SmallBytes
 pub mod TextCalls
-pub mod LineCalls
 pub mod MadeRows
 pub mod HaltingRows
 pub mod Lent

@@ -5,7 +5,7 @@ use mathlib.Core.List.{List, [], _∷_}
 use mathlib.Core.Option.{none}
 use Prim.Native.Nat.{ℕ}
 use native.Mathlib.Omega.{arith}
-use lib.ListN.{getD}
+use lib.ListN.{getD, replicate}
 use Rattle.refusal.specs.declared.Refusal.{Refusal}
 use Rattle.refusal.specs.First.{refusal, or-else}
 use Rattle.machine.specs.declared.Config.{Config}
@@ -25,6 +25,8 @@ use Rattle.recursion.specs.Computed.{nothing-by, nothing-after, leads-by, leads
 use Rattle.recursion_theory.specs.FirstParts.{Tries-on, first-part}
 use Rattle.recursion_theory.specs.Harmless.{fails-first, never-reached}
 use Rattle.recursion_theory.proofs.Harmless.{fails-first-recursive, fails-first-fails}
+use Rattle.codec.specs.Numbers.{little-endian, pair-bytes}
+use Rattle.grammar_judge.specs.Calls.{Lent, lent}
 use Rattle.bundle.specs.Report.{totals, sum, gives}
 use Rattle.syntax.specs.Tokens as Tokens
 use Rattle.syntax.specs.RuleLines.{line-offsets}
@@ -41,7 +43,7 @@ use Rattle.refuted.specs.Recursion as Wrong
 use Rattle.refuted.proofs.SmallBytes.{total, small-bytes}
 use Rattle.refuted.proofs.BundleCalls.{one-empty, one-says}
 use Rattle.refuted.proofs.TextCalls.{line-of, endless-text, itself-twice, legal-texts, unrefused-texts, grammars-are, endless-read, endless-recursive, text-judged-in-room}
-use Rattle.refuted.proofs.LineCalls.{endless-bytes, endless-parts, endless-room, endless-answers, endless-line}
+use Rattle.refuted.proofs.AnswerCalls.{Endless-room, endless-right, endless-unrefused, endless-line}
 use Rattle.refuted.proofs.Witnesses.{clash}
 use Rattle.refuted.proofs.Rows.{first, c1-holds, c5-holds, c5-judged}
 
@@ -125,10 +127,14 @@ looping-line Looping n d e = refl
 looping-line Halted n d e = absurd (omega (arith, e))
 
 pub line-not-looping : Wrong.Line-not-looping → ⊥
-unfolding answer-line verdict-word
+unfolding answer-line verdict-word total endless-input little-endian pair-bytes
 line-not-looping wrong =
-    let good : grammar-refusal (input-grammar endless-input) .number ≡ 0 = rw (endless-parts .1) endless-good in
-    let (v, n, d, same, other) = wrong endless-input endless-room (endless-line .after) _ good endless-bytes endless-answers (endless-line .says) in
+    let good : grammar-refusal (input-grammar endless-input) .number ≡ 0 = rw endless-right endless-good in
+    let lends : Lent = lent (replicate 468 0) (replicate 30 0) (replicate 30 0) in
+    let enough : Endless-room lends = record { image = omega arith; notes = omega arith; work = omega arith } in
+    let line = endless-line lends enough in
+    let bytes = small-bytes endless-input (omega arith) in
+    let (v, n, d, same, other) = wrong endless-input lends (line .after) _ good bytes (endless-unrefused lends enough) (line .says) in
     other (looping-line v n d (sym (ap (λ (l : List ℕ). getD l 0 0) same)))
 
 pub bundle-not-looping : Wrong.Bundle-not-looping → ⊥
