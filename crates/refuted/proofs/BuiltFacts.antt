@@ -1,9 +1,8 @@
--- Closed facts of small grammars: their images, rules and classes, and calls of building, judging and the plain run by them, computed. Assumes nothing.
+-- Closed facts of small grammars: their images, rules and cells, and judging by an image with a byte too many, computed. Assumes nothing.
 use mathlib.Core.Path.{_≡_, refl}
 use mathlib.Core.List.{List, [], _∷_, _++_}
 use Prim.Native.Nat.{ℕ}
 use lib.ListN.{replicate}
-use Rattle.machine.specs.Run.{start}
 use Rattle.codec.specs.Numbers.{number-at, little-endian, pair-bytes}
 use Rattle.image.specs.Format
 use Rattle.image.specs.Image.{machine, states, classes, symbols, rule-offset, rule-from, rule-at}
@@ -12,15 +11,11 @@ use Rattle.refusal.specs.First.{refusal, or-else, refuse-if}
 use Rattle.image.specs.Refusals.{pair-is, directory, counts, count-wrong, map-from, move-off, rule-bad, index-class, rule-count, image-refusal, capture-refusal, rules-refusal-from}
 use Rattle.simulator.specs.declared.Judged.the-variants.{Refused}
 use Rattle.simulator.specs.Calls.{cells-needed, judge-refusal, Judge-as, Judge-says}
-use Rattle.interpreter.specs.PlainRun.{run-on}
-use Rattle.interpreter.specs.Calls.{run-refusal, answer, Run-as, Run-says}
 use Rattle.grammar.specs.Grammar as Grammar
 use Rattle.builder.specs.declared.Matching.the-variants.{Whole}
-use Rattle.builder.specs.declared.Built.the-variants.{Image}
 use Rattle.builder.specs.Classes.{cuts-at, cut-from, cut, class-of, class-count, class-in}
 use Rattle.builder.specs.Table.{no-rule, rows, by-state, select, on-byte, row-zero, class-inside, rows-at, made, state-ok}
 use Rattle.builder.specs.Image.{symbols-of, built-rules, rules-made, map-made, built, built-length, parts}
-use Rattle.builder.specs.Calls.{build-refusal, Build-as, Build-says}
 use Rattle.worked_examples.specs.Examples.{empty-grammar}
 
 -- C1's image and one byte of the buffer after it
@@ -31,17 +26,15 @@ computed :
     (image-refusal (built Whole []) .number ≡ 6)
     × (cells-needed (built Whole empty-grammar) 2 ≡ 60)
     × (rule-at (built Whole empty-grammar) state-ok 1 0 ≡ no-rule)
-    × Build-says Whole empty-grammar (Image 468) (replicate 469 0) longer-buffer
     × (judge-refusal longer-buffer [] 30 30 ≡ refusal 2 Format.rules-pair)
-    × (run-refusal (built Whole empty-grammar) [] 2 .number ≡ 0)
 unfolding machine number-at little-endian pair-bytes header rule-bytes rules-bytes encode states classes symbols rule-offset rule-from rule-at
     or-else refuse-if pair-is directory counts count-wrong map-from move-off rule-bad index-class rules-refusal-from rule-count image-refusal capture-refusal
-    cells-needed judge-refusal run-refusal build-refusal Build-as Build-says
+    cells-needed judge-refusal
     Grammar.rules Grammar.kind-of Grammar.b-of Grammar.c-of Grammar.expression-by Grammar.expression Grammar.range-of Grammar.rule-right Grammar.grammar-rules-from Grammar.grammar-refusal
     cuts-at cut-from cut class-of class-count class-in
     rows by-state select on-byte row-zero class-inside rows-at made
     symbols-of built-rules rules-made map-made parts built built-length
-computed = (refl, refl, refl, (refl, refl), refl, refl)
+computed = (refl, refl, refl, refl)
 
 -- of the grammar without a rule, which is refused, the image is too
 pub no-rules-refused : image-refusal (built Whole []) .number ≡ 6
@@ -54,20 +47,8 @@ doubled-markers = computed .1
 pub marker-unruled : rule-at (built Whole empty-grammar) state-ok 1 0 ≡ no-rule
 marker-unruled = computed .2
 
--- C1 built with one byte too many, and the whole buffer judged by
-pub longer-built : Build-says Whole empty-grammar (Image 468) (replicate 469 0) longer-buffer
-longer-built = computed .3
-
+-- C1's image judged by with one byte too many
 pub longer-judged :
     Judge-says longer-buffer [] (Refused (refusal 2 Format.rules-pair)) (replicate 30 0) (replicate 30 0) (replicate 30 0) (replicate 30 0)
 unfolding Judge-says Judge-as
-longer-judged = rw (computed .4) (refl, refl, refl)
-
--- the plain run of C1, on two cells that are not 0
-pub c1-ran-fine : run-refusal (built Whole empty-grammar) [] 2 .number ≡ 0
-c1-ran-fine = computed .5
-
-pub c1-ran :
-    Run-says (built Whole empty-grammar) [] 3 (answer (run-on 3 (machine (built Whole empty-grammar) []) 0 2 start)) (1 ∷ 1 ∷ []) (0 ∷ 0 ∷ [])
-unfolding Run-says Run-as
-c1-ran = rw (computed .5) (refl, refl)
+longer-judged = rw (computed .3) (refl, refl, refl)

@@ -67,14 +67,14 @@ unfolding verdict-number
 typed-told wrong =
     not-accepted
     (wrong Leading empty-text (replicate 124 0) _ buffer _ (97 ∷ []) _ _ _ _ 0 _ _ _ Accepted (c2-leading .unrefused .bytes) (empty-told (replicate 124 0))
-    (build-told Leading buffer refl) c2-leading-told .0 refl .1)
+    (build-told Leading buffer (omega arith)) c2-leading-told .0 refl .1)
 
 pub built-text-told : Wrong.Built-text-told → ⊥
 unfolding verdict-number
 built-text-told wrong =
     let judged = rw (sym (image-taken Whole buffer)) at (judge-told _ _ _ _ _ _ Stuck 3 (config 2 1 0) (c2-built .judged)) in
     not-stuck-leading
-    (wrong empty-text buffer _ (97 ∷ []) _ _ _ _ 0 _ _ Stuck (c2-built .unrefused .bytes) (build-text-told buffer refl) judged .0 refl .1)
+    (wrong empty-text buffer _ (97 ∷ []) _ _ _ _ 0 _ _ Stuck (c2-built .unrefused .bytes) (build-text-told buffer (omega arith)) judged .0 refl .1)
 
 pub text-told : Wrong.Text-told → ⊥
 unfolding verdict-number
@@ -113,7 +113,7 @@ calls-determined (judge wrong) =
     omega (arith, ap (λ (l : List ℕ). length l) (wrong [] [] [] _ _ (0 ∷ []) _ _ _ _ _ _ (none-judge-told [] (0 ∷ [])) (none-judge-told [] (0 ∷ [])) .1))
 calls-determined (plain-run wrong) = omega (arith, ap (λ (l : List ℕ). getD l 2 0) (wrong c1-bytes [] 3 2 _ _ _ _ _ _ _ c1-run-told c1-spent-told .0 .1))
 calls-determined (build wrong) =
-    let same = wrong Whole Leading empty-grammar buffer _ _ _ _ _ _ (build-told Whole buffer refl) (build-told Leading buffer refl) .1 in
+    let same = wrong Whole Leading empty-grammar buffer _ _ _ _ _ _ (build-told Whole buffer (omega arith)) (build-told Leading buffer (omega arith)) .1 in
     omega (arith, sym (c1-whole buffer) ∙ ap (λ (l : List ℕ). byte l 360) same ∙ c1-leading buffer)
 calls-determined (check-recursion wrong) = omega (arith, wrong [] never-reached _ _ _ _ none-recursion-told reached-told .0)
 calls-determined (check-text-recursion wrong) = omega (arith, wrong endless-text _ _ _ _ endless-told endless-told .1)
@@ -122,7 +122,7 @@ calls-determined (read-grammar wrong) =
     omega (arith, ap (λ (l : List ℕ). getD l 4 0) same)
 calls-determined (build-text wrong) =
     let ones : List ℕ = replicate 469 1 in
-    let same = wrong empty-text buffer ones _ _ _ _ _ _ (build-text-told buffer refl) (build-text-told ones refl) .1 in
+    let same = wrong empty-text buffer ones _ _ _ _ _ _ (build-text-told buffer (omega arith)) (build-text-told ones (omega arith)) .1 in
     omega (arith, sym (c1-after Whole buffer) ∙ ap (λ (l : List ℕ). byte l 468) same ∙ c1-after Whole ones)
 calls-determined (judge-text wrong) =
     omega (arith, ap (λ (x : Lent). length (x .notes)) (wrong [] [] one-note _ _ _ _ _ _ none-text-told none-text-told .1))

@@ -2,7 +2,7 @@
 use mathlib.Core.Path.{_≡_, refl, _∙_}
 use mathlib.Core.List.{List, [], _∷_, _++_}
 use mathlib.Core.Option.{some}
-use Prim.Native.Nat.{ℕ}
+use Prim.Native.Nat.{ℕ, _≤_}
 use lib.ListN.{length, take, drop, replicate}
 use lib.Seq.{take-at}
 use Rattle.refusal.specs.First.{refusal, or-else, refuse-if}
@@ -32,7 +32,6 @@ use Rattle.builder.specs.Image.{built}
 use Rattle.builder.specs.Replies.{of-built}
 use Rattle.syntax.specs.Reading.{Grammar}
 use Rattle.reader.specs.Calls.{grammar-answer}
-use Rattle.typed.specs.Calls.{read}
 use Rattle.typed.specs.Replies.{of-read, of-text-recursion}
 use Rattle.sejimakpu.specs.Cells.{cells}
 use Rattle.sejimakpu.specs.Calls.{Check-tells, Cells-tells, Judge-tells, Run-tells, Build-tells, Check-recursion-tells, Check-text-recursion-tells, Read-grammar-tells, Build-text-tells, Judge-text-tells, Judge-bundle-tells}
@@ -43,7 +42,7 @@ use Rattle.refuted.proofs.SmallCalls.{none-refused, none-judged, c1-byt
 use Rattle.refuted.proofs.Rows.{c1-holds}
 use Rattle.refuted.proofs.GrammarExamples.{c2-leading}
 use Rattle.refuted.proofs.RecursionRefuted.{reached-refused}
-use Rattle.refuted.proofs.TypedRefuted.{one-note, none-judged-by}
+use Rattle.refuted.proofs.TypedRefuted.{empty-built, one-note, none-judged-by}
 use Rattle.refuted.proofs.TextCalls.{empty-text, empty-read, endless-text, endless-recursive, room, Text-judged, text-judged-in-room}
 
 -- an answer that is a count
@@ -99,11 +98,11 @@ c1-too-long = rw (c1-capture 65536) (record { number = refl; written = refl })
 -- and is run in 3 steps, of which a budget of 2 is spent
 pub c1-run-told : Run-tells c1-bytes [] 3 (0 ∷ 0 ∷ []) (0 ∷ 0 ∷ []) 0 (0 ∷ 1 ∷ 3 ∷ 2 ∷ 1 ∷ 0 ∷ [])
 unfolding of-ran exit-number verdict-number termination-verdict cells
-c1-run-told = record { ran = _; says = c1-ran 3 c1-accepted; tells = record { number = refl; written = refl } }
+c1-run-told = record { ran = _; says = c1-ran 3 0 0 c1-accepted; tells = record { number = refl; written = refl } }
 
 pub c1-spent-told : Run-tells c1-bytes [] 2 (0 ∷ 0 ∷ []) (0 ∷ 0 ∷ []) 0 (0 ∷ 5 ∷ 2 ∷ 2 ∷ 1 ∷ 0 ∷ [])
 unfolding of-ran exit-number verdict-number termination-verdict cells
-c1-spent-told = record { ran = _; says = c1-ran 2 c1-spent; tells = record { number = refl; written = refl } }
+c1-spent-told = record { ran = _; says = c1-ran 2 0 0 c1-spent; tells = record { number = refl; written = refl } }
 
 -- THE TEXT a=empty; is read into any buffer, of 4 bytes,
 pub empty-told : (g : List ℕ) → Read-grammar-tells empty-text g (empty-grammar ++ drop 4 g) 0 (count-cells 4)
@@ -117,14 +116,14 @@ empty-told g =
       tells = record { number = refl; written = refl };
     }
 
--- built by either choice and by the text into a buffer with one byte more than the image has,
-pub build-told : (how : Matching) (a : List ℕ) → length a ≡ 469 → Build-tells how empty-grammar a (c1-left how a) 0 (count-cells 468)
+-- built by either choice and by the text into any buffer that is long enough,
+pub build-told : (how : Matching) (a : List ℕ) → 468 ≤ length a → Build-tells how empty-grammar a (c1-left how a) 0 (count-cells 468)
 unfolding of-built cells
 build-told how a h = record { built = Image 468; says = c1-built how a h; tells = record { number = refl; written = refl } }
 
-pub build-text-told : (a : List ℕ) → length a ≡ 469 → Build-text-tells empty-text a (c1-left Whole a) 0 (count-cells 468)
+pub build-text-told : (a : List ℕ) → 468 ≤ length a → Build-text-tells empty-text a (c1-left Whole a) 0 (count-cells 468)
 unfolding of-built cells
-build-text-told a h = record { built = Image 468; says = read empty-read (c1-built Whole a h); tells = record { number = refl; written = refl } }
+build-text-told a h = record { built = Image 468; says = empty-built a h; tells = record { number = refl; written = refl } }
 
 -- of which so many bytes as are counted are the image,
 pub image-taken : (how : Matching) (a : List ℕ) → take 468 (c1-left how a) ≡ built how empty-grammar

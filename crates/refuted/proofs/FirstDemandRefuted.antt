@@ -65,7 +65,7 @@ judging-refused wrong =
 
 pub running-refused : Wrong.Running-refused → ⊥
 running-refused wrong =
-    let bad = promises .running-refused SmallCalls.c1-bytes [] 0 0 0 .1 (wrong SmallCalls.c1-bytes [] 0 0 0 .0 SmallCalls.c1-running) in
+    let bad = promises .running-refused SmallCalls.c1-bytes [] 0 0 0 .1 (wrong SmallCalls.c1-bytes [] 0 0 0 .0 (SmallCalls.c1-running 0)) in
     omega (arith, two-numbers SmallCalls.c1-unran bad)
 
 pub building-refused : Wrong.Building-refused → ⊥
@@ -135,14 +135,14 @@ judge-determined wrong =
 -- C1 with budget 3 and 2
 pub run-determined : Wrong.Run-determined → ⊥
 run-determined wrong =
-    let bad = wrong SmallCalls.c1-bytes [] _ 3 2 _ _ _ _ (SmallCalls.c1-ran 3 (SmallCalls.c1-accepted)) (SmallCalls.c1-ran 2 SmallCalls.c1-spent) .0 in
+    let bad = wrong SmallCalls.c1-bytes [] _ 3 2 _ _ _ _ (SmallCalls.c1-ran 3 0 0 SmallCalls.c1-accepted) (SmallCalls.c1-ran 2 0 0 SmallCalls.c1-spent) .0 in
     let z : _≡_ {A = ℕ} 3 2 = cc in
     omega arith
 
 pub build-determined : Wrong.Build-determined → ⊥
 build-determined wrong =
     let a : List ℕ = replicate 469 0 in
-    let bad = wrong Whole Leading empty-grammar a _ _ _ _ (SmallCalls.c1-built Whole a refl) (SmallCalls.c1-built Leading a refl) .1 in
+    let bad = wrong Whole Leading empty-grammar a _ _ _ _ (SmallCalls.c1-built Whole a (omega arith)) (SmallCalls.c1-built Leading a (omega arith)) .1 in
     omega (arith, ap (λ (l : List ℕ). getD l 360 0) bad, SmallCalls.c1-whole a, SmallCalls.c1-leading a)
 
 -- no input, with two out buffers
@@ -175,7 +175,7 @@ build-independent wrong =
     let a : List ℕ = replicate 469 0 in
     let b : List ℕ = replicate 469 1 in
     let fine = ap (λ (f : Refusal). f .number) (SmallCalls.c1-building 469) in
-    let bad = wrong Whole empty-grammar _ _ a b _ _ refl (SmallCalls.c1-built Whole a refl) (SmallCalls.c1-built Whole b refl) .1 fine in
+    let bad = wrong Whole empty-grammar _ _ a b _ _ refl (SmallCalls.c1-built Whole a (omega arith)) (SmallCalls.c1-built Whole b (omega arith)) .1 fine in
     let same = SmallCalls.same-byte 469 468 (omega arith) (SmallCalls.c1-left Whole a) (SmallCalls.c1-left Whole b) (rw SmallCalls.c1-length at bad) in
     omega (arith, SmallCalls.c1-after Whole a, SmallCalls.c1-after Whole b)
 

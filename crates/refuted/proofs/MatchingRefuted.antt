@@ -83,7 +83,7 @@ pub built-accepted-told : Wrong.Built-accepted-told → ⊥
 unfolding default-matching verdict-number
 built-accepted-told wrong =
     c2-not-all
-    (wrong empty-grammar (97 ∷ []) buffer _ _ _ _ _ 0 _ _ (c2-built .unrefused .bytes) c2-leading-told refl .0 (build-told Leading buffer refl))
+    (wrong empty-grammar (97 ∷ []) buffer _ _ _ _ _ 0 _ _ (c2-built .unrefused .bytes) c2-leading-told refl .0 (build-told Leading buffer (omega arith)))
 
 -- the byte 61 and another after it: parsing consumes one of the two
 pub leading-rows : Wrong.Leading-rows → ⊥

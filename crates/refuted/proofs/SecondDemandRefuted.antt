@@ -7,6 +7,7 @@ use mathlib.Core.Option.{none, some}
 use Prim.Native.Nat.{ℕ, zero, suc}
 use native.Mathlib.Omega.{arith}
 use lib.ListN.{length, replicate}
+use Rattle.refusal.specs.declared.Refusal.{Refusal}
 use Rattle.machine.specs.declared.Config.{Config}
 use Rattle.machine.specs.declared.Reply.{Reply}
 use Rattle.machine.specs.declared.Action.the-variants.{Push}
@@ -31,7 +32,8 @@ use Rattle.refuted.specs.SecondDemand as Wrong
 use Rattle.refuted.proofs.Rows.{first, c10-holds}
 use Rattle.refuted.proofs.Witnesses.{same-number}
 use Rattle.refuted.proofs.GrammarExamples.{c1-built, c2-built, c2-parses, c2-not-all, c4-built, c2-leading}
-use Rattle.refuted.proofs.BuiltFacts.{no-rules-refused, doubled-markers, longer-built, longer-judged, c1-ran-fine, c1-ran}
+use Rattle.refuted.proofs.SmallCalls
+use Rattle.refuted.proofs.BuiltFacts.{no-rules-refused, doubled-markers, longer-judged}
 use Rattle.refuted.proofs.RunsOff.{runs-off, no-verdict}
 use Rattle.refuted.proofs.TwoStates.{two-states, two-go-on, zero-again, one-again, two-configs}
 
@@ -171,7 +173,7 @@ build-then-judge wrong =
       notes-room = omega (arith, promises .c1-cells);
       work-room = omega (arith, promises .c1-cells);
     } in
-    let (image, gets) = wrong Whole empty-grammar [] _ _ _ _ _ _ _ _ enough longer-built longer-judged in
+    let (image, gets) = wrong Whole empty-grammar [] _ _ _ _ _ _ _ _ enough (SmallCalls.c1-built Whole (replicate 469 0) (omega arith)) longer-judged in
     let answers = gets .answers in
     let z : _≡_ {A = ℕ} 0 1 = cc in
     omega arith
@@ -196,7 +198,7 @@ plain-run-true wrong =
 -- two cells of 1 are 0 after C1's
 pub run-answers : Wrong.Run-answers → ⊥
 run-answers wrong =
-    let (e, told, true-end, kept) = wrong _ _ _ _ (1 ∷ 1 ∷ []) (0 ∷ 0 ∷ []) c1-ran-fine c1-ran in
+    let (e, told, true-end, kept) = wrong _ _ _ _ (1 ∷ 1 ∷ []) (0 ∷ 0 ∷ []) (ap (λ (f : Refusal). f .number) (SmallCalls.c1-running 1)) (SmallCalls.c1-ran 3 1 1 SmallCalls.c1-accepted) in
     let z : _≡_ {A = ℕ} 0 1 = cc in
     omega arith
 

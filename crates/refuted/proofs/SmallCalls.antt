@@ -2,11 +2,12 @@
 use mathlib.Core.Path.{_≡_, refl, sym, ap, _∙_}
 use mathlib.Core.Bool.{true}
 use mathlib.Core.List.{List, [], _∷_, _++_}
-use Prim.Native.Nat.{ℕ, _<_, _≤_}
+use Prim.Native.Nat.{ℕ, suc, _<_, _≤_}
 use native.Mathlib.Omega.{arith}
 use lib.Dec.{ltb}
 use lib.ListN.{length, take, drop, replicate, List·getD-append}
 use lib.Seq.{getD-take, getD-drop, getD-append-add}
+use borrow.Author.Tests.{ne-eqb, le-ltb}
 use Rattle.refusal.specs.First.{refusal, or-else, refuse-if}
 use Rattle.codec.specs.Bytes.{byte}
 use Rattle.codec.specs.Numbers.{little-endian, pair-bytes}
@@ -31,7 +32,7 @@ use Rattle.builder.specs.Classes.{cuts-at, cut-from, cut, class-of, class-count
 use Rattle.builder.specs.Table.{rows, by-state, select, on-byte, row-zero, class-inside, rows-at, made}
 use Rattle.builder.specs.Image.{symbols-of, built-rules, rules-made, map-made, built, built-length, parts}
 use Rattle.builder.specs.Calls.{build-refusal, Build-as, Build-says}
-use Rattle.worked_examples.specs.Examples.{image-of, empty-grammar, plain-table}
+use Rattle.worked_examples.specs.Examples.{image-of, source-refusal, empty-grammar, plain-table}
 use Rattle.promises.proofs.Proved.{promises}
 use Rattle.refuted.proofs.Rows.{first, others, c1-holds}
 use Rattle.refuted.proofs.Witnesses.{Judged-there, judged-there}
@@ -65,6 +66,10 @@ none-ran n a = (refl, refl)
 abbrev pub c1-bytes : List ℕ
 c1-bytes = built Whole empty-grammar
 
+pub c1-good : Grammar.grammar-refusal empty-grammar .number ≡ 0
+unfolding source-refusal
+c1-good = c1-holds .good
+
 pub c1-unrefused : Unrefused c1-bytes []
 unfolding image-of
 c1-unrefused = c1-holds .unrefused
@@ -91,20 +96,20 @@ c1-cleared {a} {b} j =
     let zero = promises .work-cleared c1-bytes [] a (j .a-now) b (j .b-now) _ _ _ (c1-unrefused .bytes) (j .says) in
     same-byte 30 29 (omega arith) (j .b-now) (replicate 30 0) (rw (promises .c1-cells) at zero)
 
--- and running it: any cell will do
-pub c1-running : run-refusal c1-bytes [] 1 ≡ refusal 0 0
+-- and running it: one cell is enough
+pub c1-running : (more : ℕ) → run-refusal c1-bytes [] (suc more) ≡ refusal 0 0
 unfolding run-refusal or-else refuse-if
-c1-running = rw (c1-capture 0)
+c1-running n = rw (c1-capture 0, ne-eqb (suc n) 0 (λ e. omega (arith, e)))
 
 pub c1-unran : run-refusal c1-bytes [] 0 ≡ refusal 10 0
 unfolding run-refusal or-else refuse-if
 c1-unran = rw (c1-capture 0)
 
 pub c1-ran :
-    (budget : ℕ) {e : Run-end} → run-on budget (machine c1-bytes []) 0 2 start ≡ e →
-    Run-says c1-bytes [] budget (answer e) (0 ∷ 0 ∷ []) (0 ∷ 0 ∷ [])
+    (budget x y : ℕ) {e : Run-end} → run-on budget (machine c1-bytes []) 0 2 start ≡ e →
+    Run-says c1-bytes [] budget (answer e) (x ∷ y ∷ []) (0 ∷ 0 ∷ [])
 unfolding Run-says Run-as run-refusal or-else refuse-if
-c1-ran n q = rw (c1-capture 0) (ap answer (sym q), refl)
+c1-ran n x y q = rw (c1-capture 0) (ap answer (sym q), refl)
 
 -- its plain runs with budgets 3 and 2
 pub c1-accepted : run-on 3 (machine c1-bytes []) 0 2 start ≡ run-end (Terminated (Over true)) 3 (config 2 1 0)
@@ -136,7 +141,7 @@ c1-length = c1-computed .1
 pub c1-first : byte (built Whole empty-grammar) 0 ≡ 24
 c1-first = c1-computed .2
 
--- with one byte of room; and with one byte more than needed, whatever stood there
+-- with one byte of room; and with enough, whatever stood there
 pub c1-unbuilt : (b : ℕ) → Build-says Whole empty-grammar (Not-built (refusal 13 468)) (b ∷ []) (b ∷ [])
 unfolding Build-says Build-as refuse-if
 c1-unbuilt b = rw (c1-building 1) (refl, refl)
@@ -144,9 +149,9 @@ c1-unbuilt b = rw (c1-building 1) (refl, refl)
 abbrev pub c1-left : Matching → (a : List ℕ) → List ℕ
 c1-left how a = built how empty-grammar ++ drop 468 a
 
-pub c1-built : (how : Matching) (a : List ℕ) → length a ≡ 469 → Build-says how empty-grammar (Image 468) a (c1-left how a)
+pub c1-built : (how : Matching) (a : List ℕ) → 468 ≤ length a → Build-says how empty-grammar (Image 468) a (c1-left how a)
 unfolding Build-says Build-as refuse-if
-c1-built how a h = rw (h, c1-building 469, c1-length) (refl, refl)
+c1-built how a h = rw (c1-building (length a), le-ltb _ _ h, c1-length) (refl, refl)
 
 c1-long : (how : Matching) → length (built how empty-grammar) ≡ 468
 c1-long how = promises .image-length how empty-grammar ∙ c1-length

@@ -18,9 +18,8 @@ use Rattle.simulator.proofs.Answered.{answered-fine}
 use Rattle.grammar.specs.Grammar.{rules, kind-of, b-of, c-of, expression-by, expression, rule-right, grammar-rules-from, grammar-refusal}
 use Rattle.recursion.specs.Computed.{nothing-by, nothing-after, leads-by, leads-through, leads-on, recursion-from, recursion-refusal}
 use Rattle.builder.specs.declared.Matching.the-variants.{Whole}
-use Rattle.builder.specs.declared.Built.the-variants.{Image}
 use Rattle.builder.specs.Image.{built, built-length}
-use Rattle.builder.specs.Calls.{build-refusal, Build-as, Build-says}
+use Rattle.builder.specs.Calls.{build-refusal}
 use Rattle.syntax.specs.declared.Leaf.the-variants.{EmptyString}
 use Rattle.syntax.specs.declared.Prefix.the-variants.{NotPredicate}
 use Rattle.syntax.specs.Tokens as Tokens
@@ -31,7 +30,7 @@ use Rattle.syntax.specs.Compile.{grammar-of, encode, all-rules, named-from, hel
 use Rattle.syntax.specs.Reading.{Grammar, Read-says, read}
 use Rattle.syntax.specs.RuleLines.{line-offsets, own}
 use Rattle.grammar_judge.specs.Calls.{Lent, lent, parts-refusal, lent-refusal}
-use Rattle.typed.specs.Calls.{Build-text-says, Judge-text-says, judged}
+use Rattle.typed.specs.Calls.{Judge-text-says, judged}
 use Rattle.typed.specs.declared.left_recursion.TextRecursion.the-variants.{Recursive}
 use Rattle.typed.specs.Recursion.{Text-recursion-says, recursive}
 use Rattle.worked_examples.specs.Examples.{row, from-grammar, Row-holds, image-of, row-machine, source-refusal, empty-grammar, byte-grammar, endless-grammar}
@@ -114,15 +113,6 @@ build-fine gs n good enough = rw (eq-eqb _ _ good, le-ltb _ _ enough)
 pub no-room : (gs : List ℕ) (n : ℕ) → grammar-refusal gs .number ≡ 0 → n < built-length gs → build-refusal gs n ≡ refusal 13 (built-length gs)
 unfolding build-refusal or-else refuse-if
 no-room gs n good few = rw (eq-eqb _ _ good, lt-ltb _ _ few)
-
-pub text-built :
-    (text gs a : List ℕ) → Read-says text (Grammar gs) → grammar-refusal gs .number ≡ 0 → built-length gs ≤ length a →
-    Build-text-says text (Image (built-length gs)) a (built Whole gs ++ drop (built-length gs) a)
-unfolding Build-says Build-as
-text-built text gs a reads good enough =
-    let says : Build-says Whole gs (Image (built-length gs)) a (built Whole gs ++ drop (built-length gs) a) =
-    rw (build-fine gs (length a) good enough) (refl, refl) in
-    Build-text-says.read reads says
 
 -- enough room for image, notes and work: nothing is refused
 pub lent-fine :

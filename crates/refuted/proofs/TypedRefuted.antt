@@ -42,12 +42,13 @@ use Rattle.reader.specs.Calls.{grammar-answer, Read-tells}
 use Rattle.grammar_judge.specs.Calls.{Lent, lent, parts-refusal, lent-refusal}
 use Rattle.typed.specs.TypedCalls.{Enough-lent}
 use Rattle.typed.specs.Calls.{Build-text-says, Judge-text-says, room-refused, Judge-text-refused}
-use Rattle.worked_examples.specs.Examples.{image-of, row-machine, source-refusal, empty-grammar}
+use Rattle.worked_examples.specs.Examples.{image-of, row-machine, empty-grammar}
 use Rattle.worked_examples.specs.TextExamples.{Read-so, bytes-of, refused-table}
 use Rattle.promises.proofs.Proved.{promises}
 use Rattle.refuted.specs.Typed as Wrong
 use Rattle.refuted.proofs.Witnesses.{few-notes-judged, same-number, clash}
-use Rattle.refuted.proofs.TextCalls.{line-of, empty-text, byte-text, undefined-text, not-there, legal-texts, unrefused-texts, grammars-are, empty-read, room, room-enough, text-judged-in-room, build-fine, text-built, no-room}
+use Rattle.refuted.proofs.SmallCalls.{c1-good, c1-length, c1-left, c1-built}
+use Rattle.refuted.proofs.TextCalls.{line-of, empty-text, byte-text, undefined-text, not-there, legal-texts, unrefused-texts, grammars-are, empty-read, room, room-enough, text-judged-in-room, build-fine, no-room}
 use Rattle.refuted.proofs.Rows.{first, rows-from, c1-holds, c2-holds, c4-holds}
 
 -- READING. a=empty; has no fault, and no text one at its end
@@ -103,16 +104,9 @@ pub read-good : Wrong.Read-good → ⊥
 unfolding grammar-answer rules kind-of b-of c-of rule-right grammar-rules-from grammar-refusal
 read-good wrong = omega (arith, wrong empty-text _ empty-tells refl .good)
 
--- BUILDING. The image of a=empty; has 468 bytes
-empty-good : grammar-refusal empty-grammar .number ≡ 0
-unfolding source-refusal
-empty-good = c1-holds .good
-
-empty-long : built-length empty-grammar ≡ 468
-empty-long = sym (promises .image-length Whole empty-grammar) ∙ promises .c1-image
-
-empty-built : (a : List ℕ) → 468 ≤ length a → Build-text-says empty-text (Image 468) a (built Whole empty-grammar ++ drop 468 a)
-empty-built a enough = rw empty-long at (text-built empty-text empty-grammar a empty-read empty-good (omega (arith, empty-long)))
+-- BUILDING. The image of a=empty; is C1's
+pub empty-built : (a : List ℕ) → 468 ≤ length a → Build-text-says empty-text (Image 468) a (c1-left Whole a)
+empty-built a enough = Build-text-says.read empty-read (c1-built Whole a enough)
 
 abbrev exactly : List ℕ
 exactly = replicate 468 0
@@ -120,7 +114,7 @@ exactly = replicate 468 0
 pub build-text-refuses : Wrong.Build-text-refuses → ⊥
 unfolding of-built
 build-text-refuses wrong =
-    let few : build-refusal empty-grammar 467 ≡ refusal 13 (built-length empty-grammar) = no-room empty-grammar 467 empty-good (omega (arith, empty-long)) in
+    let few : build-refusal empty-grammar 467 ≡ refusal 13 (built-length empty-grammar) = no-room empty-grammar 467 c1-good (omega (arith, c1-length)) in
     let refused : build-refusal empty-grammar 467 .number ≡ 0 → ⊥ = λ z. omega (arith, z, ap (λ (f : Refusal). f .number) few) in
     let bad = wrong empty-text _ 467 exactly _ _ refl (empty-built exactly (omega arith)) (room-refused empty-read refused) .0 in
     omega (arith, ap (λ (p : Reply). p .refusal) bad, ap (λ (f : Refusal). f .number) few)
@@ -145,9 +139,9 @@ pub build-text-independent : Wrong.Build-text-independent → ⊥
 build-text-independent wrong =
     let a : List ℕ = replicate 469 0 in
     let b : List ℕ = replicate 469 1 in
-    let fine = build-fine empty-grammar 469 empty-good (omega (arith, empty-long)) in
+    let fine = build-fine empty-grammar 469 c1-good (omega (arith, c1-length)) in
     let bad = wrong empty-text _ _ a b _ _ refl (empty-built a (omega arith)) (empty-built b (omega arith)) .1 empty-grammar empty-read fine in
-    omega (arith, sym (byte-after 0) ∙ ap (λ (k : List ℕ). getD k 468 0) (rw empty-long at bad) ∙ byte-after 1)
+    omega (arith, sym (byte-after 0) ∙ ap (λ (k : List ℕ). getD k 468 0) (rw c1-length at bad) ∙ byte-after 1)
 
 -- JUDGING. A text that is refused, with one note and no work cells
 abbrev pub one-note : Lent
@@ -173,7 +167,7 @@ judge-text-independent wrong =
     let j = text-judged-in-room empty-text empty-grammar [] Accepted 3 (config 2 1 0) (some 3) empty-read c1-holds in
     let x : Lent = room empty-grammar [] in
     let z : Lent = lent [] (x .notes) (x .work) in
-    let few : build-refusal empty-grammar 0 ≡ refusal 13 (built-length empty-grammar) = no-room empty-grammar 0 empty-good (omega (arith, empty-long)) in
+    let few : build-refusal empty-grammar 0 ≡ refusal 13 (built-length empty-grammar) = no-room empty-grammar 0 c1-good (omega (arith, c1-length)) in
     let refused : lent-refusal empty-grammar [] z .number ≡ 0 → ⊥ = λ e. omega (arith, rw few at e) in
     let bad : Answer (judgement Accepted 3 (config 2 1 0)) ≡ Unjudged (lent-refusal empty-grammar [] z) =
     wrong empty-text [] x (j .after) z z _ _ refl refl (j .says) (Judge-text-says.refused empty-read refused) .0 in
@@ -210,7 +204,7 @@ few-cells e =
     let x : Lent = room empty-grammar [] in
     let cells-lent : length (x .notes) ≡ 30 = length-replicate {A = ℕ} (how-many (machine (built Whole empty-grammar) [])) 0 ∙ promises .c1-cells in
     let says = few-notes-judged (built Whole empty-grammar) (97 ∷ []) (x .notes) (x .work) (c2-holds .unrefused) (omega (arith, more-cells, cells-lent)) in
-    let fine = rw (build-fine empty-grammar _ empty-good (room-enough empty-grammar [] .0)) at e in
+    let fine = rw (build-fine empty-grammar _ c1-good (room-enough empty-grammar [] .0)) at e in
     let bad = judged-right (built Whole empty-grammar) (97 ∷ []) _ (x .notes) _ (x .work) _ fine says .answers in
     clash cc
 

@@ -18,18 +18,17 @@ use Rattle.simulator.specs.declared.Judged.the-variants.{Refused}
 use Rattle.simulator.specs.Calls.{judge-refusal, Judge-as, Judge-says}
 use Rattle.simulator.specs.Replies.{of-judged}
 use Rattle.interpreter.specs.PlainRun.{Run-end}
-use Rattle.grammar.specs.Grammar.{grammar-refusal}
 use Rattle.builder.specs.declared.Matching.the-variants.{Whole}
 use Rattle.answer_line.specs.Line.{digits, decimal, field, verdict-word, refused-word, refusal-line, answer-line, written, Lined}
 use Rattle.answer.specs.Input.{input-grammar}
 use Rattle.answer.specs.Conditions.{Input-right}
 use Rattle.grammar_judge.specs.Calls.{Lent, lent}
-use Rattle.worked_examples.specs.Examples.{Row, row, from-grammar, Row-holds, table, grammar-rows, second-row, source-refusal, row-machine, empty-grammar, plain-table}
+use Rattle.worked_examples.specs.Examples.{Row, row, from-grammar, Row-holds, table, grammar-rows, second-row, row-machine, empty-grammar, plain-table}
 use Rattle.worked_examples.specs.ProgramLine.{endless-input, endless-line, Program-room}
 use Rattle.sejimakpu.specs.Cells.{cells}
 use Rattle.sejimakpu.specs.Calls.{Judge-tells}
 use Rattle.promises.proofs.Proved.{promises}
-use Rattle.refuted.proofs.Rows.{first, others, c1-holds, c2-holds, c3, c4, c3-holds, c4-holds}
+use Rattle.refuted.proofs.Rows.{first, others, c2-holds, c3, c4, c3-holds, c4-holds}
 use Rattle.refuted.proofs.SmallCalls
 use Rattle.refuted.proofs.AnswerCalls
 use Rattle.refuted.specs.Users as Wrong
@@ -96,14 +95,10 @@ unfolding refusal-line refused-word field decimal digits
 unread-refused wrong = omega (arith, ap (λ (l : List ℕ). getD l 11 0) (wrong nothing-lent nothing-lent _ (AnswerCalls.unread nothing-lent)))
 
 -- C1 with neither notes nor work cells
-c1-good : grammar-refusal empty-grammar .number ≡ 0
-unfolding source-refusal
-c1-good = c1-holds .good
-
 pub refusals-left : Wrong.Refusals-left → ⊥
 unfolding or-else refuse-if
 refusals-left wrong =
-    let bad = rw (promises .c1-cells) at (wrong Whole empty-grammar [] 0 0 c1-good) in
+    let bad = rw (promises .c1-cells) at (wrong Whole empty-grammar [] 0 0 SmallCalls.c1-good) in
     omega (arith, ap (λ (f : Refusal). f .number) (sym (SmallCalls.c1-judging 0 0) ∙ bad))
 
 -- THE EXAMPLES
