@@ -111,6 +111,7 @@ refuted =
       typed-stuck = Typed.typed-stuck;
       typed-loops = Typed.typed-loops;
       typed-judged = Typed.typed-judged;
+      text-examples = Typed.text-examples;
       bundle-refused = Bundles.bundle-refused;
       bundle-call-refused = Bundles.bundle-call-refused;
       bundle-refuses = Bundles.bundle-refuses;

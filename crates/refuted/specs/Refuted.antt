@@ -113,6 +113,7 @@ pub record Refuted : Type 0 where
   pub typed-stuck : Typed.Typed-stuck → ⊥
   pub typed-loops : Typed.Typed-loops → ⊥
   pub typed-judged : Typed.Typed-judged → ⊥
+  pub text-examples : Typed.Text-examples → ⊥
   -- a shift's captures in one bundle
   pub bundle-refused : Bundles.Bundle-refused → ⊥
   pub bundle-call-refused : Bundles.Bundle-call-refused → ⊥
