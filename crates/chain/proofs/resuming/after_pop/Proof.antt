@@ -24,35 +24,41 @@ mul-i c = search (needs, newest-open (c .before .before .before .before .pre) (c
 
 shared-slice-read-i : tie.Need-shared-slice-read-i
 shared-slice-read-i c =
-    let back4 = c .before .before .before .before in
-    newest-open (back4 .before .pre) (c .before .if1 .left) .work-there
+    let at-if1 = c .before in
+    let start = at-if1 .before .before .before .before in
+    newest-open (start .pre) (at-if1 .if1 .left) .work-there
 
 cast-i : tie.Need-cast-i
 cast-i c =
-    let back4 = c .before .before .before .before in
-    number-cast (newest-open (back4 .before .pre) (c .before .if1 .left))
+    let at-if1 = c .before in
+    let start = at-if1 .before .before .before .before in
+    number-cast (newest-open (start .pre) (at-if1 .if1 .left))
 
 mul-symbol-told : tie.Need-mul-symbol-told
 mul-symbol-told c =
-    let back4 = c .before .before .before .before in
-    number-offset (newest-open (back4 .before .pre) (c .before .if1 .left))
+    let at-if1 = c .before in
+    let start = at-if1 .before .before .before .before in
+    number-offset (newest-open (start .pre) (at-if1 .if1 .left))
 
 shared-slice-read-symbol-told : tie.Need-shared-slice-read-symbol-told
 shared-slice-read-symbol-told c =
-    let back4 = c .before .before .before .before in
-    newest-open (back4 .before .before .pre) (c .before .before .if1 .left) .note-there
+    let at-if1 = c .before .before in
+    let start = at-if1 .before .before .before .before in
+    newest-open (start .pre) (at-if1 .if1 .left) .note-there
 
 in-row-requires : tie.Need-in-row-requires
 in-row-requires c κs =
-    let back4 = c .before .before .before .before in
-    resumed-fits (back4 .before .before .before .pre) (c .before .before .before .if1 .left) (c .symbol-told .ensures)
+    let at-if1 = c .before .before .before in
+    let start = at-if1 .before .before .before .before in
+    resumed-fits (start .pre) (at-if1 .if1 .left) (c .symbol-told .ensures)
 
 returns-2 : tie.Need-returns-2
 returns-2 c =
-    let back4 = c .before .before .before .before in
-    let back8 = back4 .before .before .before .before in
+    let at-in-row = c .before in
+    let at-if1 = at-in-row .before .before .before .before in
+    let start = at-if1 .before .before .before .before in
     let told = c .before .before in
-    resumed-is (back8 .before .pre) (back4 .before .if1 .left) (told .symbol-told .ensures) (c .registers-of2 .ensures) (c .before .in-row .ensures)
+    resumed-is (start .pre) (at-if1 .if1 .left) (told .symbol-told .ensures) (c .registers-of2 .ensures) (at-in-row .in-row .ensures)
 
 pub after-pop-spec : {M : Type 1} → statement M
 after-pop-spec =

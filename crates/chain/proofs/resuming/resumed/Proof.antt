@@ -7,24 +7,28 @@ use Rattle.chain.proofs.resuming.resumed.Tie as tie
 
 mul-row : tie.Need-mul-row
 mul-row c =
-    let back4 = c .before .before .before .before in
-    pointer-product-fits (back4 .before .before .before .before .pre)
+    let earlier = c .before .before .before .before in
+    let start = earlier .before .before .before .before in
+    pointer-product-fits (start .pre)
 
 after-pop-requires : tie.Need-after-pop-requires
 after-pop-requires c κs =
-    let back4 = c .before .before .before .before in
-    pop-returns (back4 .before .before .before .before .pre) (c .before .before .before .before .action .given .1)
+    let at-action = c .before .before .before .before in
+    let start = at-action .before .before .before .before in
+    pop-returns (start .pre) (at-action .action .given .1)
 
 returns : tie.Need-returns
 unfolding Step.resumed
 returns c =
-    let back4 = c .before .before .before .before in
-    rw (back4 .before .action .given .1, c .before .before .if1 .taken) (c .after-pop .ensures)
+    let at-if1 = c .before .before in
+    let at-action = at-if1 .before .before .before in
+    rw (at-action .action .given .1, at-if1 .if1 .taken) (c .after-pop .ensures)
 
 after-pop-requires-2 : tie.Need-after-pop-requires-2
 after-pop-requires-2 c κs =
-    let back4 = c .before .before .before .before in
-    pop-stays (back4 .before .before .before .before .pre) (c .before .before .before .before .action .given .1) (c .row-of .ensures)
+    let at-action = c .before .before .before .before in
+    let start = at-action .before .before .before .before in
+    pop-stays (start .pre) (at-action .action .given .1) (c .row-of .ensures)
 
 returns-2 : tie.Need-returns-2
 unfolding Step.resumed
@@ -41,8 +45,9 @@ returns-4 c = simp (c .before .enum-told3 .given .1) (c .unmoved3 .ensures)
 returns-5 : tie.Need-returns-5
 unfolding Step.resumed
 returns-5 c =
-    let back4 = c .before .before .before .before in
-    rw (back4 .before .action .given .1, c .before .before .if1 .left) (c .after-pop2 .ensures)
+    let at-if1 = c .before .before in
+    let at-action = at-if1 .before .before .before in
+    rw (at-action .action .given .1, at-if1 .if1 .left) (c .after-pop2 .ensures)
 
 pub resumed-spec : {M : Type 1} → statement M
 resumed-spec =

@@ -9,8 +9,9 @@ use Rattle.chain.proofs.step.closed.Tie as tie
 
 resumed-requires : tie.Need-resumed-requires
 resumed-requires c κs =
-    let back4 = c .before .before .before .before in
-    closed-resumes (back4 .before .before .before .pre) (c .action-of .ensures)
+    let earlier = c .before .before .before .before in
+    let start = earlier .before .before .before in
+    closed-resumes (start .pre) (c .action-of .ensures)
 
 returns : tie.Need-returns
 unfolding Step.closed machine
@@ -19,8 +20,9 @@ returns c = simp (c .before .before .if1 .taken) (rw (c .resumed .ensures, c .be
 returns-2 : tie.Need-returns-2
 unfolding Step.closed machine
 returns-2 c =
-    let back4 = c .before .before .before .before in
-    simp (c .before .if1 .left, sym (back4 .before .before .before .pre .terminator .is)) (c .registers-of .ensures)
+    let earlier = c .before .before .before .before in
+    let start = earlier .before .before .before in
+    simp (c .before .if1 .left, sym (start .pre .terminator .is)) (c .registers-of .ensures)
 
 pub closed-spec : {M : Type 1} → statement M
 closed-spec =

@@ -8,18 +8,21 @@ use Rattle.chain.proofs.step.first_look.Tie as tie
 
 moved-number-requires : tie.Need-moved-number-requires
 moved-number-requires c κs =
-    let back4 = c .before .before .before .before in
-    record { from = back4 .before .before .pre .own; leads = back4 .before .before .pre .changes _ (c .before .action2 .given .1) }
+    let earlier = c .before .before .before .before in
+    let start = earlier .before .before in
+    record { from = start .pre .own; leads = start .pre .changes _ (c .before .action2 .given .1) }
 
 moved-number-requires-2 : tie.Need-moved-number-requires-2
 moved-number-requires-2 c κs =
-    let back4 = c .before .before .before .before in
-    record { from = back4 .before .before .pre .own; leads = back4 .before .before .pre .pushes _ (c .before .action3 .given .1) }
+    let earlier = c .before .before .before .before in
+    let start = earlier .before .before in
+    record { from = start .pre .own; leads = start .pre .pushes _ (c .before .action3 .given .1) }
 
 popping-requires : tie.Need-popping-requires
 popping-requires c κs =
-    let back4 = c .before .before .before .before in
-    back4 .before .before .before .before .pre .pops _ _ (c .before .before .before .action4 .given .1)
+    let earlier = c .before .before .before .before in
+    let start = earlier .before .before .before .before in
+    start .pre .pops _ _ (c .before .before .before .action4 .given .1)
 
 returns : tie.Need-returns
 unfolding Step.first-look
@@ -50,8 +53,9 @@ returns-3 c =
 
 returns-4 : tie.Need-returns-4
 returns-4 c =
-    let back4 = c .before .before .before .before in
-    first-pops (c .before .before .popping .ensures) (back4 .before .before .action4 .given .1)
+    let at-popping = c .before .before in
+    let at-action4 = at-popping .before .before .before .before in
+    first-pops (at-popping .popping .ensures) (at-action4 .action4 .given .1)
 
 pub first-look-spec : {M : Type 1} → statement M
 first-look-spec =

@@ -7,45 +7,52 @@ use Rattle.chain.proofs.step.look.Tie as tie
 
 slice-read-cell : tie.Need-slice-read-cell
 slice-read-cell c =
-    let back4 = c .before .before .before .before in
-    note-there (back4 .before .before .before .pre .ready)
+    let earlier = c .before .before .before .before in
+    let start = earlier .before .before .before in
+    note-there (start .pre .ready)
 
 action-of-requires : tie.Need-action-of-requires
 action-of-requires c κs =
-    let back4 = c .before .before .before .before in
-    at-lookup (back4 .before .before .before .before .pre .ready)
+    let earlier = c .before .before .before .before in
+    let start = earlier .before .before .before .before in
+    at-lookup (start .pre .ready)
 
 first-look-requires : tie.Need-first-look-requires
 first-look-requires c κs =
-    let back4 = c .before .before .before .before in
-    let back8 = back4 .before .before .before .before in
-    first-ready (back8 .before .before .before .pre .ready) (c .before .before .before .if1 .taken) (c .before .before .action-of .ensures)
+    let earlier = c .before .before .before .before in
+    let earlier-2 = earlier .before .before .before .before in
+    let start = earlier-2 .before .before .before in
+    first-ready (start .pre .ready) (c .before .before .before .if1 .taken) (c .before .before .action-of .ensures)
 
 returns : tie.Need-returns
 returns c =
-    let back4 = c .before .before .before .before in
-    let acted = back4 .before .before .before in
+    let at-first-look = c .before .before .before .before in
+    let point = at-first-look .before .before .before in
+    let acted = point in
     let acted4 = acted .before .before .before .before in
     let acted8 = acted4 .before .before .before .before in
-    look-unseen (acted8 .before .pre .ready .number-is) (note-unseen (acted .before .if1 .taken)) (acted .action-of .ensures) (c .before .before .before .before .first-look .ensures)
+    look-unseen (acted8 .before .pre .ready .number-is) (note-unseen (acted .before .if1 .taken)) (acted .action-of .ensures) (at-first-look .first-look .ensures)
 
 returns-2 : tie.Need-returns-2
 returns-2 c =
-    let back4 = c .before .before .before .before in
-    let back8 = back4 .before .before .before .before in
-    look-open (back8 .before .before .pre .ready .number-is) (note-open _ (c .before .if2 .taken)) (c .registers-of .ensures)
+    let earlier = c .before .before .before .before in
+    let earlier-2 = earlier .before .before .before .before in
+    let start = earlier-2 .before .before in
+    look-open (start .pre .ready .number-is) (note-open _ (c .before .if2 .taken)) (c .registers-of .ensures)
 
 sub-number : tie.Need-sub-number
 sub-number c =
-    let back4 = c .before .before .before .before in
-    let back8 = back4 .before .before .before .before in
-    closed-least _ (c .before .if1 .left) (back8 .before .pre .told _)
+    let earlier = c .before .before .before .before in
+    let earlier-2 = earlier .before .before .before .before in
+    let start = earlier-2 .before in
+    closed-least _ (c .before .if1 .left) (start .pre .told _)
 
 config-from-requires : tie.Need-config-from-requires
 config-from-requires c κs =
-    let back4 = c .before .before .before .before in
-    let back8 = back4 .before .before .before .before in
-    apart (back8 .before .pre .ready) _ (note-closed _ (c .before .if1 .left) (back8 .before .pre .told _) (c .if2 .left))
+    let earlier = c .before .before .before .before in
+    let earlier-2 = earlier .before .before .before .before in
+    let start = earlier-2 .before in
+    apart (start .pre .ready) _ (note-closed _ (c .before .if1 .left) (start .pre .told _) (c .if2 .left))
 
 closed-requires : tie.Need-closed-requires
 closed-requires c κs =

@@ -8,19 +8,22 @@ use Rattle.chain.proofs.step.popping.Tie as tie
 
 after-pop-requires : tie.Need-after-pop-requires
 after-pop-requires c κs =
-    let back4 = c .before .before .before .before in
-    own-pops (back4 .before .before .before .pre) (c .before .row-of .ensures)
+    let earlier = c .before .before .before .before in
+    let start = earlier .before .before .before in
+    own-pops (start .pre) (c .before .row-of .ensures)
 
 returns : tie.Need-returns
 returns c =
-    let back4 = c .before .before .before .before in
-    let start = back4 .before .before .before .before in
+    let earlier = c .before .before .before .before in
+    let point = earlier .before .before .before .before in
+    let start = point in
     record { closes = λ b. rw (c .after-pop .ensures) (pops-pushed (start .args .e) (start .args .r) _ _ (c .before .before .before .if1 .taken) b); notes-are = refl }
 
 returns-2 : tie.Need-returns-2
 returns-2 c =
-    let back4 = c .before .before .before .before in
-    let start = back4 .before .before in
+    let earlier = c .before .before .before .before in
+    let point = earlier .before .before in
+    let start = point in
     record {
       closes = λ b. rw (c .registers-of .ensures, start .pre .own .is) (pops-changed (start .args .e) (start .args .r) (start .args .state) _ (c .before .if1 .left) b);
       notes-are = refl;

@@ -6,19 +6,22 @@ use Rattle.chain.proofs.step.step.Tie as tie
 
 look-requires : tie.Need-look-requires
 look-requires c κs =
-    let back4 = c .before .before .before .before in
-    look-ready (back4 .before .before .before .before .pre) (c .before .before .enum-told .given .1)
+    let earlier = c .before .before .before .before in
+    let start = earlier .before .before .before .before in
+    look-ready (start .pre) (c .before .before .enum-told .given .1)
 
 unwind-requires : tie.Need-unwind-requires
 unwind-requires c κs =
-    let back4 = c .before .before .before .before in
-    unwind-ready (back4 .before .before .before .before .pre) (c .before .before .enum-told2 .given .1)
+    let earlier = c .before .before .before .before in
+    let start = earlier .before .before .before .before in
+    unwind-ready (start .pre) (c .before .before .enum-told2 .given .1)
 
 clear-requires : tie.Need-clear-requires
 clear-requires c κs =
-    let back4 = c .before .before .before .before in
-    let back8 = back4 .before .before .before .before in
-    clear-ready (back8 .before .pre) (c .before .before .before .mode .given .1)
+    let earlier = c .before .before .before .before in
+    let earlier-2 = earlier .before .before .before .before in
+    let start = earlier-2 .before in
+    clear-ready (start .pre) (c .before .before .before .mode .given .1)
 
 returns : tie.Need-returns
 returns c =
@@ -43,8 +46,9 @@ returns-3 c =
 
 returns-4 : tie.Need-returns-4
 returns-4 c =
-    let back4 = c .before .before .before .before in
-    rw (c .unmoved .ensures) (done-says (back4 .before .before .before .pre) (c .before .enum-told3 .given .1))
+    let earlier = c .before .before .before .before in
+    let start = earlier .before .before .before in
+    rw (c .unmoved .ensures) (done-says (start .pre) (c .before .enum-told3 .given .1))
 
 pub step-spec : {M : Type 1} → statement M
 step-spec =

@@ -9,55 +9,65 @@ use Rattle.chain.proofs.step.unwind.Tie as tie
 
 slice-read-i : tie.Need-slice-read-i
 slice-read-i c =
-    let back4 = c .before .before .before .before in
-    newest-now (back4 .before .before .before .pre) .work-there
+    let earlier = c .before .before .before .before in
+    let start = earlier .before .before .before in
+    newest-now (start .pre) .work-there
 
 cast-i : tie.Need-cast-i
 cast-i c =
-    let back4 = c .before .before .before .before in
-    number-cast (newest-now (back4 .before .before .before .pre))
+    let earlier = c .before .before .before .before in
+    let start = earlier .before .before .before in
+    number-cast (newest-now (start .pre))
 
 mul-told : tie.Need-mul-told
 mul-told c =
-    let back4 = c .before .before .before .before in
-    number-offset (newest-now (back4 .before .before .before .pre))
+    let earlier = c .before .before .before .before in
+    let start = earlier .before .before .before in
+    number-offset (newest-now (start .pre))
 
 slice-read-told : tie.Need-slice-read-told
 slice-read-told c =
-    let back4 = c .before .before .before .before in
-    newest-now (back4 .before .before .before .before .pre) .note-there
+    let earlier = c .before .before .before .before in
+    let start = earlier .before .before .before .before in
+    newest-now (start .pre) .note-there
 
 add-note : tie.Need-add-note
 add-note c =
-    let back4 = c .before .before .before .before in
-    omega (arith, number-room (back4 .before .before .before .before .pre .ready))
+    let earlier = c .before .before .before .before in
+    let start = earlier .before .before .before .before in
+    omega (arith, number-room (start .pre .ready))
 
 mul-notes : tie.Need-mul-notes
 mul-notes c =
-    let back4 = c .before .before .before .before in
-    number-offset (newest-now (back4 .before .before .before .before .pre))
+    let earlier = c .before .before .before .before in
+    let start = earlier .before .before .before .before in
+    number-offset (newest-now (start .pre))
 
 slice-write-notes : tie.Need-slice-write-notes
 slice-write-notes c =
-    let back4 = c .before .before .before .before in
-    newest-now (back4 .before .before .before .before .pre) .note-there
+    let earlier = c .before .before .before .before in
+    let start = earlier .before .before .before .before in
+    newest-now (start .pre) .note-there
 
 slice-write-work : tie.Need-slice-write-work
 slice-write-work c =
-    let back4 = c .before .before .before .before in
-    newest-now (back4 .before .before .before .before .pre) .work-there
+    let earlier = c .before .before .before .before in
+    let start = earlier .before .before .before .before in
+    newest-now (start .pre) .work-there
 
 returns : tie.Need-returns
 returns c =
-    let back4 = c .before .before .before .before in
-    let back8 = back4 .before .before .before .before in
-    unwinds-on (back8 .before .before .pre) (c .before .if1 .taken) (c .registers-of .ensures)
+    let earlier = c .before .before .before .before in
+    let earlier-2 = earlier .before .before .before .before in
+    let start = earlier-2 .before .before in
+    unwinds-on (start .pre) (c .before .if1 .taken) (c .registers-of .ensures)
 
 action-of-requires : tie.Need-action-of-requires
 action-of-requires c κs =
-    let back4 = c .before .before .before .before in
-    let back8 = back4 .before .before .before .before in
-    at-lookup (back8 .before .pre .ready)
+    let earlier = c .before .before .before .before in
+    let earlier-2 = earlier .before .before .before .before in
+    let start = earlier-2 .before in
+    at-lookup (start .pre .ready)
 
 resumed-requires : tie.Need-resumed-requires
 resumed-requires c κs =

@@ -7,19 +7,23 @@ use Rattle.simulator.proofs.judge.judge_by_checked.Tie as tie
 
 returns : tie.Need-returns
 returns c =
-    let back4 = c .before .before .before .before in
-    long-says _ _ _ _ (back4 .before .before .before .pre) (c .before .before .length-refusal .ensures) (c .if1 .taken) refl
+    let earlier = c .before .before .before .before in
+    let start = earlier .before .before .before in
+    long-says _ _ _ _ (start .pre) (c .before .before .length-refusal .ensures) (c .if1 .taken) refl
 
 cells-needed-requires : tie.Need-cells-needed-requires
 cells-needed-requires c κs =
-    let back4 = c .before .before .before .before in
-    length-short _ _ (back4 .before .before .before .pre) (c .before .before .length-refusal .ensures) (c .if1 .left)
+    let earlier = c .before .before .before .before in
+    let start = earlier .before .before .before in
+    length-short _ _ (start .pre) (c .before .before .length-refusal .ensures) (c .if1 .left)
 
 judge-sized-requires : tie.Need-judge-sized-requires
 judge-sized-requires c κs =
-    let back4 = c .before .before .before .before in
-    let back8 = back4 .before .before .before .before in
-    sized _ _ (back8 .before .before .pre) (back4 .before .length-refusal .ensures) (c .before .before .before .if1 .left) _ refl (c .before .before .cells-needed .ensures)
+    let at-cells-needed = c .before .before in
+    let at-length-refusal = at-cells-needed .before .before .before in
+    let earlier = at-length-refusal .before .before .before .before in
+    let start = earlier .before in
+    sized _ _ (start .pre) (at-length-refusal .length-refusal .ensures) (c .before .before .before .if1 .left) _ refl (at-cells-needed .cells-needed .ensures)
 
 pub judge-by-checked-spec : {M : Type 1} → statement M
 judge-by-checked-spec =

@@ -6,10 +6,11 @@ use Rattle.simulator.proofs.judge.judge_checked.Tie as tie
 
 run-requires : tie.Need-run-requires
 run-requires c κs =
-    let back4 = c .before .before .before .before in
-    let back8 = back4 .before .before .before .before in
-    let back12 = back8 .before .before .before .before in
-    all-zero (back12 .before .before .pre) (back8 .zero .ensures) (c .before .before .before .before .zero2 .ensures)
+    let at-zero2 = c .before .before .before .before in
+    let at-zero = at-zero2 .before .before .before .before in
+    let earlier = at-zero .before .before .before .before in
+    let start = earlier .before .before in
+    all-zero (start .pre) (at-zero .zero .ensures) (at-zero2 .zero2 .ensures)
 
 pub judge-checked-spec : {M : Type 1} → statement M
 judge-checked-spec =

@@ -23,8 +23,9 @@ sizes-of-requires c κs = c .before .before .before .before .pre .unrefused
 
 finals-of-requires : tie.Need-finals-of-requires Inv-loop μ-loop
 finals-of-requires c κs =
-    let back4 = c .before .before .before .before in
-    long-image (back4 .before .pre)
+    let earlier = c .before .before .before .before in
+    let start = earlier .before in
+    long-image (start .pre)
 
 start-requires : tie.Need-start-requires Inv-loop μ-loop
 start-requires c κs =
@@ -34,23 +35,26 @@ start-requires c κs =
 
 loop-holds : tie.Need-loop-holds Inv-loop μ-loop
 loop-holds c =
-    let back4 = c .before .before .before .before in
-    let back8 = back4 .before .before .before .before in
-    at-start (rw (c .before .before .start .ensures, c .before .before .before .before .sizes-of .ensures, c .before .before .before .finals-of .ensures)) (back8 .before .pre)
+    let earlier = c .before .before .before .before in
+    let earlier-2 = earlier .before .before .before .before in
+    let start = earlier-2 .before in
+    at-start (rw (c .before .before .start .ensures, c .before .before .before .before .sizes-of .ensures, c .before .before .before .finals-of .ensures)) (start .pre)
 
 same-length : tie.Need-same-length Inv-loop μ-loop
 same-length c =
-    let back4 = c .before .before .before .before in
-    let back8 = back4 .before .before .before .before in
-    let back12 = back8 .before .before .before .before in
-    notes-kept (c .before .before .before .before .loop .inv) (back12 .before .before .pre)
+    let earlier = c .before .before .before .before in
+    let earlier-2 = earlier .before .before .before .before in
+    let earlier-3 = earlier-2 .before .before .before .before in
+    let start = earlier-3 .before .before in
+    notes-kept (c .before .before .before .before .loop .inv) (start .pre)
 
 same-length-2 : tie.Need-same-length-2 Inv-loop μ-loop
 same-length-2 c =
-    let back4 = c .before .before .before .before in
-    let back8 = back4 .before .before .before .before in
-    let back12 = back8 .before .before .before .before in
-    work-kept (c .before .before .before .before .loop .inv) (back12 .before .before .pre)
+    let earlier = c .before .before .before .before in
+    let earlier-2 = earlier .before .before .before .before in
+    let earlier-3 = earlier-2 .before .before .before .before in
+    let start = earlier-3 .before .before in
+    work-kept (c .before .before .before .before .loop .inv) (start .pre)
 
 returns : tie.Need-returns Inv-loop μ-loop
 returns c = right (c .before .before .before .before .loop .inv) (c .before .before .mode .given .1)
@@ -60,23 +64,26 @@ step-requires c κs = ready (c .before .before .before .loop .inv)
 
 add-steps : tie.Need-add-steps Inv-loop μ-loop
 add-steps c =
-    let back4 = c .before .before .before .before in
-    let back8 = back4 .before .before .before .before in
-    let room = steps-room (back8 .loop .inv) (not-done _ (back4 .before .before .before .match .keys2)) in
+    let earlier = c .before .before .before .before in
+    let at-match = earlier .before .before .before in
+    let turn = at-match .before in
+    let room = steps-room (turn .loop .inv) (not-done _ (at-match .match .keys2)) in
     omega arith
 
 loop-less : tie.Need-loop-less Inv-loop μ-loop
 loop-less c =
-    let back4 = c .before .before .before .before in
-    let back8 = back4 .before .before .before .before in
-    let few = few-steps (back8 .loop .inv) (not-done _ (back4 .before .before .before .match .keys2)) in
+    let earlier = c .before .before .before .before in
+    let at-match = earlier .before .before .before in
+    let turn = at-match .before in
+    let few = few-steps (turn .loop .inv) (not-done _ (at-match .match .keys2)) in
     omega arith
 
 loop-again : tie.Need-loop-again Inv-loop μ-loop
 loop-again c =
-    let back4 = c .before .before .before .before in
-    let back8 = back4 .before .before .before .before in
-    next (back8 .loop .inv) (not-done _ (back4 .before .before .before .match .keys2)) (c .before .before .before .before .step .ensures)
+    let at-step = c .before .before .before .before in
+    let at-match = at-step .before .before .before in
+    let turn = at-match .before in
+    next (turn .loop .inv) (not-done _ (at-match .match .keys2)) (at-step .step .ensures)
 
 pub run-spec : {M : Type 1} → statement M
 run-spec =
