@@ -19,7 +19,7 @@ use Rattle.expressions.specs.declared.lookahead.Ahead.{Ahead}
 use Rattle.expressions.specs.code.Lookahead.{Looks, starts, parts-choice}
 use Rattle.expressions.specs.code.Building.{advanced}
 use Rattle.expressions.specs.code.Operators.{Begun, Part, part, over, Part-room, placed-rules, placed-number, begun-of}
-use Rattle.expressions.specs.code.Levels.{level-of, follows, rest-from, pair, by-sign, slash-sign, Room, Stops, Spent, Level-read}
+use Rattle.expressions.specs.code.Levels.{Joined, level-of, follows, rest-from, pair, by-sign, slash-sign, Room, Stops, Spent, Level-read}
 use Rattle.expressions.proofs.Lookings.{clash, role-there, role-tells, none-there}
 use Rattle.expressions.proofs.Placing.{Joins, sequence-joins, choice-joins}
 use Rattle.expressions.proofs.Deriving.{Begins, After-slash, After-part, Parted, choices-parted, parts-parted}
@@ -104,16 +104,28 @@ choosing text =
       no-more = λ x a l e rest f. no-slash-follows text x a l e rest f;
     }
 
-pub joining : (text : List ℕ) (n : ℕ) → (n ≡ 0 → ⊥) → n ≤ 2 → Joining text n
-joining text zero some le = absurd (some refl)
-joining text (suc zero) some le = sequencing text
-joining text (suc (suc zero)) some le = choosing text
-joining text (suc (suc (suc n))) some le = absurd (omega arith)
+pub joining : (text : List ℕ) (n : ℕ) → Joined n → Joining text n
+joining text zero j = absurd (omega (arith, j .0))
+joining text (suc zero) j = sequencing text
+joining text (suc (suc zero)) j = choosing text
+joining text (suc (suc (suc n))) j = absurd (omega (arith, j .1))
 
--- the lowest level is a part
-pub part-level : (text : List ℕ) (n at d : ℕ) (before : Rules) (r : Part) → n ≡ 0 → Level-read prefixes text at d before r → Level-read (level-of n) text at d before r
+-- the first part: of a sequence it has no level of its own, of a choice it is a sequence
+pub other-level : (n : ℕ) → Joined n → (n ≡ 1 → ⊥) → n ≡ 2
+other-level zero j one = absurd (omega (arith, j .0))
+other-level (suc zero) j one = absurd (one refl)
+other-level (suc (suc zero)) j one = refl
+other-level (suc (suc (suc n))) j one = absurd (omega (arith, j .1))
+
+pub part-level :
+    (text : List ℕ) (n at d : ℕ) (before : Rules) (r : Part) → n ≡ 1 → Level-read prefixes text at d before r → Level-read (level-of (n - 1)) text at d before r
 unfolding level-of
-part-level text n at d before r e read = subst (λ (m : ℕ). Level-read (level-of m) text at d before r) (sym e) read
+part-level text n at d before r e read = subst (λ (m : ℕ). Level-read (level-of (m - 1)) text at d before r) (sym e) read
+
+pub sequence-level :
+    (text : List ℕ) (n at d : ℕ) (before : Rules) (r : Part) → n ≡ 2 → Level-read (level-of 1) text at d before r → Level-read (level-of (n - 1)) text at d before r
+unfolding level-of
+sequence-level text n at d before r e read = subst (λ (m : ℕ). Level-read (level-of (m - 1)) text at d before r) (sym e) read
 
 -- WAY BY WAY
 module _ (text : List ℕ) (n : ℕ) (J : Joining text n) (at d : ℕ) (before : Rules) (first : Part) (read : Level-read (level-of (n - 1)) text at d before first) where

@@ -1,11 +1,10 @@
 -- What looking ahead tells of the tokens from a place on. Assumes nothing.
 use mathlib.Core.Path.{_≡_, refl, sym, ap, subst, _∙_}
-use mathlib.Core.Bool.{Bool, true, false, cond, not}
+use mathlib.Core.Bool.{Bool, true, false}
 use mathlib.Core.List.{List, [], _∷_}
 use mathlib.Core.Logic.{_⊎_, inl, inr, ⊎-elim}
 use Prim.Native.Nat.{ℕ, _+_, _≤_}
 use native.Mathlib.Omega.{arith}
-use lib.Dec.{eqb}
 use lib.ListN.{length}
 use types.Run.{OneOf, miss}
 use denote.Enum.Declared.{tagOf}
@@ -25,7 +24,7 @@ use Rattle.expressions.specs.declared.lookahead.Role.{Role}
 use Rattle.expressions.specs.declared.lookahead.Role.the-variants as Roles
 use Rattle.expressions.specs.declared.lookahead.Ahead.{Ahead}
 use Rattle.expressions.specs.code.Lookahead.{role, Looks, starts, parts-choice}
-use Rattle.expressions.specs.code.Levels.{follows, suffix-sign, start-sign, slash-sign, by-sign, is-suffix, is-start, is-slash}
+use Rattle.expressions.specs.code.Levels.{suffix-sign, start-sign, slash-sign, by-sign, is-suffix, is-start, is-slash}
 use Rattle.expressions.proofs.lookahead.Role.{the-type}
 
 -- two constructors that are equal
@@ -160,45 +159,6 @@ module _ (text : List ℕ) (at : ℕ) (a : Ahead) (l : Looks text at a) where
   passes t us f =
       subst (λ (b : Ahead). tokens-at text (b .next) ≡ us) (sym (l .is))
       (⊎-elim (λ g. cc) (λ n. clash (cc (n .0))) (peeked text at at-lexeme (l .peeks)))
-
-is-first : (b : Bool) → b ≡ cond b true false
-is-first true = refl
-is-first false = refl
-
-is-second : (b : Bool) → not b ≡ cond b false true
-is-second true = refl
-is-second false = refl
-
-is-neither : (b : Bool) → false ≡ cond b false false
-is-neither true = refl
-is-neither false = refl
-
--- WHETHER A PART FOLLOWS, by the tags of the roles
-pub start-follows : (n : ℕ) (r : Role) → OneOf (0 ∷ 1 ∷ 2 ∷ 3 ∷ 4 ∷ []) (tagOf the-type r) → eqb n 1 ≡ follows n r
-unfolding follows
-start-follows n (Roles.Name k) h = is-first (eqb n 1)
-start-follows n (Roles.Range x) h = is-first (eqb n 1)
-start-follows n (Roles.Leaf a) h = is-first (eqb n 1)
-start-follows n Roles.Opening h = is-first (eqb n 1)
-start-follows n (Roles.Prefix p) h = is-first (eqb n 1)
-start-follows n (Roles.Suffix s) h = absurd (miss (0 ∷ 1 ∷ 2 ∷ 3 ∷ 4 ∷ []) 5 tt h)
-start-follows n Roles.Slash h = absurd (miss (0 ∷ 1 ∷ 2 ∷ 3 ∷ 4 ∷ []) 6 tt h)
-start-follows n Roles.Other h = absurd (miss (0 ∷ 1 ∷ 2 ∷ 3 ∷ 4 ∷ []) 7 tt h)
-
-pub slash-follows : (n : ℕ) (r : Role) → r ≡ Roles.Slash → not (eqb n 1) ≡ follows n r
-unfolding follows
-slash-follows n r e = subst (λ (q : Role). not (eqb n 1) ≡ follows n q) (sym e) (is-second (eqb n 1))
-
-pub none-follows : (n : ℕ) (r : Role) → OneOf (5 ∷ 7 ∷ []) (tagOf the-type r) → false ≡ follows n r
-unfolding follows
-none-follows n (Roles.Name k) h = absurd (miss (5 ∷ 7 ∷ []) 0 tt h)
-none-follows n (Roles.Range x) h = absurd (miss (5 ∷ 7 ∷ []) 1 tt h)
-none-follows n (Roles.Leaf a) h = absurd (miss (5 ∷ 7 ∷ []) 2 tt h)
-none-follows n Roles.Opening h = absurd (miss (5 ∷ 7 ∷ []) 3 tt h)
-none-follows n (Roles.Prefix p) h = absurd (miss (5 ∷ 7 ∷ []) 4 tt h)
-none-follows n (Roles.Suffix s) h = is-neither (eqb n 1)
-none-follows n Roles.Slash h = absurd (miss (5 ∷ 7 ∷ []) 6 tt h)
-none-follows n Roles.Other h = is-neither (eqb n 1)
 
 -- NONE OF SOME ROLES
 pub no-suffix-role : (r : Role) → OneOf (0 ∷ 1 ∷ 2 ∷ 3 ∷ 4 ∷ 6 ∷ 7 ∷ []) (tagOf the-type r) → suffix-role r ≡ false

@@ -3,8 +3,11 @@
 use crate::Numbering;
 use crate::Part;
 use crate::emitter::numbered;
+use crate::lookahead::Ahead;
 use crate::lookahead::Role;
+use crate::lookahead::is_slash;
 use crate::lookahead::peek;
+use crate::lookahead::starts;
 use crate::operators::begun;
 use crate::operators::over;
 use crate::operators::prefix_need;
@@ -17,15 +20,16 @@ use syntax::Leaf;
 use syntax::Node;
 ghost use mathlib.Core.Path.{_≡_};
 ghost use mathlib.Core.List.{List};
-ghost use Prim.Native.Nat.{ℕ, _+_, _≤_};
+ghost use Prim.Native.Nat.{ℕ, _+_, _-_, _≤_};
 ghost use lib.ListN.{length};
 ghost use Rattle.syntax.specs.Trees.{prefixes, operand};
 ghost use Rattle.syntax.specs.Compile.{compile-leaf};
+ghost use Rattle.expressions.specs.code.Lookahead.{Looks};
 ghost use Rattle.expressions.specs.code.Building.{rules-of};
 ghost use Rattle.expressions.specs.code.Operators.{part-of, Part-room};
-ghost use Rattle.expressions.specs.code.Levels.{Room, Name-room, leaf-made, name-made, Passes, Level-read, Suffixes-read, level-of, follows as follows-at, rest-from, pair as pair-of};
+ghost use Rattle.expressions.specs.code.Levels.{Room, Name-room, leaf-made, name-made, Passes, Level-read, Suffixes-read, Joined, level-of, follows as follows-at, rest-from, pair as pair-of};
 
-// The levels of an expression: 0 is a part, then a sequence of parts and a choice of sequences.
+// The levels of an expression: a sequence of parts, and a choice of sequences.
 const SEQUENCES: usize = 1;
 
 pub const CHOICES: usize = 2;
@@ -105,18 +109,18 @@ pub fn after(text: &[u8], at: usize) -> usize
     l.next
 }
 
-// An operand: a name, a range, a leaf, or an expression in brackets.
+// An operand, of which the first token is known: a name, a range, a leaf, or an expression in brackets.
 fn operand(
     text: &[u8],
     at: usize,
+    l: Ahead,
     depth: usize,
     numbering: Numbering,
     rules: &mut [u8; 124],
 ) -> Part
-    requires { ⌜ Room (now text) (rules-of (now rules) numbering) ⌝ }
+    requires { ⌜ Looks (now text) at l × Room (now text) (rules-of (now rules) numbering) ⌝ }
     ensures { λ r. ⌜ Level-read operand (now (text .entry)) at depth (rules-of (now (rules .entry)) numbering) (part-of r (now (rules .exit))) ⌝ }
 {
-    let l = peek(text, at);
     let role = l.role;
     match role {
         Role::Name(long) => named(text, l.offset, long, numbering, l.next),
@@ -163,8 +167,23 @@ fn part(text: &[u8], at: usize, depth: usize, numbering: Numbering, rules: &mut 
         | Role::Suffix(_)
         | Role::Slash
         | Role::Other => {
-            let x = operand(text, at, depth, numbering, rules);
-            if x.fits { suffixes(text, x, rules) } else { x }
+            let x = operand(text, at, l, depth, numbering, rules);
+            if !x.fits {
+                return x;
+            }
+            // without a suffix the operand is not handed on, which would copy it
+            let next = peek(text, x.at);
+            let then = next.role;
+            match then {
+                Role::Suffix(_) => suffixes(text, x, rules),
+                Role::Name(_)
+                | Role::Range(_)
+                | Role::Leaf(_)
+                | Role::Opening
+                | Role::Prefix(_)
+                | Role::Slash
+                | Role::Other => x,
+            }
         }
     }
 }
@@ -173,12 +192,10 @@ fn part(text: &[u8], at: usize, depth: usize, numbering: Numbering, rules: &mut 
 fn follows(level: usize, role: Role) -> bool
     ensures { λ r. ⌜ r ≡ follows-at level role ⌝ }
 {
-    match role {
-        Role::Name(_) | Role::Range(_) | Role::Leaf(_) | Role::Opening | Role::Prefix(_) => {
-            level == SEQUENCES
-        }
-        Role::Slash => level != SEQUENCES,
-        Role::Suffix(_) | Role::Other => false,
+    if level == SEQUENCES {
+        starts(role)
+    } else {
+        is_slash(role)
     }
 }
 
@@ -199,6 +216,25 @@ fn pair(level: usize, first: u8, rest: u8) -> Expression
     }
 }
 
+// The first part of an expression at a level: of a choice a sequence, of a sequence what has no level of its own.
+fn first_part(
+    text: &[u8],
+    at: usize,
+    level: usize,
+    depth: usize,
+    numbering: Numbering,
+    rules: &mut [u8; 124],
+) -> Part
+    requires { ⌜ Joined level × Room (now text) (rules-of (now rules) numbering) ⌝ }
+    ensures { λ r. ⌜ Level-read (level-of (level - 1)) (now (text .entry)) at depth (rules-of (now (rules .entry)) numbering) (part-of r (now (rules .exit))) ⌝ }
+{
+    if level == SEQUENCES {
+        part(text, at, depth, numbering, rules)
+    } else {
+        expression(text, at, SEQUENCES, depth, numbering, rules)
+    }
+}
+
 // An expression at a level. Sequences and choices go on to the right.
 pub fn expression(
     text: &[u8],
@@ -208,13 +244,10 @@ pub fn expression(
     numbering: Numbering,
     rules: &mut [u8; 124],
 ) -> Part
-    requires { ⌜ (level ≤ 2) × Room (now text) (rules-of (now rules) numbering) ⌝ }
+    requires { ⌜ Joined level × Room (now text) (rules-of (now rules) numbering) ⌝ }
     ensures { λ r. ⌜ Level-read (level-of level) (now (text .entry)) at depth (rules-of (now (rules .entry)) numbering) (part-of r (now (rules .exit))) ⌝ }
 {
-    if level == 0 {
-        return part(text, at, depth, numbering, rules);
-    }
-    let first = expression(text, at, level - 1, depth, numbering, rules);
+    let first = first_part(text, at, level, depth, numbering, rules);
     if !first.fits {
         return first;
     }

@@ -8,7 +8,7 @@ use syntax::Sign;
 use syntax::Suffix;
 use syntax::Token;
 ghost use mathlib.Core.Path.{_≡_};
-ghost use Rattle.expressions.specs.code.Lookahead.{role, Looks};
+ghost use Rattle.expressions.specs.code.Lookahead.{role, Looks, starts as starts-part, parts-choice};
 
 // What a token is to an expression: an operand begins with it, or it is an operator or a slash, or none of these.
 pub enum Role {
@@ -74,5 +74,37 @@ pub fn peek(text: &[u8], at: usize) -> Ahead
             offset: at,
             next: at,
         },
+    }
+}
+
+// Whether a part of a sequence begins with it.
+pub fn starts(ahead: Role) -> bool
+    ensures { λ r. ⌜ r ≡ starts-part ahead ⌝ }
+{
+    match ahead {
+        Role::Name(_) => true,
+        Role::Range(_) => true,
+        Role::Leaf(_) => true,
+        Role::Opening => true,
+        Role::Prefix(_) => true,
+        Role::Suffix(_) => false,
+        Role::Slash => false,
+        Role::Other => false,
+    }
+}
+
+// Whether a choice goes on after it.
+pub fn is_slash(ahead: Role) -> bool
+    ensures { λ r. ⌜ r ≡ parts-choice ahead ⌝ }
+{
+    match ahead {
+        Role::Name(_) => false,
+        Role::Range(_) => false,
+        Role::Leaf(_) => false,
+        Role::Opening => false,
+        Role::Prefix(_) => false,
+        Role::Suffix(_) => false,
+        Role::Slash => true,
+        Role::Other => false,
     }
 }

@@ -162,7 +162,8 @@ pub line-accepted : Wrong.Line-accepted → ⊥
 unfolding of-report totals-left cells of-judged line-cells lines-cells image-of row-machine verdict-number
 line-accepted wrong =
     let p = reported [] zeros zeros (omega arith) (omega arith) in
-    let tells : Judge-bundle-tells popping-image one-empty [] (lines-cells (c10-answer ∷ [])) [] (totals-cells (totals (c10-answer ∷ []))) zeros (p .a-now) zeros (p .b-now) 0 (cells (count-reply 1)) =
+    let lines-now : List ℕ = lines-cells (c10-answer ∷ []) in
+    let tells : Judge-bundle-tells popping-image one-empty [] lines-now [] (totals-cells (totals (c10-answer ∷ []))) zeros (p .a-now) zeros (p .b-now) 0 (cells (count-reply 1)) =
     record { report = _; says = p .says; left = refl; tells = record { number = refl; written = refl } } in
     let says = wrong popping-image one-empty [] _ [] _ zeros _ zeros _ 0 _ tells refl 0 (omega arith) refl in
     omega (arith, ap verdict-number (promises .one-verdict _ Accepted Ended _ _ (rw one-captured at says) (c10-holds .says) .0))

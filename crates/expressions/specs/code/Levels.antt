@@ -2,7 +2,7 @@
 use mathlib.Core.Path.{_≡_}
 use mathlib.Core.Bool.{Bool, true, false, cond}
 use mathlib.Core.List.{List, [], _∷_, _++_, map}
-use Prim.Native.Nat.{ℕ, suc, _+_, _≤_}
+use Prim.Native.Nat.{ℕ, suc, _+_, _<_, _≤_}
 use lib.Dec.{eqb, leb}
 use lib.ListN.{length}
 use Rattle.codec.specs.Bytes.{section}
@@ -37,6 +37,10 @@ pub record Room (text : List ℕ) (r : Rules) : Type 0 where
 -- THE LEVELS BY NUMBER, as the code has them: a part, a sequence of parts, a choice of sequences
 unfoldable pub level-of : ℕ → Level
 level-of n = cond (eqb n 0) prefixes (cond (eqb n 1) parts choices)
+
+-- a level that joins parts: a sequence, or a choice
+abbrev pub Joined : ℕ → Type 0
+Joined n = (0 < n) × (n ≤ 2)
 
 -- whether another part follows a token's place, where it begins, and the rule of the two
 unfoldable pub follows : (level : ℕ) → Role → Bool

@@ -14,7 +14,7 @@ expression-requires : tie.Need-expression-requires
 expression-requires c κs =
     let at-refilled = c .before in
     let start = at-refilled .before .before .before in
-    (omega arith, line-ready _ _ _ _ (start .pre) (at-refilled .refilled .ensures _))
+    ((omega arith, omega arith), line-ready _ _ _ _ (start .pre) (at-refilled .refilled .ensures _))
 
 returns : tie.Need-returns
 unfolding level-of

@@ -4,13 +4,16 @@ use borrow.Fn.Kinds.{In}
 use borrow.Fn.PlainCycle.{Measures, is, falls, and}
 use Rattle.expressions.proofs.descent.expression.Reads as expression
 use Rattle.expressions.proofs.descent.expression.Kinds as expression-kinds
-use Rattle.expressions.proofs.descent.+expression+operand+part.Lts-expression as expression-lts
+use Rattle.expressions.proofs.descent.+expression+first_part+operand+part.Lts-expression as expression-lts
+use Rattle.expressions.proofs.descent.first_part.Reads as first-part
+use Rattle.expressions.proofs.descent.first_part.Kinds as first-part-kinds
+use Rattle.expressions.proofs.descent.+expression+first_part+operand+part.Lts-first_part as first-part-lts
 use Rattle.expressions.proofs.descent.operand.Reads as operand
 use Rattle.expressions.proofs.descent.operand.Kinds as operand-kinds
-use Rattle.expressions.proofs.descent.+expression+operand+part.Lts-operand as operand-lts
+use Rattle.expressions.proofs.descent.+expression+first_part+operand+part.Lts-operand as operand-lts
 use Rattle.expressions.proofs.descent.part.Reads as part
 use Rattle.expressions.proofs.descent.part.Kinds as part-kinds
-use Rattle.expressions.proofs.descent.+expression+operand+part.Lts-part as part-lts
+use Rattle.expressions.proofs.descent.+expression+first_part+operand+part.Lts-part as part-lts
 use Rattle.expressions.proofs.descent.after.Reads as after-reads
 use Rattle.expressions.proofs.descent.follows.Reads as follows-reads
 use Rattle.expressions.proofs.descent.leaf.Reads as leaf-reads
@@ -29,10 +32,13 @@ use Rattle.expressions.proofs.operators.with_prefix.Reads as with-prefi
 
 -- the remaining depth falls in brackets, and the rules that are left for a further part; else a lower level is read
 abbrev pub μ-expression : Measures 2 expression-kinds.ps ℕ
-μ-expression κs a = (a .1 .1 .1 .0 * 64 + a .1 .1 .1 .1 .0 .left) * 8 + 3 + a .1 .1 .0
+μ-expression κs a = (a .1 .1 .1 .0 * 64 + a .1 .1 .1 .1 .0 .left) * 8 + 2 + 2 * a .1 .1 .0
+
+abbrev pub μ-first-part : Measures 2 first-part-kinds.ps ℕ
+μ-first-part κs a = (a .1 .1 .1 .0 * 64 + a .1 .1 .1 .1 .0 .left) * 8 + 1 + 2 * a .1 .1 .0
 
 abbrev pub μ-operand : Measures 2 operand-kinds.ps ℕ
-μ-operand κs a = (a .1 .1 .0 * 64 + a .1 .1 .1 .0 .left) * 8 + 1
+μ-operand κs a = (a .1 .1 .1 .0 * 64 + a .1 .1 .1 .1 .0 .left) * 8 + 1
 
 abbrev pub μ-part : Measures 2 part-kinds.ps ℕ
 μ-part κs a = (a .1 .1 .0 * 64 + a .1 .1 .1 .0 .left) * 8 + 2
@@ -42,6 +48,12 @@ expression-at t = and 2 expression-kinds.ps (is 2 expression-kinds.ps μ-express
 
 abbrev pub expression-below : ℕ → In 2 expression-kinds.ps
 expression-below t = and 2 expression-kinds.ps (falls 2 expression-kinds.ps _<_ μ-expression t) expression.Pre
+
+abbrev pub first-part-at : ℕ → In 2 first-part-kinds.ps
+first-part-at t = and 2 first-part-kinds.ps (is 2 first-part-kinds.ps μ-first-part t) first-part.Pre
+
+abbrev pub first-part-below : ℕ → In 2 first-part-kinds.ps
+first-part-below t = and 2 first-part-kinds.ps (falls 2 first-part-kinds.ps _<_ μ-first-part t) first-part.Pre
 
 abbrev pub operand-at : ℕ → In 2 operand-kinds.ps
 operand-at t = and 2 operand-kinds.ps (is 2 operand-kinds.ps μ-operand t) operand.Pre
@@ -57,10 +69,8 @@ part-below t = and 2 part-kinds.ps (falls 2 part-kinds.ps _<_ μ-part t) part.Pr
 
 abbrev pub expression-claims : ℕ → expression-lts.Claims
 expression-claims t = (
-  part-below t,
-  part.Post,
-  expression-below t,
-  expression.Post,
+  first-part-below t,
+  first-part.Post,
   peek-reads.Asked,
   peek-reads.Learnt,
   follows-reads.Asked,
@@ -71,16 +81,19 @@ expression-claims t = (
   over-reads.Learnt,
   rest-at-reads.Asked,
   rest-at-reads.Learnt,
+  expression-below t,
+  expression.Post,
   numbered-reads.Asked,
   numbered-reads.Learnt,
   pair-reads.Asked,
   pair-reads.Learnt,
 )
 
+abbrev pub first-part-claims : ℕ → first-part-lts.Claims
+first-part-claims t = (part-below t, part.Post, expression-below t, expression.Post)
+
 abbrev pub operand-claims : ℕ → operand-lts.Claims
 operand-claims t = (
-  peek-reads.Asked,
-  peek-reads.Learnt,
   named-reads.Asked,
   named-reads.Learnt,
   leaf-reads.Asked,
