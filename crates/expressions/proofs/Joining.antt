@@ -1,4 +1,4 @@
--- Sequences and choices: what the two functions of the descent that join parts answer, way by way through their code. Assumes nothing.
+-- Sequences and choices: what the function of the descent that joins parts answers, way by way through its code. Assumes nothing.
 use mathlib.Core.Path.{_≡_, refl, sym, ap, subst, _∙_}
 use mathlib.Core.Bool.{true, false}
 use mathlib.Core.List.{List, [], _∷_}
@@ -156,43 +156,69 @@ module _ (text : List ℕ) (n : ℕ) (J : Joining text n) (at d : ℕ) (before :
             spent = nothing-spent before 0 r gone;
           }
 
-      module _ (room : Room text before) (some : h .fits ≡ true) where
-        -- the room for the rest, which is read with fewer rules
-        pub rest-room : Room text (h .rules) × (h .rules .left < before .left)
-        rest-room =
-            let (fit, less) = begun-spent before first h (read .spent fits) (begun-true first h begins some) in
-            (record { few = room .few; fit = omega (arith, room .fit) }, less)
+-- THE REST IS DUE: the first part fits, another one follows, and there is a rule for the two
+pub record Due (text : List ℕ) (n at d : ℕ) (before : Rules) : Type 1 where
+  pub joining : Joining text n
+  pub first : Part
+  pub read : Level-read (level-of (n - 1)) text at d before first
+  pub fits : first .fits ≡ true
+  pub ahead : Ahead
+  pub looks : Looks text (first .at) ahead
+  pub goes-on : follows n (ahead .role) ≡ true
+  pub begun : Begun
+  pub begins : begun ≡ begun-of first
+  pub room : Room text before
+  pub some : begun .fits ≡ true
 
-        module _ (from : ℕ) (is-from : from ≡ rest-from n (first .at) (a .next)) (rest : Part) (later-from : Level-read (level-of n) text from d (h .rules) rest) where
-          later : Level-read (level-of n) text (rest-from n (first .at) (a .next)) d (h .rules) rest
-          later = subst (λ (i : ℕ). Level-read (level-of n) text i d (h .rules) rest) is-from later-from
+module _ (text : List ℕ) (n at d : ℕ) (before : Rules) (due : Due text n at d before) where
+  abbrev J : Joining text n
+  J = due .joining
 
-          pub joined-rest-over : rest .fits ≡ false → Level-read (level-of n) text at d before rest
-          joined-rest-over f =
-              record {
-                right =
-                    rest-over text (level-of (n - 1)) (level-of n) (J .between) (J .join) (pair n) (J .joins) d (tokens-at text at) (J .parted d (tokens-at text at)) before first (read .right) fits
-                    (tokens-at text (rest-from n (first .at) (a .next))) (J .more first a p e) (J .one-rest) room h (begun-true first h begins some) rest (later .right) f;
-                spent = nothing-spent before 0 rest f;
-              }
+  abbrev x : Part
+  x = due .first
 
-          module _ (both : rest .fits ≡ true) where
-            pub last-fits : rest .rules .next + owed (rest .node) ≤ max-rules
-            last-fits = last-room before first rest h (read .spent fits) (begun-true first h begins some) (later .spent both) (room .fit)
+  abbrev h : Begun
+  h = due .begun
 
-            pub joined-both :
-                (k : ℕ) (made : Rules) (own : Expression) → k ≡ own-number (rest .node) (rest .rules .next) →
-                made ≡ advanced (rest .rules) (own-rules (rest .node) (rest .rules .next)) 0 → own ≡ pair n (h .number) k →
-                Level-read (level-of n) text at d before (part (rest .at) (Operator own) made)
-            joined-both k made own is-number is-made is-own =
-                let is : own ≡ pair n (h .number) (placed-number (rest .node) (rest .rules)) = is-own ∙ ap (λ (m : ℕ). pair n (h .number) m) is-number in
-                subst (λ (r : Rules). Level-read (level-of n) text at d before (part (rest .at) (Operator own) r)) (sym is-made)
-                (subst (λ (x : Expression). Level-read (level-of n) text at d before (part (rest .at) (Operator x) (placed-rules (rest .node) (rest .rules)))) (sym is)
-                (record {
-                  right =
-                      both-fit text (level-of (n - 1)) (level-of n) (J .between) (J .join) (pair n) (J .joins) d (tokens-at text at) (J .parted d (tokens-at text at))
-                      before first (read .right) fits (tokens-at text (rest-from n (first .at) (a .next))) (J .more first a p e) (J .one-rest) room h
-                      (begun-true first h begins some) rest (later .right) both;
-                  spent = λ f. pair-spent before first rest h (rest .at) (pair n (h .number) (placed-number (rest .node) (rest .rules))) (read .spent fits)
-                      (begun-true first h begins some) (later .spent both);
-                }))
+  abbrev rest-at : ℕ
+  rest-at = rest-from n (x .at) (due .ahead .next)
+
+  -- the room for the rest, which is read with fewer rules
+  pub rest-room : Room text (h .rules) × (h .rules .left < before .left)
+  rest-room =
+      let (fit, less) = begun-spent before x h (due .read .spent (due .fits)) (begun-true x h (due .begins) (due .some)) in
+      (record { few = due .room .few; fit = omega (arith, due .room .fit) }, less)
+
+  module _ (from : ℕ) (is-from : from ≡ rest-at) (rest : Part) (later-from : Level-read (level-of n) text from d (h .rules) rest) where
+    later : Level-read (level-of n) text rest-at d (h .rules) rest
+    later = subst (λ (i : ℕ). Level-read (level-of n) text i d (h .rules) rest) is-from later-from
+
+    pub joined-rest-over : rest .fits ≡ false → Level-read (level-of n) text at d before rest
+    joined-rest-over f =
+        record {
+          right =
+              rest-over text (level-of (n - 1)) (level-of n) (J .between) (J .join) (pair n) (J .joins) d (tokens-at text at) (J .parted d (tokens-at text at)) before x (due .read .right) (due .fits)
+              (tokens-at text rest-at) (J .more x (due .ahead) (due .looks) (due .goes-on)) (J .one-rest) (due .room) h (begun-true x h (due .begins) (due .some)) rest (later .right) f;
+          spent = nothing-spent before 0 rest f;
+        }
+
+    module _ (both : rest .fits ≡ true) where
+      pub last-fits : rest .rules .next + owed (rest .node) ≤ max-rules
+      last-fits = last-room before x rest h (due .read .spent (due .fits)) (begun-true x h (due .begins) (due .some)) (later .spent both) (due .room .fit)
+
+      pub joined-both :
+          (k : ℕ) (made : Rules) (own : Expression) → k ≡ own-number (rest .node) (rest .rules .next) →
+          made ≡ advanced (rest .rules) (own-rules (rest .node) (rest .rules .next)) 0 → own ≡ pair n (h .number) k →
+          Level-read (level-of n) text at d before (part (rest .at) (Operator own) made)
+      joined-both k made own is-number is-made is-own =
+          let is : own ≡ pair n (h .number) (placed-number (rest .node) (rest .rules)) = is-own ∙ ap (λ (m : ℕ). pair n (h .number) m) is-number in
+          subst (λ (r : Rules). Level-read (level-of n) text at d before (part (rest .at) (Operator own) r)) (sym is-made)
+          (subst (λ (y : Expression). Level-read (level-of n) text at d before (part (rest .at) (Operator y) (placed-rules (rest .node) (rest .rules)))) (sym is)
+          (record {
+            right =
+                both-fit text (level-of (n - 1)) (level-of n) (J .between) (J .join) (pair n) (J .joins) d (tokens-at text at) (J .parted d (tokens-at text at))
+                before x (due .read .right) (due .fits) (tokens-at text rest-at) (J .more x (due .ahead) (due .looks) (due .goes-on)) (J .one-rest) (due .room) h
+                (begun-true x h (due .begins) (due .some)) rest (later .right) both;
+            spent = λ f. pair-spent before x rest h (rest .at) (pair n (h .number) (placed-number (rest .node) (rest .rules))) (due .read .spent (due .fits))
+                (begun-true x h (due .begins) (due .some)) (later .spent both);
+          }))
