@@ -110,7 +110,7 @@ joining text (suc zero) j = sequencing text
 joining text (suc (suc zero)) j = choosing text
 joining text (suc (suc (suc n))) j = absurd (omega (arith, j .1))
 
--- the first part: of a sequence it has no level of its own, of a choice it is a sequence
+-- what an expression begins with: a sequence with a part, a choice with a sequence
 pub other-level : (n : ℕ) → Joined n → (n ≡ 1 → ⊥) → n ≡ 2
 other-level zero j one = absurd (omega (arith, j .0))
 other-level (suc zero) j one = absurd (one refl)

@@ -216,7 +216,7 @@ fn pair(level: usize, first: u8, rest: u8) -> Expression
     }
 }
 
-// The first part of an expression at a level: of a choice a sequence, of a sequence what has no level of its own.
+// What an expression at a level begins with: a choice with a sequence, a sequence with a part.
 fn first_part(
     text: &[u8],
     at: usize,

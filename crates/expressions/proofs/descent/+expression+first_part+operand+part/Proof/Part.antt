@@ -26,8 +26,8 @@ part-part-requires t c κs =
     let at-taken = c .before in
     let at-if1 = at-taken .before in
     let at-prefix-need = at-if1 .before .before in
-    let earlier-8 = at-prefix-need .before .before .before .before in
-    let start = earlier-8 .before .before in
+    let at-peek = at-prefix-need .before .before .before .before in
+    let start = at-peek .before .before in
     let (room, less) = prefix-taken _ _ _ _ _ (at-prefix-need .prefix-need .ensures) (at-taken .taken .ensures _) (at-if1 .if1 .left) (start .pre .1) in
     (omega (arith, less, start .pre .0), room)
 
@@ -38,8 +38,8 @@ part-with-prefix-requires t c κs =
     let at-taken = at-part .before .before in
     let at-if1 = at-taken .before in
     let at-prefix-need = at-if1 .before .before in
-    let earlier-11 = at-prefix-need .before .before .before .before in
-    let start = earlier-11 .before .before in
+    let at-peek = at-prefix-need .before .before .before .before in
+    let start = at-peek .before .before in
     prefix-fits-room _ _ _ _ _ _ (at-prefix-need .prefix-need .ensures) (at-taken .taken .ensures _) (at-if1 .if1 .left) (start .pre .1)
     (at-part .part .ensures .spent (at-if2 .if2 .taken))
 
