@@ -17,7 +17,7 @@ crates = sorted(path.name for path in (root / "crates").iterdir() if path.is_dir
 TOKEN = re.compile(r"[^\s(){}.;,@\"«»\[\]\\`]+")
 NAME = re.compile(r"[A-Za-zμκα][\w'-]*")
 OWN = re.compile(rf"Rattle\.(?:{'|'.join(crates)})\.")
-HEAD = re.compile(r"^\s*(?:(?:abbrev|pub|unfoldable|ruleset|record|data|mutual) )*([^\s(){}\[\],;.\"`@]+)(?= :(?:\s|$)| \(| :$| =| \{)", re.M)
+HEAD = re.compile(r"^\s*(?:(?:abbrev|pub|unfoldable|ruleset|record|data|mutual) )*([^\s(){}\[\],;.\"`@]+)(?= :(?:\s|$)| \(| :$| =| \{|$)", re.M)
 FIELD = re.compile(r"^  pub ([^\s(){}\[\],;.\"`@]+) :(?=\s|$)", re.M)
 
 

@@ -22,7 +22,7 @@ use Rattle.bundle.specs.Alone.{Alone, written_over}
 use Rattle.bundle.specs.Replies.{of_report, totals_cells, totals_left}
 use Rattle.worked_examples.specs.Examples.{Each}
 use Rattle.worked_examples.specs.BundleExamples.{good_bundle, RefusedSo, bundle_table, five_lines}
-use Rattle.sejimakpu.specs.Calls.{Judge-bundle-tells}
+use Rattle.sejimakpu.specs.Calls.{JudgeBundleTells}
 
 -- A WRONG BUNDLE IS REFUSED by 18: a wrong count, or too short for count and pairs, at place 0, else the first wrong pair at its place; 0 at 0 exactly if all that the request asks holds
 abbrev pub BundleRefused : Type 0
@@ -113,7 +113,7 @@ TotalsWhole =
 abbrev pub LineAccepted : Type 0
 LineAccepted =
     (image bundle lines lines_now totals totals_now notes notes_now work work_now : List ℕ) (returned : ℕ) (answer : List ℕ) →
-    Judge-bundle-tells image bundle lines lines_now totals totals_now notes notes_now work work_now returned answer → returned ≡ 0 →
+    JudgeBundleTells image bundle lines lines_now totals totals_now notes notes_now work work_now returned answer → returned ≡ 0 →
     (i : ℕ) → i < get_or answer 2 0 → get_or lines_now (line_width * i + verdict_cell) 0 ≡ 1 →
     Says (machine image (capture bundle i)) Accepted
     (config (get_or lines_now (line_width * i + 4) 0) (get_or lines_now (line_width * i + 5) 0) (get_or lines_now (line_width * i + 6) 0))

@@ -16,7 +16,7 @@ use Rattle.grammar_judge.specs.Calls.{Lent}
 use Rattle.typed.specs.declared.left_recursion.TextRecursion.TheVariants.{Passes, Recursive}
 use Rattle.typed.specs.Recursion.{TextRecursionSays}
 use Rattle.typed.specs.TypedCalls.{TextSays}
-use Rattle.sejimakpu.specs.Calls.{CheckTells, CellsTells, JudgeTells, RunTells, BuildTells, CheckRecursionTells, CheckTextRecursionTells, ReadGrammarTells, BuildTextTells, JudgeTextTells, Judge-bundle-tells}
+use Rattle.sejimakpu.specs.Calls.{CheckTells, CellsTells, JudgeTells, RunTells, BuildTells, CheckRecursionTells, CheckTextRecursionTells, ReadGrammarTells, BuildTextTells, JudgeTextTells, JudgeBundleTells}
 
 -- READ, BUILD, JUDGE: who reads a typed grammar, builds of so many bytes as reading counts, by either choice of a match, and judges by so many bytes as building counts finds a verdict's number in the answer (1: accepted) exactly if judging returns 0 and, by that choice, the text's first line gives the capture this verdict
 abbrev pub TypedTold : Type 0
@@ -95,7 +95,7 @@ pub record Determined : Type 0 where
       ((r ≡ s) × (x ≡ y)) × (l₁ ≡ l₂)
   pub judge_bundle :
       (i b l l₁ l₂ t t₁ t₂ n n₁ n₂ w w₁ w₂ : List ℕ) (r s : ℕ) (x y : List ℕ) →
-      Judge-bundle-tells i b l l₁ t t₁ n n₁ w w₁ r x → Judge-bundle-tells i b l l₂ t t₂ n n₂ w w₂ s y →
+      JudgeBundleTells i b l l₁ t t₁ n n₁ w w₁ r x → JudgeBundleTells i b l l₂ t t₂ n n₂ w w₂ s y →
       ((r ≡ s) × (x ≡ y)) × (l₁ ≡ l₂) × (t₁ ≡ t₂) × (n₁ ≡ n₂) × (w₁ ≡ w₂)
 
 abbrev pub CallsDetermined : Type 0

@@ -23,7 +23,7 @@ use Rattle.bundle.specs.Report.{line_cells, lines_cells, totals, sum, gives, is_
 use Rattle.bundle.specs.Alone.{written_over}
 use Rattle.bundle.specs.Replies.{of_report, totals_cells, totals_left}
 use Rattle.sejimakpu.specs.Cells.{cells}
-use Rattle.sejimakpu.specs.Calls.{Judge-bundle-tells}
+use Rattle.sejimakpu.specs.Calls.{JudgeBundleTells}
 use Rattle.worked_examples.specs.Examples.{image_of, row_machine, popping_image}
 use Rattle.worked_examples.specs.BundleExamples.{two_in_abc, RefusedSo}
 use Rattle.promises.proofs.Proved.{promises}
@@ -163,7 +163,7 @@ unfolding of_report totals_left cells of_judged line_cells lines_cells image_of 
 line_accepted wrong =
     let p = reported [] zeros zeros (omega arith) (omega arith) in
     let lines_now : List ℕ = lines_cells (c10_answer ∷ []) in
-    let tells : Judge-bundle-tells popping_image one_empty [] lines_now [] (totals_cells (totals (c10_answer ∷ []))) zeros p.a_now zeros p.b_now 0 (cells (count_reply 1)) =
+    let tells : JudgeBundleTells popping_image one_empty [] lines_now [] (totals_cells (totals (c10_answer ∷ []))) zeros p.a_now zeros p.b_now 0 (cells (count_reply 1)) =
     record { report = _; says = p.says; left = refl; tells = record { number = refl; written = refl } } in
     let says = wrong popping_image one_empty [] _ [] _ zeros _ zeros _ 0 _ tells refl 0 (omega arith) refl in
     omega (arith, ap verdict_number (promises.one_verdict _ Accepted Ended _ _ (rw one_captured at says) c10_holds.says).0)

@@ -34,7 +34,7 @@ use Rattle.syntax.specs.Reading.{Grammar}
 use Rattle.reader.specs.Calls.{grammar_answer}
 use Rattle.typed.specs.Replies.{of_read, of_text_recursion}
 use Rattle.sejimakpu.specs.Cells.{cells}
-use Rattle.sejimakpu.specs.Calls.{CheckTells, CellsTells, JudgeTells, RunTells, BuildTells, CheckRecursionTells, CheckTextRecursionTells, ReadGrammarTells, BuildTextTells, JudgeTextTells, Judge-bundle-tells}
+use Rattle.sejimakpu.specs.Calls.{CheckTells, CellsTells, JudgeTells, RunTells, BuildTells, CheckRecursionTells, CheckTextRecursionTells, ReadGrammarTells, BuildTextTells, JudgeTextTells, JudgeBundleTells}
 use Rattle.worked_examples.specs.Examples.{empty_grammar}
 use Rattle.recursion_theory.specs.Harmless.{never_reached}
 use Rattle.promises.proofs.Proved.{promises}
@@ -68,7 +68,7 @@ pub none_judge_told : (a b : List ℕ) → JudgeTells [] [] a a b b 1 (count_cel
 unfolding of_judged cells
 none_judge_told a b = record { judged = _; says = none_judged a b; tells = record { number = refl; written = refl } }
 
-pub none_bundle_told : (l t : List ℕ) → Judge-bundle-tells [] [] l l t t [] [] [] [] 1 (count_cells 0)
+pub none_bundle_told : (l t : List ℕ) → JudgeBundleTells [] [] l l t t [] [] [] [] 1 (count_cells 0)
 unfolding BundleSays BundleAs call_refusal image_refusal or_else of_report totals_left cells
 none_bundle_told l t =
     record { report = Unreported (refusal 1 0); says = (refl, refl, refl, refl); left = refl; tells = record { number = refl; written = refl } }

@@ -23,7 +23,7 @@ use Rattle.bundle.specs.Alone.{Alone, written_over}
 use Rattle.bundle.specs.Replies.{of_report, totals_cells, totals_left}
 use Rattle.worked_examples.specs.Examples.{Each}
 use Rattle.worked_examples.specs.BundleExamples.{two_in_abc, good_bundle, example, RefusedSo, bundle_table, five_lines}
-use Rattle.sejimakpu.specs.Calls.{Judge-bundle-tells}
+use Rattle.sejimakpu.specs.Calls.{JudgeBundleTells}
 
 -- number and place swapped
 abbrev pub BundleRefused : Type 0
@@ -114,7 +114,7 @@ TotalsWhole =
 abbrev pub LineAccepted : Type 0
 LineAccepted =
     (image bundle lines lines_now totals totals_now notes notes_now work work_now : List ℕ) (returned : ℕ) (answer : List ℕ) →
-    Judge-bundle-tells image bundle lines lines_now totals totals_now notes notes_now work work_now returned answer → returned ≡ 0 →
+    JudgeBundleTells image bundle lines lines_now totals totals_now notes notes_now work work_now returned answer → returned ≡ 0 →
     (i : ℕ) → i < get_or answer 2 0 → get_or lines_now (line_width * i + readings_cell) 0 ≡ 1 →
     Says (machine image (capture bundle i)) Accepted
     (config (get_or lines_now (line_width * i + 4) 0) (get_or lines_now (line_width * i + 5) 0) (get_or lines_now (line_width * i + 6) 0))

@@ -16,7 +16,7 @@ use Rattle.grammar_judge.specs.Calls.{Lent, lent}
 use Rattle.typed.specs.declared.left_recursion.TextRecursion.TheVariants.{Passes, Recursive}
 use Rattle.typed.specs.Recursion.{TextRecursionSays}
 use Rattle.typed.specs.TypedCalls.{TextSays}
-use Rattle.sejimakpu.specs.Calls.{CheckTells, CellsTells, JudgeTells, RunTells, BuildTells, CheckRecursionTells, CheckTextRecursionTells, ReadGrammarTells, BuildTextTells, JudgeTextTells, Judge-bundle-tells}
+use Rattle.sejimakpu.specs.Calls.{CheckTells, CellsTells, JudgeTells, RunTells, BuildTells, CheckRecursionTells, CheckTextRecursionTells, ReadGrammarTells, BuildTextTells, JudgeTextTells, JudgeBundleTells}
 
 -- the verdict by a whole match, whatever the choice by which the image was built
 abbrev pub TypedTold : Type 0
@@ -108,7 +108,7 @@ pub data AnyUndetermined : Type 0 where
   -- lines and totals exchanged
   judge_bundle :
       ((i b l l₁ l₂ t t₁ t₂ n n₁ n₂ w w₁ w₂ : List ℕ) (r s : ℕ) (x y : List ℕ) →
-      Judge-bundle-tells i b l l₁ t t₁ n n₁ w w₁ r x → Judge-bundle-tells i b l l₂ t t₂ n n₂ w w₂ s y →
+      JudgeBundleTells i b l l₁ t t₁ n n₁ w w₁ r x → JudgeBundleTells i b l l₂ t t₂ n n₂ w w₂ s y →
       ((r ≡ s) × (x ≡ y)) × (l₁ ≡ t₂) × (t₁ ≡ l₂) × (n₁ ≡ n₂) × (w₁ ≡ w₂)) → AnyUndetermined
 
 -- any of these

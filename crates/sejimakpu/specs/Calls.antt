@@ -83,7 +83,7 @@ pub record JudgeTextTells (text capture : List ℕ) (before after : Lent) (retur
   pub tells : ReplyWritten (of_judged judged) returned answer
 
 -- judging a bundle: the answer's count is that of its captures; lines, totals and cells are as the report says, and refused none changes
-pub record Judge-bundle-tells
+pub record JudgeBundleTells
     (image bundle lines lines_now totals totals_now notes notes_now work work_now : List ℕ) (returned : ℕ) (answer : List ℕ) : Type 0 where
   pub report : Report
   pub says : BundleSays image bundle report lines lines_now notes notes_now work work_now

@@ -9,7 +9,7 @@ ghost use Rattle.std.specs.Prelude.{◌++◌, ◌≡◌, ◌≤◌, length, drop
 ghost use Rattle.builder.specs.declared.Matching.TheVariants.{Whole};
 ghost use Rattle.builder.specs.Matching.{default_matching};
 ghost use Rattle.grammar_judge.specs.Calls.{lent};
-ghost use Rattle.sejimakpu.specs.Calls.{CheckTells, CellsTells, JudgeTells, RunTells, BuildTells, CheckRecursionTells, ReadGrammarTells, BuildTextTells, JudgeTextTells, CheckTextRecursionTells, Judge-bundle-tells};
+ghost use Rattle.sejimakpu.specs.Calls.{CheckTells, CellsTells, JudgeTells, RunTells, BuildTells, CheckRecursionTells, ReadGrammarTells, BuildTextTells, JudgeTextTells, CheckTextRecursionTells, JudgeBundleTells};
 
 use builder::build::build_image;
 use builder::{Matching, default_matching};
@@ -188,7 +188,7 @@ pub extern "C" fn sejimakpu_judge_bundle_nonnull(
     totals: &mut [u64; 10],
     answer: &mut [u64; 6],
 ) -> u32
-    ensures { Judge-bundle-tells image.now bundle.now lines.old lines.new
+    ensures { JudgeBundleTells image.now bundle.now lines.old lines.new
         totals.old totals.new notes.old notes.new work.old work.new
         result answer.new }
 {
