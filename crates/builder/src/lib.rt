@@ -12,7 +12,7 @@ ghost use Rattle.builder.specs.Matching.{default_matching};
 use refusal::Refusal;
 
 // What of a capture a grammar must match for the built machine to accept: the whole of it, or a leading part (a prefix match).
-#[derive(Drop)]
+#[derive(Clone, Copy)]
 pub enum Matching {
     Whole,
     Leading,
@@ -26,14 +26,14 @@ pub fn default_matching() -> Matching
 }
 
 // The answer of building: the image's length.
-#[derive(Drop)]
+#[derive(Clone, Copy)]
 pub enum Built {
     Refused(Refusal),
     Image(usize),
 }
 
 // What building needs of a grammar: the count of classes, of the image's rules, and the image's length.
-#[derive(Drop)]
+#[derive(Clone, Copy)]
 pub struct Plan {
     pub classes: u32,
     pub count: u32,
@@ -41,7 +41,7 @@ pub struct Plan {
 }
 
 // A rule of the image, as its four bytes.
-#[derive(Drop)]
+#[derive(Clone, Copy)]
 pub struct RuleBytes {
     pub kind: u8,
     pub state: u8,
@@ -50,7 +50,7 @@ pub struct RuleBytes {
 }
 
 // The rules of a grammar rule's first and second symbol, in one state.
-#[derive(Drop)]
+#[derive(Clone, Copy)]
 pub struct RulePair {
     pub first: RuleBytes,
     pub second: RuleBytes,

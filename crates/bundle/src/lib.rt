@@ -8,7 +8,7 @@ pub mod lines;
 use refusal::Refusal;
 
 // A report's last line: how many lines give each verdict, how many are refusals, and the sum of readings.
-#[derive(Drop)]
+#[derive(Clone, Copy)]
 pub struct Totals {
     pub accepted: u64,
     pub ended: u64,
@@ -20,7 +20,7 @@ pub struct Totals {
 }
 
 // The answer of the call `judge_bundle`: how many lines there are, one a capture, and their totals.
-#[derive(Drop)]
+#[derive(Clone, Copy)]
 pub enum Report {
     Refused(Refusal),
     Lines(usize, Totals),

@@ -10,7 +10,7 @@ use image::Sizes;
 use machine::{Config, Verdict};
 
 // What the next step does: look at a configuration, close open ones with a known terminator, clear the open ones after a run that has no end or is stuck, nothing.
-#[derive(Drop)]
+#[derive(Clone, Copy)]
 pub enum Mode {
     Look,
     Unwind,
@@ -19,14 +19,14 @@ pub enum Mode {
 }
 
 // One over the symbol count and one over the stride, each times a power of two and rounded up: by these a product divides.
-#[derive(Drop)]
+#[derive(Clone, Copy)]
 pub struct Reciprocals {
     pub symbols: u64,
     pub stride: u64,
 }
 
 // What stays: read once, of the image its counts and finals, of the capture its length. `stride`: how many configurations one state has.
-#[derive(Drop)]
+#[derive(Clone, Copy)]
 pub struct Environment {
     pub sizes: Sizes,
     pub finals: u32,
@@ -36,7 +36,7 @@ pub struct Environment {
 
 // What a step moves. `at` is the configuration looked at; while unwinding, the terminator; then the end configuration. `number`: its number.
 // `pushed`: the entry on top was pushed on the way to `at`. `depth`: how many configurations are open, which the work cells name.
-#[derive(Drop)]
+#[derive(Clone, Copy)]
 pub struct Registers {
     pub mode: Mode,
     pub at: Config,
@@ -47,7 +47,7 @@ pub struct Registers {
 }
 
 // The judge's state, which document 02 calls its record.
-#[derive(Drop)]
+#[derive(Clone, Copy)]
 pub struct JudgeState {
     pub environment: Environment,
     pub registers: Registers,

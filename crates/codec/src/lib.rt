@@ -6,7 +6,7 @@ ghost use Rattle.codec.specs.Bytes.{written};
 ghost use Rattle.codec.specs.Numbers.{u32_width, u64_width, pair_width, u32_at, u64_at, little_endian, pair_at, pair_bytes};
 
 // An offset and a length, as a directory has them.
-#[derive(Drop)]
+#[derive(Clone, Copy)]
 pub struct Pair {
     pub offset: u32,
     pub long: u32,

@@ -10,7 +10,7 @@ use grammar::check::RULE_BYTES;
 use syntax::Node;
 
 // A rule's bytes but the last, which is 0.
-#[derive(Drop)]
+#[derive(Clone, Copy)]
 pub struct RuleBytes {
     pub kind: u8,
     pub b: u8,

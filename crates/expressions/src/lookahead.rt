@@ -7,7 +7,7 @@ use scanner::tokens::scan;
 use syntax::{Ends, Leaf, Prefix, Sign, Suffix, Token};
 
 // What a token is to an expression: an operand begins with it, or it is an operator or a slash, or none of these.
-#[derive(Drop)]
+#[derive(Clone, Copy)]
 pub enum Role {
     Name(usize),
     Range(Ends),
@@ -20,7 +20,7 @@ pub enum Role {
 }
 
 // The next token: its role, where it stands, and the place after it.
-#[derive(Drop)]
+#[derive(Clone, Copy)]
 pub struct Ahead {
     pub role: Role,
     pub offset: usize,

@@ -4,7 +4,7 @@
 pub mod check;
 
 // What a grammar rule is. Sequence, Choice and Not name other rules; a Range names its first and last byte, and matches nothing where the first is above the last.
-#[derive(Drop)]
+#[derive(Clone, Copy)]
 pub enum Expression {
     Sequence(u8, u8),
     Choice(u8, u8),
@@ -14,7 +14,7 @@ pub enum Expression {
 }
 
 // The first and the last byte of a range, or none where a rule is no range.
-#[derive(Drop)]
+#[derive(Clone, Copy)]
 pub enum ByteRange {
     Between(u8, u8),
     Nothing,

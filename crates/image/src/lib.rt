@@ -6,7 +6,7 @@ pub mod format;
 pub mod lookup;
 
 // The counts that every lookup needs: classes K, symbols G, tape places n + 2, and how many rules one state has, (K + 2) G.
-#[derive(Drop)]
+#[derive(Clone, Copy)]
 pub struct Sizes {
     pub classes: u32,
     pub symbols: u32,
@@ -15,7 +15,7 @@ pub struct Sizes {
 }
 
 // What selects a rule: state, class under the head, top symbol.
-#[derive(Drop)]
+#[derive(Clone, Copy)]
 pub struct Selector {
     pub state: u32,
     pub class: u32,

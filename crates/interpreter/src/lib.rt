@@ -14,7 +14,7 @@ use refusal::Refusal;
 use validator::check::capture_refusal;
 
 // How a plain run is left: it terminates, its budget is spent, or the cells are too few for the next push.
-#[derive(Drop)]
+#[derive(Clone, Copy)]
 pub enum Exit {
     Terminated(Termination),
     Spent,
@@ -22,7 +22,7 @@ pub enum Exit {
 }
 
 // The answer of a plain run.
-#[derive(Drop)]
+#[derive(Clone, Copy)]
 pub enum Ran {
     Refused(Refusal),
     Answer {
@@ -33,7 +33,7 @@ pub enum Ran {
 }
 
 // Where a run is: its configuration with the top symbol, the pointer of the top entry, how many entries lie below it, the steps taken.
-#[derive(Drop)]
+#[derive(Clone, Copy)]
 pub struct RunState {
     pub at: Config,
     pub pointer: u32,
@@ -42,7 +42,7 @@ pub struct RunState {
 }
 
 // What came of trying a step: where the run is next, or how it is left and the steps taken.
-#[derive(Drop)]
+#[derive(Clone, Copy)]
 pub enum StepResult {
     On(RunState),
     Exited { exit: Exit, steps: u32 },

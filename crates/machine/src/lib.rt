@@ -6,7 +6,7 @@ pub mod replies;
 pub mod terminating;
 
 // A surface configuration: state p, head i, top symbol A.
-#[derive(Drop)]
+#[derive(Clone, Copy)]
 pub struct Config {
     pub state: u32,
     pub head: u32,
@@ -14,14 +14,14 @@ pub struct Config {
 }
 
 // Why a rule stops a run: there is none, or it is a halting one, paper 000's halt.
-#[derive(Drop)]
+#[derive(Clone, Copy)]
 pub enum Reason {
     Missing,
     Halting,
 }
 
 // What a configuration's rule does. A change and a push name the configuration that they lead to.
-#[derive(Drop)]
+#[derive(Clone, Copy)]
 pub enum Action {
     Stop(Reason),
     Change(Config),
@@ -30,14 +30,14 @@ pub enum Action {
 }
 
 // How a run terminates: its last entry is popped, or a rule stops it.
-#[derive(Drop)]
+#[derive(Clone, Copy)]
 pub enum Termination {
     Over { accepting: bool },
     Stopped(Reason),
 }
 
 // How a run ends.
-#[derive(Drop)]
+#[derive(Clone, Copy)]
 pub enum Verdict {
     Accepted,
     Ended,
@@ -47,7 +47,7 @@ pub enum Verdict {
 }
 
 // What a note's cell says of its configuration: never looked at, looked at and without a known terminator, or closed with its terminator's number.
-#[derive(Drop)]
+#[derive(Clone, Copy)]
 pub enum Note {
     Unseen,
     Open,
@@ -56,7 +56,7 @@ pub enum Note {
 
 // Any call's answer by numbers: the refusal's number, or 0, with its place; the verdict's number, or 0 for none; a count and a configuration.
 // Which number and values each case of an enum has is defined beside that enum, in specs/Replies.antt of its crate.
-#[derive(Drop)]
+#[derive(Clone, Copy)]
 pub struct Reply {
     pub refusal: u32,
     pub place: usize,

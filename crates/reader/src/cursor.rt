@@ -6,7 +6,7 @@ ghost use Rattle.reader.specs.Code.Lines.{PassesTwo};
 use expressions::descent::after;
 
 // The text that was lent, and how far it has been read.
-#[derive(Drop)]
+#[derive(Clone, Copy)]
 pub struct Reader<'a> {
     pub text: &'a [u8],
     pub at: usize,

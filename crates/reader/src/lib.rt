@@ -13,7 +13,7 @@ use refusal::Refusal;
 pub const MAX_RULES: usize = 31;
 
 // A line that was read, up to a place, and the numbering after its rules. It fits if no more are needed than were left.
-#[derive(Drop)]
+#[derive(Clone, Copy)]
 pub struct LineRead {
     pub fits: bool,
     pub at: usize,
@@ -21,7 +21,7 @@ pub struct LineRead {
 }
 
 // The lines of a text, read into rules, and for each line the number after its last helper rule. They fit if 31 rules are enough.
-#[derive(Drop)]
+#[derive(Clone, Copy)]
 pub struct Lines {
     pub fits: bool,
     pub rules: Rules,
@@ -29,7 +29,7 @@ pub struct Lines {
 }
 
 // What reading a text answers: a refusal, or number 0 and a grammar of so many bytes. The bytes after those are 0.
-#[derive(Drop)]
+#[derive(Clone, Copy)]
 pub struct ReadGrammar {
     pub refusal: Refusal,
     pub length: usize,
@@ -37,7 +37,7 @@ pub struct ReadGrammar {
 }
 
 // The same, and what reading knows of the lines: how many there are, and for each the number after its last helper rule.
-#[derive(Drop)]
+#[derive(Clone, Copy)]
 pub struct ReadText {
     pub grammar: ReadGrammar,
     pub lines: usize,

@@ -18,7 +18,7 @@ use syntax::{Sign, Token};
 const TOO_DEEP: u32 = 17;
 
 // What a token leads to, and the place after it.
-#[derive(Drop)]
+#[derive(Clone, Copy)]
 pub struct Moved {
     pub step: Step,
     pub next: usize,

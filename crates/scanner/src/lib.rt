@@ -17,7 +17,7 @@ pub const UNGRAMMATICAL: u32 = 15;
 pub const MAX_DEPTH: usize = 16;
 
 // A token with its offset, and the offset after it.
-#[derive(Drop)]
+#[derive(Clone, Copy)]
 pub struct Lexeme {
     pub token: Token,
     pub offset: usize,
@@ -25,14 +25,14 @@ pub struct Lexeme {
 }
 
 // What is found from a place on: a lexeme, or no more.
-#[derive(Drop)]
+#[derive(Clone, Copy)]
 pub enum Scanned {
     Found(Lexeme),
     End,
 }
 
 // What the letters where a line begins are to the search for a name: the name sought, another name, or none.
-#[derive(Drop)]
+#[derive(Clone, Copy)]
 pub enum Head {
     Sought,
     Other,
@@ -40,7 +40,7 @@ pub enum Head {
 }
 
 // Where in a text: a line begins, its = must come, or an expression goes on, whose last operand is complete or not, with so many brackets open.
-#[derive(Drop)]
+#[derive(Clone, Copy)]
 pub enum Spot {
     AtLine,
     AtEquals,
@@ -48,14 +48,14 @@ pub enum Spot {
 }
 
 // What a token leads to: another spot, or a refusal of this number.
-#[derive(Drop)]
+#[derive(Clone, Copy)]
 pub enum Step {
     To(Spot),
     Wrong(u32),
 }
 
 // The first refusal of a text, or number 0, and the count of lines begun before it.
-#[derive(Drop)]
+#[derive(Clone, Copy)]
 pub struct TextCheck {
     pub refusal: Refusal,
     pub lines: usize,

@@ -8,7 +8,7 @@ use machine::{Config, Verdict};
 use refusal::Refusal;
 
 // What judging comes to: the run's verdict, how many configurations it enters, and its end configuration.
-#[derive(Drop)]
+#[derive(Clone, Copy)]
 pub struct Judgement {
     pub verdict: Verdict,
     pub readings: u32,
@@ -16,14 +16,14 @@ pub struct Judgement {
 }
 
 // The answer of the call `judge`.
-#[derive(Drop)]
+#[derive(Clone, Copy)]
 pub enum Judged {
     Refused(Refusal),
     Answer(Judgement),
 }
 
 // How many notes and how many work cells judging needs.
-#[derive(Drop)]
+#[derive(Clone, Copy)]
 pub enum Needs {
     Refused(Refusal),
     Cells(usize),

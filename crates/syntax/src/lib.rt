@@ -4,7 +4,7 @@
 use grammar::Expression;
 
 // The operands that are a sign or a reserved word: `.`, `empty`, `fail`.
-#[derive(Drop)]
+#[derive(Clone, Copy)]
 pub enum Leaf {
     AnyByte,
     EmptyString,
@@ -12,14 +12,14 @@ pub enum Leaf {
 }
 
 // The prefixes: `!` and `&`.
-#[derive(Drop)]
+#[derive(Clone, Copy)]
 pub enum Prefix {
     NotPredicate,
     AndPredicate,
 }
 
 // The suffixes: `*`, `+` and `?`.
-#[derive(Drop)]
+#[derive(Clone, Copy)]
 pub enum Suffix {
     ZeroOrMore,
     OneOrMore,
@@ -27,7 +27,7 @@ pub enum Suffix {
 }
 
 // The signs. The reserved words count as signs.
-#[derive(Drop)]
+#[derive(Clone, Copy)]
 pub enum Sign {
     Operand(Leaf),
     Before(Prefix),
@@ -40,14 +40,14 @@ pub enum Sign {
 }
 
 // The first and the last byte of a range.
-#[derive(Drop)]
+#[derive(Clone, Copy)]
 pub struct Ends {
     pub low: u8,
     pub high: u8,
 }
 
 // A token: a name of so many letters, a sign, a range with its two bytes; or a byte that begins none.
-#[derive(Drop)]
+#[derive(Clone, Copy)]
 pub enum Token {
     Name(usize),
     Sign(Sign),
@@ -56,7 +56,7 @@ pub enum Token {
 }
 
 // What stands for an expression whose own rule has no number yet: the rule that a name names; a rule; or the operand of `*`, whose rule names itself.
-#[derive(Drop)]
+#[derive(Clone, Copy)]
 pub enum Node {
     Numbered(u8),
     Operator(Expression),

@@ -8,7 +8,7 @@ use refusal::Refusal;
 use scanner::lines::line_offset;
 
 // What the check of a typed grammar for left recursion answers: none; a refusal of the text; or the lowest rule that leads back to itself, and the offset of the name of the line that it is of.
-#[derive(Drop)]
+#[derive(Clone, Copy)]
 pub enum TextRecursion {
     Passes,
     Refused(Refusal),
