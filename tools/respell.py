@@ -17,6 +17,7 @@ crates = sorted(path.name for path in (root / "crates").iterdir() if path.is_dir
 TOKEN = re.compile(r"[^\s(){}.;,@\"«»\[\]\\`]+")
 NAME = re.compile(r"[A-Za-zμκα][\w'-]*")
 OWN = re.compile(rf"Rattle\.(?:{'|'.join(crates)})\.")
+MODULE = re.compile(r"(?:^|[\s({\[,;.])[A-Z][\w'-]*\.$")
 HEAD = re.compile(r"^\s*(?:(?:abbrev|pub|unfoldable|ruleset|record|data|mutual) )*([^\s(){}\[\],;.\"`@]+)(?= :(?:\s|$)| \(| :$| =| \{|$)", re.M)
 FIELD = re.compile(r"^  pub ([^\s(){}\[\],;.\"`@]+) :(?=\s|$)", re.M)
 
@@ -73,7 +74,7 @@ def one(m, line, kept, images):
     if not NAME.fullmatch(token) or not ("-" in token or (token[0].isupper() and "_" in token)):
         return token
     projected = m.start() > 0 and line[m.start() - 1] == "."
-    if projected and token not in fields and not (token in turns and OWN.search(line[: m.start()])):
+    if projected and token not in fields and not (token in turns and MODULE.search(line[: m.start()])):
         return token
     if not projected and token in kept:
         return token

@@ -44,7 +44,7 @@ module _ (how : Matching) (gs : List ℕ) (good : GoodGrammar gs) where
   classes_least = omega (arith, byte_class_below gs 0 (omega arith))
 
   -- 5 states, at most 65 classes with the markers, at most 63 symbols
-  pub built_rules_fit : Format.rule-length * built_rules gs < 256 ^ u32_width
+  pub built_rules_fit : Format.rule_length * built_rules gs < 256 ^ u32_width
   unfolding built_rules
   built_rules_fit =
       let a : 5 * (class_count gs + 2) ≤ 325 = omega (arith, built_classes_most) in
@@ -52,7 +52,7 @@ module _ (how : Matching) (gs : List ℕ) (good : GoodGrammar gs) where
       omega arith
 
   -- THE COUNTS AND THE CLASS MAP
-  finals_below : ltb (u32_at (built how gs) Format.finals-offset) (2 ^ states (built how gs)) ≡ true
+  finals_below : ltb (u32_at (built how gs) Format.finals_offset) (2 ^ states (built how gs)) ≡ true
   finals_below = rw (built_finals how gs, built_states how gs)
 
   counts_right : CountsRight (built how gs)

@@ -23,7 +23,7 @@ module _ (how : Matching) (gs : List ℕ) where
   parts_encodable : Encodable (parts (made how gs) gs)
   unfolding parts built_rules
   parts_encodable =
-      record { map_full = map_length Format.map-length 0 gs; rules_full = rules_length (made how gs) (built_rules gs) 0 gs; finals_fit = omega arith }
+      record { map_full = map_length Format.map_length 0 gs; rules_full = rules_length (made how gs) (built_rules gs) 0 gs; finals_fit = omega arith }
 
   pub built_reads : ReadsBack (built how gs) (parts (made how gs) gs)
   unfolding built
@@ -33,9 +33,9 @@ module _ (how : Matching) (gs : List ℕ) where
   unfolding built parts built_length
   built_length_is =
       encoded_length (parts (made how gs) gs) parts_encodable
-      ∙ ap (λ (n : ℕ). Format.rules-offset + Format.rule-length * n) (rules_length (made how gs) (built_rules gs) 0 gs)
+      ∙ ap (λ (n : ℕ). Format.rules_offset + Format.rule_length * n) (rules_length (made how gs) (built_rules gs) 0 gs)
 
-  pub built_directory : Format.rule-length * built_rules gs < 256 ^ u32_width → DirectoryRight (built how gs)
+  pub built_directory : Format.rule_length * built_rules gs < 256 ^ u32_width → DirectoryRight (built how gs)
   unfolding parts
   built_directory h = built_reads.directory_right (rw (rules_length (made how gs) (built_rules gs) 0 gs) h)
 
@@ -52,14 +52,14 @@ module _ (how : Matching) (gs : List ℕ) where
   unfolding parts
   built_symbols = built_reads.symbols_are
 
-  pub built_finals : u32_at (built how gs) Format.finals-offset ≡ 16
+  pub built_finals : u32_at (built how gs) Format.finals_offset ≡ 16
   unfolding parts
   built_finals = built_reads.finals_are
 
   -- THE CLASS MAP
-  pub built_map : (v : ℕ) → v < Format.map-length → byte (built how gs) (Format.map-offset + v) ≡ class_of gs v
+  pub built_map : (v : ℕ) → v < Format.map_length → byte (built how gs) (Format.map_offset + v) ≡ class_of gs v
   unfolding parts
-  built_map v h = built_reads.map_is v h ∙ map_reads Format.map-length 0 v v gs (zero-add v) h
+  built_map v h = built_reads.map_is v h ∙ map_reads Format.map_length 0 v v gs (zero-add v) h
 
 -- the index of the rule for state p, class k and symbol a
 abbrev index : List ℕ → (p k a : ℕ) → ℕ

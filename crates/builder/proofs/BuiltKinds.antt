@@ -21,18 +21,18 @@ use Rattle.builder.proofs.BuiltRules.{by_cond}
 use Rattle.builder.proofs.EachRow.{Each, each, each_select}
 
 record KindLow (r : Rule) : Type 0 where
-  most : r.kind ≤ Format.kind-pop
+  most : r.kind ≤ Format.kind_pop
 
 none_low : KindLow no_rule
 none_low = record { most = omega arith }
 
-change_low : {p a m : ℕ} → KindLow (rule Format.kind-change p a m)
+change_low : {p a m : ℕ} → KindLow (rule Format.kind_change p a m)
 change_low = record { most = omega arith }
 
-push_low : {p a m : ℕ} → KindLow (rule Format.kind-push p a m)
+push_low : {p a m : ℕ} → KindLow (rule Format.kind_push p a m)
 push_low = record { most = omega arith }
 
-pop_low : {p a m : ℕ} → KindLow (rule Format.kind-pop p a m)
+pop_low : {p a m : ℕ} → KindLow (rule Format.kind_pop p a m)
 pop_low = record { most = omega arith }
 
 -- the six rules of a grammar rule, and those of symbol 0

@@ -33,56 +33,56 @@ module _ (bs : List ℕ) (class : ℕ) where
   unfolding rule_bad
   none_right = record { not_bad = refl }
 
-  pop_right : (p m : ℕ) → p < states bs → m ≤ Format.pop-return → RulePasses bs class (rule Format.kind-pop p 0 m)
+  pop_right : (p m : ℕ) → p < states bs → m ≤ Format.pop_return → RulePasses bs class (rule Format.kind_pop p 0 m)
   unfolding rule_bad
-  pop_right p m h l = record { not_bad = rw (lt-leb (states bs) p h) (le-ltb Format.pop-return m l) }
+  pop_right p m h l = record { not_bad = rw (lt-leb (states bs) p h) (le-ltb Format.pop_return m l) }
 
-  still_on : move_off bs class Format.direction-stay ≡ false
+  still_on : move_off bs class Format.direction_stay ≡ false
   unfolding move_off
   still_on = rw (and-false (eqb class (classes bs)), and-false (eqb class (classes bs + 1)))
 
-  right_on : (class ≡ classes bs + 1 → ⊥) → move_off bs class Format.direction-right ≡ false
+  right_on : (class ≡ classes bs + 1 → ⊥) → move_off bs class Format.direction_right ≡ false
   unfolding move_off
   right_on h = rw (and-false (eqb class (classes bs)), ne_eqb class (classes bs + 1) h)
 
   change_right :
-      (p a m : ℕ) → p < states bs → a < symbols bs → m ≤ Format.direction-left → move_off bs class m ≡ false →
-      RulePasses bs class (rule Format.kind-change p a m)
+      (p a m : ℕ) → p < states bs → a < symbols bs → m ≤ Format.direction_left → move_off bs class m ≡ false →
+      RulePasses bs class (rule Format.kind_change p a m)
   unfolding rule_bad
   change_right p a m h k l o =
-      record { not_bad = rw (lt-leb (states bs) p h, lt-leb (symbols bs) a k, le-ltb Format.direction-left m l) o }
+      record { not_bad = rw (lt-leb (states bs) p h, lt-leb (symbols bs) a k, le-ltb Format.direction_left m l) o }
 
   push_right :
-      (p a m : ℕ) → p < states bs → a < symbols bs → m ≤ Format.direction-left → move_off bs class m ≡ false →
-      RulePasses bs class (rule Format.kind-push p a m)
+      (p a m : ℕ) → p < states bs → a < symbols bs → m ≤ Format.direction_left → move_off bs class m ≡ false →
+      RulePasses bs class (rule Format.kind_push p a m)
   unfolding rule_bad
   push_right p a m h k l o =
-      record { not_bad = rw (lt-leb (states bs) p h, lt-leb (symbols bs) a k, le-ltb Format.direction-left m l) o }
+      record { not_bad = rw (lt-leb (states bs) p h, lt-leb (symbols bs) a k, le-ltb Format.direction_left m l) o }
 
   module _ (m : ℕ) (states_are : states bs ≡ state_count) (symbols_are : symbols bs ≡ suc (2 * m)) where
-    pop : (p n : ℕ) → p < state_count → n ≤ Format.pop-return → RulePasses bs class (rule Format.kind-pop p 0 n)
+    pop : (p n : ℕ) → p < state_count → n ≤ Format.pop_return → RulePasses bs class (rule Format.kind_pop p 0 n)
     pop p n h l = pop_right p n (omega arith) l
 
     stay_ok : RulePasses bs class pop_ok
-    stay_ok = pop state_ok Format.pop-stay (omega arith) (omega arith)
+    stay_ok = pop state_ok Format.pop_stay (omega arith) (omega arith)
 
     stay_fail : RulePasses bs class pop_fail
-    stay_fail = pop state_fail Format.pop-stay (omega arith) (omega arith)
+    stay_fail = pop state_fail Format.pop_stay (omega arith) (omega arith)
 
     return_ok : RulePasses bs class back_ok
-    return_ok = pop state_ok Format.pop-return (omega arith) (omega arith)
+    return_ok = pop state_ok Format.pop_return (omega arith) (omega arith)
 
     return_fail : RulePasses bs class back_fail
-    return_fail = pop state_fail Format.pop-return (omega arith) (omega arith)
+    return_fail = pop state_fail Format.pop_return (omega arith) (omega arith)
 
     push_part : (b : ℕ) → b < m → RulePasses bs class (push_first b)
-    push_part b h = push_right state_work (first b) Format.direction-stay (omega arith) (omega arith) (omega arith) still_on
+    push_part b h = push_right state_work (first b) Format.direction_stay (omega arith) (omega arith) (omega arith) still_on
 
     change_part : (k : ℕ) → k < m → RulePasses bs class (to_second k)
-    change_part k h = change_right state_work (second k) Format.direction-stay (omega arith) (omega arith) (omega arith) still_on
+    change_part k h = change_right state_work (second k) Format.direction_stay (omega arith) (omega arith) (omega arith) still_on
 
     pass_part : (k : ℕ) → k < m → (class ≡ classes bs + 1 → ⊥) → RulePasses bs class (pass_byte k)
-    pass_part k h o = change_right state_ok (first k) Format.direction-right (omega arith) (omega arith) (omega arith) (right_on o)
+    pass_part k h o = change_right state_ok (first k) Format.direction_right (omega arith) (omega arith) (omega arith) (right_on o)
 
     -- the six rules of a grammar rule; a byte is passed on no marker
     rows_right :
@@ -105,7 +105,7 @@ module _ (bs : List ℕ) (class : ℕ) where
     on_byte_right : (how : Matching) → (class ≡ classes bs + 1 → ⊥) → RulePasses bs class (on_byte how)
     unfolding on_byte
     on_byte_right Whole o = none_right
-    on_byte_right Leading o = change_right state_ok 0 Format.direction-right (omega arith) (omega arith) (omega arith) (right_on o)
+    on_byte_right Leading o = change_right state_ok 0 Format.direction_right (omega arith) (omega arith) (omega arith) (right_on o)
 
     pub row_zero_right : (how : Matching) (n p : ℕ) → classes bs ≡ n → 0 < m → RulePasses bs class (row_zero how n p class)
     unfolding row_zero
@@ -113,9 +113,9 @@ module _ (bs : List ℕ) (class : ℕ) where
         by_cond (RulePasses bs class) (eqb p state_start && eqb class n) _ _
         (λ t.
         let q : class ≡ n = eqb-true _ _ (both_true (eqb p state_start) _ t).1 in
-        push_right state_work (first 0) Format.direction-right (omega arith) (omega arith) (omega arith) (right_on (λ z. omega arith)))
+        push_right state_work (first 0) Format.direction_right (omega arith) (omega arith) (omega arith) (right_on (λ z. omega arith)))
         (by_cond (RulePasses bs class) (eqb p state_ok && eqb class (n + 1)) _ _
-        (λ t. pop state_done Format.pop-stay (omega arith) (omega arith))
+        (λ t. pop state_done Format.pop_stay (omega arith) (omega arith))
         (by_cond (RulePasses bs class) (eqb p state_ok && ltb class n) _ _
         (λ t. on_byte_right how (λ z. omega (arith, ltb-true class n (both_true (eqb p state_ok) _ t).1)))
         none_right))

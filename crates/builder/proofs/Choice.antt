@@ -69,26 +69,26 @@ one_row gs p x (suc a) = rw (none_there (eqb p state_ok) (ltb x (class_count gs)
 -- IN THE IMAGES: all that stands before the rules is the same, and each rule but those of the row
 front_is :
     (how : Matching) (gs : List ℕ) →
-    take Format.rules-offset (built how gs)
-    ≡ header state_count (class_count gs) (symbols_of gs) finals (built_rules gs) ++ map_made Format.map-length 0 gs
+    take Format.rules_offset (built how gs)
+    ≡ header state_count (class_count gs) (symbols_of gs) finals (built_rules gs) ++ map_made Format.map_length 0 gs
 unfolding built parts encode
 front_is how gs =
     let n : ℕ = length (rules_made (made how gs) (built_rules gs) 0 gs) in
     let front : List ℕ = header state_count (class_count gs) (symbols_of gs) finals n in
-    let map : List ℕ = map_made Format.map-length 0 gs in
+    let map : List ℕ = map_made Format.map_length 0 gs in
     let rest : List ℕ = rules_bytes (rules_made (made how gs) (built_rules gs) 0 gs) in
-    let long : length (front ++ map) ≡ Format.rules-offset =
-    length-append front map ∙ omega (arith, header_length state_count (class_count gs) (symbols_of gs) finals n, map_length Format.map-length 0 gs)
+    let long : length (front ++ map) ≡ Format.rules_offset =
+    length-append front map ∙ omega (arith, header_length state_count (class_count gs) (symbols_of gs) finals n, map_length Format.map_length 0 gs)
     in
-    ap (take Format.rules-offset) (sym (append_assoc front map rest)) ∙ take_at (front ++ map) rest Format.rules-offset long
+    ap (take Format.rules_offset) (sym (append_assoc front map rest)) ∙ take_at (front ++ map) rest Format.rules_offset long
     ∙ ap (λ (m : ℕ). header state_count (class_count gs) (symbols_of gs) finals m ++ map) (rules_length (made how gs) (built_rules gs) 0 gs)
 
 pub images_beside :
     (gs : List ℕ) →
-    (take Format.rules-offset (built Leading gs) ≡ take Format.rules-offset (built Whole gs))
+    (take Format.rules_offset (built Leading gs) ≡ take Format.rules_offset (built Whole gs))
     × ((p k a : ℕ) → p < state_count → k < class_count gs + 2 → a < symbols_of gs →
     rule_at (built Leading gs) p k a
-    ≡ cond (eqb p state_ok && (ltb k (class_count gs) && eqb a 0)) (rule Format.kind-change state_ok 0 Format.direction-right) (rule_at (built Whole gs) p k a))
+    ≡ cond (eqb p state_ok && (ltb k (class_count gs) && eqb a 0)) (rule Format.kind_change state_ok 0 Format.direction_right) (rule_at (built Whole gs) p k a))
 unfolding on_byte
 images_beside gs = (
   front_is Leading gs ∙ sym (front_is Whole gs),

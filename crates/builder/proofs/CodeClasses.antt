@@ -85,8 +85,8 @@ unfolding built_rules
 count_most gs good = product_most gs good (class_count gs) (symbols_of gs) refl refl
 
 -- THE CELLS of the grammar's machine, and that they are few
-cells_most : (places g : ℕ) → places ≤ Format.max-places → g ≤ 63 → state_count * places * g ≤ state_count * Format.max-places * 63
-cells_most places g h l = let p : state_count * places ≤ state_count * Format.max-places = omega arith in mul-le-mul p l
+cells_most : (places g : ℕ) → places ≤ Format.max_places → g ≤ 63 → state_count * places * g ≤ state_count * Format.max_places * 63
+cells_most places g h l = let p : state_count * places ≤ state_count * Format.max_places = omega arith in mul-le-mul p l
 
 pub cells_fit : (gs : List ℕ) (n g : ℕ) → Short gs n → g ≡ symbols_of gs → state_count * (n + 2) * g ≤ 20644155
 cells_fit gs n g w e = cells_most (n + 2) g (omega (arith, w.fits)) (omega (arith, symbols_most gs w.good))
@@ -97,7 +97,7 @@ cells_told gs n g e how cs l = rw (built_states how gs, built_symbols how gs, e,
 
 -- THE PLAN, from its parts
 pub planned :
-    (gs : List ℕ) (n size long : ℕ) → n ≡ class_count gs → size ≡ built_rules gs → long ≡ Format.rules-offset + 4 * size →
+    (gs : List ℕ) (n size long : ℕ) → n ≡ class_count gs → size ≡ built_rules gs → long ≡ Format.rules_offset + 4 * size →
     record { classes = n; count = size; long = long } ≡ plan_of gs
 unfolding plan_of built_length
 planned gs n size long e f g = rw (e, g, f)

@@ -42,7 +42,7 @@ module _ (ms : List ℕ) (r : ByteRange) (b c : ℕ) (is : r ≡ Between b c) wh
   unfolding cuts_at
   marks_inverted l = record { mark = λ v h. rw (is, lt-leb b c l, and-false (eqb b v || eqb (c + 1) v)) }
 
-  module _ (long : length ms ≡ Format.map-length) (order : b ≤ c) where
+  module _ (long : length ms ≡ Format.map_length) (order : b ≤ c) where
     ends : (v : ℕ) → cuts_at r v ≡ (eqb b v || eqb (c + 1) v)
     unfolding cuts_at
     ends v = rw (is, le-leb b c order) (and-true (eqb b v || eqb (c + 1) v))
@@ -56,16 +56,16 @@ module _ (ms : List ℕ) (r : ByteRange) (b c : ℕ) (is : r ≡ Between b c) wh
         }
 
     -- no byte value is after the last
-    pub marks_first : 255 ≤ c → b < Format.map-length → MarksRange r ms (set ms b 1)
+    pub marks_first : 255 ≤ c → b < Format.map_length → MarksRange r ms (set ms b 1)
     marks_first l below = record { mark = λ v h. mark_set ms b v (omega arith) ∙ ap (λ (t : Bool). cond t 1 (byte ms v)) (sym (only v h)) }
       where
-        only : (v : ℕ) → v < Format.map-length → cuts_at r v ≡ eqb b v
+        only : (v : ℕ) → v < Format.map_length → cuts_at r v ≡ eqb b v
         only v h = ends v ∙ rw (ne_eqb (c + 1) v (λ e. omega arith)) (or-false (eqb b v))
 
 -- ALL RANGES, with those of the rules from k on still to be marked
 pub record Marking (gs ms : List ℕ) (k : ℕ) : Type 0 where
-  pub long : length ms ≡ Format.map-length
-  pub left : (v : ℕ) → v < Format.map-length → cond (cut gs v) 1 0 ≡ cond (cut_from (rules gs - k) k gs v) 1 (byte ms v)
+  pub long : length ms ≡ Format.map_length
+  pub left : (v : ℕ) → v < Format.map_length → cond (cut gs v) 1 0 ≡ cond (cut_from (rules gs - k) k gs v) 1 (byte ms v)
 
 pub marking_start : (gs ms : List ℕ) → Unmarked ms → Marking gs ms 0
 unfolding cut
@@ -85,7 +85,7 @@ module _ (gs ms : List ℕ) (k : ℕ) (w : Marking gs ms k) where
       (ns : List ℕ) (r : ByteRange) → k < rules gs → r ≡ range_of (expression gs k) → MarksRange r ms ns → length ns ≡ length ms → Marking gs ns (k + 1)
   marking_next ns r more is marks kept = record { long = kept ∙ w.long; left = next }
     where
-      next : (v : ℕ) → v < Format.map-length → cond (cut gs v) 1 0 ≡ cond (cut_from (rules gs - (k + 1)) (k + 1) gs v) 1 (byte ns v)
+      next : (v : ℕ) → v < Format.map_length → cond (cut gs v) 1 0 ≡ cond (cut_from (rules gs - (k + 1)) (k + 1) gs v) 1 (byte ns v)
       next v h =
           let one_more : rules gs - k ≡ suc (rules gs - (k + 1)) = omega arith in
           let following : suc k ≡ k + 1 = omega arith in
@@ -102,5 +102,5 @@ module _ (gs ms : List ℕ) (k : ℕ) (w : Marking gs ms k) where
       }
 
 -- a new array has no mark
-pub unmarked : Unmarked (replicate Format.map-length 0)
-unmarked = record { long = length-replicate {A = ℕ} Format.map-length 0; unset = λ v h. get_or-replicate {A = ℕ} Format.map-length v 0 0 h }
+pub unmarked : Unmarked (replicate Format.map_length 0)
+unmarked = record { long = length-replicate {A = ℕ} Format.map_length 0; unset = λ v h. get_or-replicate {A = ℕ} Format.map_length v 0 0 h }

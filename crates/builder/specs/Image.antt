@@ -40,7 +40,7 @@ parts t gs =
       classes = class_count gs;
       symbols = symbols_of gs;
       finals = finals;
-      class_map = map_made Format.map-length 0 gs;
+      class_map = map_made Format.map_length 0 gs;
       rules = rules_made t (built_rules gs) 0 gs;
     }
 
@@ -50,4 +50,4 @@ built how gs = encode (parts (made how gs) gs)
 
 -- its length, by either choice
 unfoldable pub built_length : List ℕ → ℕ
-built_length gs = Format.rules-offset + Format.rule-length * built_rules gs
+built_length gs = Format.rules_offset + Format.rule_length * built_rules gs

@@ -49,32 +49,32 @@ abbrev pub rule : (kind state symbol direction : ℕ) → Rule
 rule k p a m = record { kind = k; state = p; symbol = a; direction = m }
 
 abbrev pub no_rule : Rule
-no_rule = rule Format.kind-none 0 0 0
+no_rule = rule Format.kind_none 0 0 0
 
 -- push a rule's first symbol, and work
 abbrev pub push_first : (k : ℕ) → Rule
-push_first k = rule Format.kind-push state_work (first k) Format.direction-stay
+push_first k = rule Format.kind_push state_work (first k) Format.direction_stay
 
 -- change to a rule's second symbol, and work
 abbrev pub to_second : (k : ℕ) → Rule
-to_second k = rule Format.kind-change state_work (second k) Format.direction-stay
+to_second k = rule Format.kind_change state_work (second k) Format.direction_stay
 
 -- pass the byte under the head: the symbol stays, the head moves right, ok
 abbrev pub pass_byte : (k : ℕ) → Rule
-pass_byte k = rule Format.kind-change state_ok (first k) Format.direction-right
+pass_byte k = rule Format.kind_change state_ok (first k) Format.direction_right
 
 -- pop, the head staying or returning
 abbrev pub pop_ok : Rule
-pop_ok = rule Format.kind-pop state_ok 0 Format.pop-stay
+pop_ok = rule Format.kind_pop state_ok 0 Format.pop_stay
 
 abbrev pub pop_fail : Rule
-pop_fail = rule Format.kind-pop state_fail 0 Format.pop-stay
+pop_fail = rule Format.kind_pop state_fail 0 Format.pop_stay
 
 abbrev pub back_ok : Rule
-back_ok = rule Format.kind-pop state_ok 0 Format.pop-return
+back_ok = rule Format.kind_pop state_ok 0 Format.pop_return
 
 abbrev pub back_fail : Rule
-back_fail = rule Format.kind-pop state_fail 0 Format.pop-return
+back_fail = rule Format.kind_pop state_fail 0 Format.pop_return
 
 -- THE SIX RULES of a grammar rule: its first symbol in work, ok and fail, then its second one
 pub record Row : Type 0 where
@@ -114,13 +114,13 @@ select r s p = by_state p (cond s r.second r.first)
 -- THE CHOICE, ok on a byte with symbol 0, where rule 0 has succeeded before the capture's end: a whole match has no rule there; a leading one changes to itself and moves right
 unfoldable pub on_byte : Matching → Rule
 on_byte Whole = no_rule
-on_byte Leading = rule Format.kind-change state_ok 0 Format.direction-right
+on_byte Leading = rule Format.kind_change state_ok 0 Format.direction_right
 
 -- THE RULES OF SYMBOL 0: start on the left marker, ok on the right one, ok on a byte
 unfoldable pub row_zero : Matching → (class_count p class : ℕ) → Rule
 row_zero how n p k =
-    cond (eqb p state_start && eqb k n) (rule Format.kind-push state_work (first 0) Format.direction-right)
-    (cond (eqb p state_ok && eqb k (n + 1)) (rule Format.kind-pop state_done 0 Format.pop-stay)
+    cond (eqb p state_start && eqb k n) (rule Format.kind_push state_work (first 0) Format.direction_right)
+    (cond (eqb p state_ok && eqb k (n + 1)) (rule Format.kind_pop state_done 0 Format.pop_stay)
     (cond (eqb p state_ok && ltb k n) (on_byte how) no_rule))
 
 -- whether a byte class, and no marker, is in a range

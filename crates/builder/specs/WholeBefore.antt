@@ -10,8 +10,8 @@ use Rattle.builder.specs.Image.{parts}
 -- start on the left marker, ok on the right one
 unfoldable pub row_zero_before : (class_count p class : ℕ) → Rule
 row_zero_before n p k =
-    cond (eqb p state_start && eqb k n) (rule Format.kind-push state_work (first 0) Format.direction-right)
-    (cond (eqb p state_ok && eqb k (n + 1)) (rule Format.kind-pop state_done 0 Format.pop-stay) no_rule)
+    cond (eqb p state_start && eqb k n) (rule Format.kind_push state_work (first 0) Format.direction_right)
+    (cond (eqb p state_ok && eqb k (n + 1)) (rule Format.kind_pop state_done 0 Format.pop_stay) no_rule)
 
 unfoldable pub made_before : List ℕ → (p class a : ℕ) → Rule
 made_before gs p x zero = row_zero_before (class_count gs) p x

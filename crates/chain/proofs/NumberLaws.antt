@@ -17,7 +17,7 @@ use Rattle.chain.proofs.Dividing.{one_more_times, divides, product_few}
 
 -- more than any number
 abbrev pub numbers_end : ℕ
-numbers_end = Format.max-states * Format.max-places * Format.max-symbols
+numbers_end = Format.max_states * Format.max_places * Format.max_symbols
 
 module _ {e : Environment} (k : Constants e) where
   -- the state's share, the head's and the symbol's
@@ -28,11 +28,11 @@ module _ {e : Environment} (k : Constants e) where
   pub number_few : {c : Config} → ConfigBelow e c → number_in e c < numbers_end
   unfolding number_by
   number_few {c} b =
-      let h : (c.state * e.sizes.places + c.head) * e.sizes.symbols + c.symbol < Format.max-states * e.sizes.places * e.sizes.symbols =
+      let h : (c.state * e.sizes.places + c.head) * e.sizes.symbols + c.symbol < Format.max_states * e.sizes.places * e.sizes.symbols =
       digits_below b.state_low b.head_below b.symbol_below in
-      let f : Format.max-states * e.sizes.places * e.sizes.symbols ≤ numbers_end =
-      mul-le-mul {n₂ = Format.max-states * Format.max-places} {m₂ = Format.max-symbols}
-      (mul-le-mul {n₂ = Format.max-states} {m₂ = Format.max-places} (omega arith) k.places_most)
+      let f : Format.max_states * e.sizes.places * e.sizes.symbols ≤ numbers_end =
+      mul-le-mul {n₂ = Format.max_states * Format.max_places} {m₂ = Format.max_symbols}
+      (mul-le-mul {n₂ = Format.max_states} {m₂ = Format.max_places} (omega arith) k.places_most)
       k.symbols_most in
       omega arith
 
@@ -113,39 +113,39 @@ module _ {e : Environment} {k : ℕ} (y : Apart e k) where
 
   below_most : k < numbers_end
   below_most =
-      let f : Format.max-states * m * g ≤ numbers_end =
-      mul-le-mul {n₂ = Format.max-states * Format.max-places} {m₂ = Format.max-symbols}
-      (mul-le-mul {n₂ = Format.max-states} {m₂ = Format.max-places} (omega arith) y.constants.places_most)
+      let f : Format.max_states * m * g ≤ numbers_end =
+      mul-le-mul {n₂ = Format.max_states * Format.max_places} {m₂ = Format.max_symbols}
+      (mul-le-mul {n₂ = Format.max_states} {m₂ = Format.max_places} (omega arith) y.constants.places_most)
       y.constants.symbols_most in
       omega (arith, y.below)
 
-  stride_few : m * g ≤ Format.max-places * Format.max-symbols
-  stride_few = mul-le-mul {n₂ = Format.max-places} {m₂ = Format.max-symbols} y.constants.places_most y.constants.symbols_most
+  stride_few : m * g ≤ Format.max_places * Format.max_symbols
+  stride_few = mul-le-mul {n₂ = Format.max_places} {m₂ = Format.max_symbols} y.constants.places_most y.constants.symbols_most
 
   stride_some : 0 < m * g
   stride_some = mul-pos y.constants.places_some y.constants.symbols_some
 
   pub upper_is : k * e.reciprocals.symbols / symbols_scale ≡ k / e.sizes.symbols
   upper_is =
-      let f : k * g ≤ numbers_end * Format.max-symbols = mul-le-mul {n₂ = numbers_end} {m₂ = Format.max-symbols} (omega (arith, below_most)) y.constants.symbols_most in
+      let f : k * g ≤ numbers_end * Format.max_symbols = mul-le-mul {n₂ = numbers_end} {m₂ = Format.max_symbols} (omega (arith, below_most)) y.constants.symbols_most in
       rw y.constants.reciprocals_are (divides k g symbols_scale y.constants.symbols_some (omega arith))
 
   pub state_is : k * e.reciprocals.stride / stride_scale ≡ k / e.stride
   state_is =
-      let f : k * (m * g) ≤ numbers_end * (Format.max-places * Format.max-symbols) =
-      mul-le-mul {n₂ = numbers_end} {m₂ = Format.max-places * Format.max-symbols} (omega (arith, below_most)) stride_few in
+      let f : k * (m * g) ≤ numbers_end * (Format.max_places * Format.max_symbols) =
+      mul-le-mul {n₂ = numbers_end} {m₂ = Format.max_places * Format.max_symbols} (omega (arith, below_most)) stride_few in
       rw (y.constants.reciprocals_are, y.constants.stride_is) (divides k (m * g) stride_scale stride_some (omega arith))
 
   pub symbols_product_fits : Fits w64 (k * e.reciprocals.symbols)
   symbols_product_fits =
-      let q : Format.max-states * m * symbols_scale ≤ Format.max-states * Format.max-places * symbols_scale =
-      mul-le-mul_right symbols_scale (mul-le-mul {n₂ = Format.max-states} {m₂ = Format.max-places} (omega arith) y.constants.places_most) in
-      rw y.constants.reciprocals_are (omega (arith, q, product_few k g symbols_scale (Format.max-states * m) (omega (arith, y.below)), below_most))
+      let q : Format.max_states * m * symbols_scale ≤ Format.max_states * Format.max_places * symbols_scale =
+      mul-le-mul_right symbols_scale (mul-le-mul {n₂ = Format.max_states} {m₂ = Format.max_places} (omega arith) y.constants.places_most) in
+      rw y.constants.reciprocals_are (omega (arith, q, product_few k g symbols_scale (Format.max_states * m) (omega (arith, y.below)), below_most))
 
   pub stride_product_fits : Fits w64 (k * e.reciprocals.stride)
   stride_product_fits =
       rw y.constants.reciprocals_are
-      (omega (arith, product_few k (m * g) stride_scale Format.max-states (omega (arith, y.below, mul_assoc Format.max-states m g)), below_most))
+      (omega (arith, product_few k (m * g) stride_scale Format.max_states (omega (arith, y.below, mul_assoc Format.max_states m g)), below_most))
 
   -- the state by the stride is the state by places and symbols
   pub by_stride : k / e.stride ≡ k / g / m

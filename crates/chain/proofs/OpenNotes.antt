@@ -28,11 +28,11 @@ pub open_changed : (c : Config) {b : Bool} → b ≡ false → open_bit + c.head
 open_changed c e = rw e (omega arith)
 
 -- the parts
-pub told_head : (c : Config) (b : Bool) → c.head < Format.max-places → c.symbol < Format.max-symbols → head_told (open_note c b) ≡ c.head
+pub told_head : (c : Config) (b : Bool) → c.head < Format.max_places → c.symbol < Format.max_symbols → head_told (open_note c b) ≡ c.head
 told_head c true i a = omega arith
 told_head c false i a = omega arith
 
-pub told_symbol : (c : Config) (b : Bool) → c.symbol < Format.max-symbols → symbol_told (open_note c b) ≡ c.symbol
+pub told_symbol : (c : Config) (b : Bool) → c.symbol < Format.max_symbols → symbol_told (open_note c b) ≡ c.symbol
 told_symbol c true a = omega arith
 told_symbol c false a = omega arith
 

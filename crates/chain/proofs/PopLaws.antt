@@ -21,8 +21,8 @@ use Rattle.chain.proofs.OpenNotes.{noted, note_set}
 module _ {E : Environment} {d : Config} {k i t : ℕ} {a : Action} {ns ws : List ℕ} (y : Resumable E d k a i t ns ws) where
   pub pointer_product_fits : Fits w32 (i * E.sizes.symbols)
   pointer_product_fits =
-      let h : i * E.sizes.symbols ≤ Format.max-places * Format.max-symbols =
-      mul-le-mul {n₂ = Format.max-places} {m₂ = Format.max-symbols}
+      let h : i * E.sizes.symbols ≤ Format.max_places * Format.max_symbols =
+      mul-le-mul {n₂ = Format.max_places} {m₂ = Format.max_symbols}
       (omega (arith, y.pointer_below, y.terminator.constants.places_most))
       y.terminator.constants.symbols_most in
       omega arith

@@ -32,16 +32,16 @@ use Rattle.chain.specs.Code.StepParts.{Resumable, FirstReady, Closable}
 
 -- N is at most 32 · 65537 · 128
 pub few_cells :
-    {bs cs : List ℕ} → Unrefused bs cs → how_many (machine bs cs) ≤ Format.max-states * Format.max-places * Format.max-symbols
+    {bs cs : List ℕ} → Unrefused bs cs → how_many (machine bs cs) ≤ Format.max_states * Format.max_places * Format.max_symbols
 unfolding how_many machine
 few_cells {bs} {cs} u =
     let g = good u in
-    let p : length cs + 2 ≤ Format.max-places = omega (arith, u.short) in
+    let p : length cs + 2 ≤ Format.max_places = omega (arith, u.short) in
     mul-le-mul (mul-le-mul g.states_most p) g.symbols_most
 
-pub few_places : {bs cs : List ℕ} → Unrefused bs cs → states bs * (length cs + 2) ≤ Format.max-states * Format.max-places
+pub few_places : {bs cs : List ℕ} → Unrefused bs cs → states bs * (length cs + 2) ≤ Format.max_states * Format.max_places
 few_places {bs} {cs} u =
-    let p : length cs + 2 ≤ Format.max-places = omega (arith, u.short) in
+    let p : length cs + 2 ≤ Format.max_places = omega (arith, u.short) in
     mul-le-mul (good u).states_most p
 
 -- AN ENVIRONMENT by an image and a capture that are not refused
@@ -83,7 +83,7 @@ module _ {bs cs : List ℕ} (u : Unrefused bs cs) {E : Environment} (q : E ≡ e
   from_there k h = rw q (config_at_there (machine bs cs) k h)
 
   -- a pop names a state of the image
-  pub pop_low : {d : Config} → ValidConfig (machine bs cs) d → {a : Action} → a ≡ action bs cs d → (p : ℕ) (b : Bool) → a ≡ Pop p b → p < Format.max-states
+  pub pop_low : {d : Config} → ValidConfig (machine bs cs) d → {a : Action} → a ≡ action bs cs d → (p : ℕ) (b : Bool) → a ≡ Pop p b → p < Format.max_states
   unfolding machine
   pop_low {d} t f p b e =
       let h : p < (machine bs cs).states = (inside bs cs u).pops d p b t (sym f ∙ e) in
@@ -93,7 +93,7 @@ module _ {bs cs : List ℕ} (u : Unrefused bs cs) {E : Environment} (q : E ≡ e
   pub apart_low : {k : ℕ} → k < how_many (machine bs cs) → Apart E k
   unfolding how_many machine sizes_of
   apart_low {k} h =
-      let f : how_many (machine bs cs) ≤ Format.max-states * E.sizes.places * E.sizes.symbols =
+      let f : how_many (machine bs cs) ≤ Format.max_states * E.sizes.places * E.sizes.symbols =
       rw q (mul-le-mul (mul-le-mul {m₁ = length cs + 2} (good u).states_most (omega arith)) (omega arith)) in
       record { constants = constants_kept; below = omega arith }
 

@@ -51,7 +51,7 @@ stepped c bs cs x =
 unfoldable pub started : {S : Type 0} → Chain S → (image capture : List ℕ) → ProgramState S
 started c bs cs =
     record {
-      state = c.start (take Format.counts-length (drop Format.counts-offset bs)) (length cs);
+      state = c.start (take Format.counts_length (drop Format.counts_offset bs)) (length cs);
       notes = replicate (how_many (machine bs cs)) 0;
       work = replicate (how_many (machine bs cs)) 0;
     }
@@ -105,7 +105,7 @@ environment_by s f =
     record { sizes = s; finals = f; stride = s.places * s.symbols; reciprocals = reciprocals_by s.symbols (s.places * s.symbols) }
 
 abbrev pub environment_of : (image capture : List ℕ) → Environment
-environment_of bs cs = environment_by (sizes_of bs cs) (u32_at bs Format.finals-offset)
+environment_of bs cs = environment_by (sizes_of bs cs) (u32_at bs Format.finals_offset)
 
 -- the start from the counts' bytes and the capture's length alone
 unfoldable pub start_state : (counts : List ℕ) → (capture_length : ℕ) → JudgeState
@@ -113,12 +113,12 @@ start_state ks n =
     start_in
     (environment_by
     (record {
-      classes = byte ks (Format.classes-offset - Format.counts-offset);
-      symbols = byte ks (Format.symbols-offset - Format.counts-offset);
+      classes = byte ks (Format.classes_offset - Format.counts_offset);
+      symbols = byte ks (Format.symbols_offset - Format.counts_offset);
       places = n + 2;
-      rules = (byte ks (Format.classes-offset - Format.counts-offset) + 2) * byte ks (Format.symbols-offset - Format.counts-offset);
+      rules = (byte ks (Format.classes_offset - Format.counts_offset) + 2) * byte ks (Format.symbols_offset - Format.counts_offset);
     })
-    (u32_at ks (Format.finals-offset - Format.counts-offset)))
+    (u32_at ks (Format.finals_offset - Format.counts_offset)))
 
 unfoldable pub verdict_of : Mode → Option Verdict
 verdict_of Look = none

@@ -31,12 +31,12 @@ use Rattle.chain_theory.proofs.Finish.{Starts, begin_holds, few_steps, settled_a
 
 -- the section of the counts, and a byte of it
 abbrev pub counts_of : (image : List ℕ) → List ℕ
-counts_of bs = take Format.counts-length (drop Format.counts-offset bs)
+counts_of bs = take Format.counts_length (drop Format.counts_offset bs)
 
-count_byte : (bs : List ℕ) (k : ℕ) → k < Format.counts-length → byte (counts_of bs) k ≡ byte bs (Format.counts-offset + k)
-count_byte bs k l = get_or-take Format.counts-length (drop Format.counts-offset bs) k 0 l ∙ get_or-drop Format.counts-offset bs k 0
+count_byte : (bs : List ℕ) (k : ℕ) → k < Format.counts_length → byte (counts_of bs) k ≡ byte bs (Format.counts_offset + k)
+count_byte bs k l = get_or-take Format.counts_length (drop Format.counts_offset bs) k 0 l ∙ get_or-drop Format.counts_offset bs k 0
 
-count_four : (bs : List ℕ) → u32_at (counts_of bs) 4 ≡ u32_at bs Format.finals-offset
+count_four : (bs : List ℕ) → u32_at (counts_of bs) 4 ≡ u32_at bs Format.finals_offset
 unfolding number_at
 count_four bs =
     rw (count_byte bs 4 (omega arith), count_byte bs 5 (omega arith), count_byte bs 6 (omega arith), count_byte bs 7 (omega arith))

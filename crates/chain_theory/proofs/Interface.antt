@@ -16,7 +16,7 @@ chain_judges bs cs u = Theory.chain_judges bs cs u
 
 -- the verdict stands at the theory's step and at none before the chain's
 steps_early : (bs cs : List ℕ) (u : Unrefused bs cs) → (chain_judges bs cs u).steps ≤ (Theory.finished bs cs u).steps
-unfolding chain Theory.registers-at
+unfolding chain Theory.registers_at
 steps_early bs cs u = go (dec_lt (Theory.finished bs cs u).steps (chain_judges bs cs u).steps)
   where
     go : Dec ((Theory.finished bs cs u).steps < (chain_judges bs cs u).steps) → (chain_judges bs cs u).steps ≤ (Theory.finished bs cs u).steps
@@ -28,5 +28,5 @@ steps_early bs cs u = go (dec_lt (Theory.finished bs cs u).steps (chain_judges b
 pub chain_ready :
     (bs cs : List ℕ) (u : Unrefused bs cs) (n : ℕ) → n ≤ (chain_judges bs cs u).steps →
     Ready bs cs (reached chain bs cs n).state.environment (reached chain bs cs n).state.registers (reached chain bs cs n).notes (reached chain bs cs n).work
-unfolding Theory.registers-at
-chain_ready bs cs u n h = rw (Theory.environment-at bs cs n) (Theory.ready_at bs cs u n (omega (arith, steps_early bs cs u)))
+unfolding Theory.registers_at
+chain_ready bs cs u n h = rw (Theory.environment_at bs cs n) (Theory.ready_at bs cs u n (omega (arith, steps_early bs cs u)))

@@ -30,12 +30,12 @@ use Rattle.grammar_judge.specs.Calls.{Lent, parts_refusal, lent_refusal}
 
 -- 7 TO 9, by the tests on the capture and on the cells that the machine needs
 module _ (gs cs : List ℕ) (good : (grammar_refusal gs).number ≡ 0) (a b : ℕ) where
-  pub refused_long : Format.max-capture < length cs → refusal 7 (length cs) ≡ judge_refusal (built Whole gs) cs a b
+  pub refused_long : Format.max_capture < length cs → refusal 7 (length cs) ≡ judge_refusal (built Whole gs) cs a b
   refused_long h =
       let e = sym (then_long (built Whole gs) (length cs) (image_refusal (built Whole gs)) refl (built_good Whole gs good) h) in
       sym (cells_refused (built Whole gs) cs a b (λ z. absurd (omega (arith, ap (λ (f : Refusal). f.number) e))) ∙ e)
 
-  module _ (short : length cs ≤ Format.max-capture) (cells : ℕ) (is : cells ≡ how_many (machine (built Whole gs) cs)) where
+  module _ (short : length cs ≤ Format.max_capture) (cells : ℕ) (is : cells ≡ how_many (machine (built Whole gs) cs)) where
     fine_so_far : (capture_refusal (built Whole gs) (length cs)).number ≡ 0
     fine_so_far = ap (λ (f : Refusal). f.number) (sym (then_fine (built Whole gs) (length cs) (image_refusal (built Whole gs)) refl (built_good Whole gs good) short))
 
@@ -67,7 +67,7 @@ room_tested gs p w n h = room_told gs (grammar_refusal gs) refl w.good n (long_i
 pub record Roomy (gs cs : List ℕ) (x : Lent) : Type 0 where
   pub image_room : built_length gs ≤ length x.image
   pub no_refusal : (capture_refusal (built Whole gs) (length cs)).number ≡ 0
-  pub short : length cs ≤ Format.max-capture
+  pub short : length cs ≤ Format.max_capture
   pub notes_room : how_many (machine (built Whole gs) cs) ≤ length x.notes
   pub work_room : how_many (machine (built Whole gs) cs) ≤ length x.work
 
@@ -99,7 +99,7 @@ parts_fine gs cs m a b e =
 pub refusals_left :
     (how : Matching) (gs cs : List ℕ) (notes work : ℕ) → (grammar_refusal gs).number ≡ 0 →
     judge_refusal (built how gs) cs notes work
-    ≡ or_else (refuse_if (ltb Format.max-capture (length cs)) (refusal 7 (length cs)))
+    ≡ or_else (refuse_if (ltb Format.max_capture (length cs)) (refusal 7 (length cs)))
     (or_else (refuse_if (ltb notes (how_many (machine (built how gs) cs))) (refusal 8 (how_many (machine (built how gs) cs))))
     (refuse_if (ltb work (how_many (machine (built how gs) cs))) (refusal 9 (how_many (machine (built how gs) cs)))))
 unfolding judge_refusal capture_refusal or_else

@@ -115,7 +115,7 @@ module _ (how : Matching) (gs cs : List ℕ) (good : (grammar_refusal gs).number
 
 -- looping, exactly where parsing has no result
 pub loops_exact :
-    (how : Matching) (gs cs : List ℕ) → (grammar_refusal gs).number ≡ 0 → Bytes cs → length cs ≤ Format.max-capture →
+    (how : Matching) (gs cs : List ℕ) → (grammar_refusal gs).number ≡ 0 → Bytes cs → length cs ≤ Format.max_capture →
     ((d : Config) × Says (machine (built how gs) cs) Looping d) ↔ ((o : Option ℕ) → Parses (expression gs) cs 0 0 o → ⊥)
 loops_exact how gs cs good bytes short =
     (λ (d, s) o p. b.parses_terminates o p (says_looping s).0, λ none_parses. loops (b.no_parse_goes_on none_parses))

@@ -46,7 +46,7 @@ pub record Gets (how : Matching) (gs cs : List ℕ) (r : Judged) : Type 0 where
 pub record Enough (how : Matching) (gs cs image notes work : List ℕ) : Type 0 where
   pub good : (grammar_refusal gs).number ≡ 0
   pub bytes : (i : ℕ) → byte cs i < 256
-  pub short : length cs ≤ Format.max-capture
+  pub short : length cs ≤ Format.max_capture
   pub image_room : built_length gs ≤ length image
   pub notes_room : how_many (machine (built how gs) cs) ≤ length notes
   pub work_room : how_many (machine (built how gs) cs) ≤ length work

@@ -15,9 +15,9 @@ use Rattle.image.proofs.ConditionsMet.{image_check}
 
 module _ (bs : List ℕ) (n : ℕ) where
   some_row : SomeRow (CaptureRow bs n)
-  some_row = then_row (image_check bs) (λ m o r some. refused_image r some) (λ i. by_length i (dec_lt Format.max-capture n))
+  some_row = then_row (image_check bs) (λ m o r some. refused_image r some) (λ i. by_length i (dec_lt Format.max_capture n))
     where
-      by_length : ImageRight bs → Dec (Format.max-capture < n) → SomeRow (CaptureRow bs n)
+      by_length : ImageRight bs → Dec (Format.max_capture < n) → SomeRow (CaptureRow bs n)
       by_length i (yes h) = (7, n, long_capture i h)
       by_length i (no h) = (0, 0, unrefused_capture (record { image = i; short = omega arith }))
 

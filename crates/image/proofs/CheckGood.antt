@@ -20,16 +20,16 @@ use Rattle.image.proofs.ImageParts.{Part, part_right, part_wrong, counts_part, c
 use Rattle.image.proofs.ConditionsMet.{image_right}
 
 pub record GoodImage (bs : List ℕ) : Type 0 where
-  pub long : Format.rules-offset ≤ length bs
-  pub length_is : length bs ≡ Format.rules-offset + Format.rule-length * rule_count bs
+  pub long : Format.rules_offset ≤ length bs
+  pub length_is : length bs ≡ Format.rules_offset + Format.rule_length * rule_count bs
   pub states_least : 1 ≤ states bs
-  pub states_most : states bs ≤ Format.max-states
+  pub states_most : states bs ≤ Format.max_states
   pub classes_least : 1 ≤ classes bs
-  pub classes_most : classes bs ≤ Format.max-classes
+  pub classes_most : classes bs ≤ Format.max_classes
   pub symbols_least : 1 ≤ symbols bs
-  pub symbols_most : symbols bs ≤ Format.max-symbols
-  pub finals_below : u32_at bs Format.finals-offset < 2 ^ states bs
-  pub map_below : (i : ℕ) → i < Format.map-length → byte bs (Format.map-offset + i) < classes bs
+  pub symbols_most : symbols bs ≤ Format.max_symbols
+  pub finals_below : u32_at bs Format.finals_offset < 2 ^ states bs
+  pub map_below : (i : ℕ) → i < Format.map_length → byte bs (Format.map_offset + i) < classes bs
 
 pub good_image : (bs : List ℕ) → (image_refusal bs).number ≡ 0 → GoodImage bs
 unfolding rule_count

@@ -18,48 +18,48 @@ use Rattle.refusal.proofs.Rows.{SomeRow, Table, exactly, Check, checks}
 use Rattle.image.proofs.ImageParts.{Part, part_right, part_wrong, directory_part, directory_fine, directory_wrong, counts_part, counts_fine, counts_wrong, map_part, map_fine, map_wrong, rules_part, rules_fine, rules_wrong}
 
 module _ (bs : List ℕ) where
-  length_test : Reflects (LengthRight bs) (eqb (length bs) (Format.rules-offset + Format.rule-length * rule_count bs))
+  length_test : Reflects (LengthRight bs) (eqb (length bs) (Format.rules_offset + Format.rule_length * rule_count bs))
   unfolding rule_count
   length_test = restated (λ e. e ∙ same) (λ e. e ∙ sym same) (equal _ _)
     where
-      same : Format.rules-offset + Format.rule-length * rule_count bs ≡ Format.rules-offset + Format.rule-length * states bs * (classes bs + 2) * symbols bs
+      same : Format.rules_offset + Format.rule_length * rule_count bs ≡ Format.rules_offset + Format.rule_length * states bs * (classes bs + 2) * symbols bs
       same = omega arith
 
   -- EACH IMAGE HAS A ROW
   some_row : SomeRow (ImageRow bs)
-  some_row = by_header (dec_lt (length bs) Format.map-offset)
+  some_row = by_header (dec_lt (length bs) Format.map_offset)
     where
       by_rules :
-          Format.map-offset ≤ length bs → DirectoryRight bs → CountsRight bs → LengthRight bs → MapRight bs →
+          Format.map_offset ≤ length bs → DirectoryRight bs → CountsRight bs → LengthRight bs → MapRight bs →
           Part (RulesRight bs) (FirstBadRule bs) → SomeRow (ImageRow bs)
       by_rules h d c l m (part_right r) =
           (0, 0, unrefused (record { header = h; directory = d; counts = c; long = l; map = m; rules = r }))
       by_rules h d c l m (part_wrong o f) = (6, o, bad_rule d c l m f)
 
       by_map :
-          Format.map-offset ≤ length bs → DirectoryRight bs → CountsRight bs → LengthRight bs →
+          Format.map_offset ≤ length bs → DirectoryRight bs → CountsRight bs → LengthRight bs →
           Part (MapRight bs) (FirstWrongClass bs) → SomeRow (ImageRow bs)
       by_map h d c l (part_right m) = by_rules h d c l m (rules_part bs)
       by_map h d c l (part_wrong o f) = (5, o, wrong_class d c l f)
 
-      by_length : Format.map-offset ≤ length bs → DirectoryRight bs → CountsRight bs → Dec (LengthRight bs) → SomeRow (ImageRow bs)
+      by_length : Format.map_offset ≤ length bs → DirectoryRight bs → CountsRight bs → Dec (LengthRight bs) → SomeRow (ImageRow bs)
       by_length h d c (yes l) = by_map h d c l (map_part bs)
-      by_length h d c (no n) = (4, Format.rules-size, wrong_length d c n)
+      by_length h d c (no n) = (4, Format.rules_size, wrong_length d c n)
 
-      by_counts : Format.map-offset ≤ length bs → DirectoryRight bs → Part (CountsRight bs) (FirstWrongCount bs) → SomeRow (ImageRow bs)
+      by_counts : Format.map_offset ≤ length bs → DirectoryRight bs → Part (CountsRight bs) (FirstWrongCount bs) → SomeRow (ImageRow bs)
       by_counts h d (part_right c) = by_length h d c (decided length_test)
       by_counts h d (part_wrong o f) = (3, o, wrong_count d f)
 
-      by_directory : Format.map-offset ≤ length bs → Part (DirectoryRight bs) (FirstWrongPair bs) → SomeRow (ImageRow bs)
+      by_directory : Format.map_offset ≤ length bs → Part (DirectoryRight bs) (FirstWrongPair bs) → SomeRow (ImageRow bs)
       by_directory h (part_right d) = by_counts h d (counts_part bs)
       by_directory h (part_wrong o f) = (2, o, wrong_pair h f)
 
-      by_header : Dec (length bs < Format.map-offset) → SomeRow (ImageRow bs)
+      by_header : Dec (length bs < Format.map_offset) → SomeRow (ImageRow bs)
       by_header (yes h) = (1, length bs, short_image h)
       by_header (no n) = by_directory (omega arith) (directory_part bs)
 
   -- AND ITS ROW IS THE CHECK'S ANSWER
-  header : DirectoryRight bs → Format.map-offset ≤ length bs
+  header : DirectoryRight bs → Format.map_offset ≤ length bs
   header d = omega (arith, d.rules_pair.long_enough)
 
   row_answers : (n o : ℕ) → ImageRow bs n o → image_refusal bs ≡ refusal n o

@@ -23,7 +23,7 @@ rule_past xs ys n o e =
     let s = byte_past xs ys (n + 3) (o + 3) (omega arith) in
     λ i. record { kind = p i; state = q i; symbol = r i; direction = s i }
 
-rule_bytes_length : (r : Rule) → length (rule_bytes r) ≡ Format.rule-length
+rule_bytes_length : (r : Rule) → length (rule_bytes r) ≡ Format.rule_length
 unfolding rule_bytes
 rule_bytes_length r = refl
 
@@ -35,23 +35,23 @@ rules_bytes_cons : (r : Rule) (rs : List Rule) → rules_bytes (r ∷ rs) ≡ ru
 unfolding rules_bytes
 rules_bytes_cons r rs = refl
 
-pub rules_bytes_length : (rs : List Rule) → length (rules_bytes rs) ≡ Format.rule-length * length rs
+pub rules_bytes_length : (rs : List Rule) → length (rules_bytes rs) ≡ Format.rule_length * length rs
 unfolding rules_bytes
 rules_bytes_length [] = refl
 rules_bytes_length (r ∷ rs) =
     length-append (rule_bytes r) (rules_bytes rs) ∙ omega (arith, rule_bytes_length r, rules_bytes_length rs)
 
-rules_bytes_read : (rs : List Rule) (i : ℕ) → i < length rs → rule_from (rules_bytes rs) (Format.rule-length * i) ≡ rule_in rs i
+rules_bytes_read : (rs : List Rule) (i : ℕ) → i < length rs → rule_from (rules_bytes rs) (Format.rule_length * i) ≡ rule_in rs i
 unfolding rule_in
 rules_bytes_read [] i h = absurd (omega arith)
 rules_bytes_read (r ∷ rs) zero h = rw (rules_bytes_cons r rs) (rule_bytes_read r (rules_bytes rs))
 rules_bytes_read (r ∷ rs) (suc i) h =
     rw (rules_bytes_cons r rs)
-    (rule_past (rule_bytes r) (rules_bytes rs) (Format.rule-length * suc i) (Format.rule-length * i) (omega (arith, rule_bytes_length r))
+    (rule_past (rule_bytes r) (rules_bytes rs) (Format.rule_length * suc i) (Format.rule_length * i) (omega (arith, rule_bytes_length r))
     ∙ rules_bytes_read rs i (omega arith))
 
 -- THE HEADER, whatever stands behind it
-pub header_length : (q k g f n : ℕ) → length (header q k g f n) ≡ Format.map-offset
+pub header_length : (q k g f n : ℕ) → length (header q k g f n) ≡ Format.map_offset
 unfolding header pair_bytes little_endian
 header_length q k g f n = refl
 
@@ -59,16 +59,16 @@ module _ (q k g f n : ℕ) (rest : List ℕ) where
   abbrev image : List ℕ
   image = header q k g f n ++ rest
 
-  counts_there : (states image ≡ q) × (classes image ≡ k) × (symbols image ≡ g) × (byte image Format.zero-offset ≡ 0)
+  counts_there : (states image ≡ q) × (classes image ≡ k) × (symbols image ≡ g) × (byte image Format.zero_offset ≡ 0)
   unfolding header pair_bytes little_endian states classes symbols
   counts_there = (refl, refl, refl, refl)
 
-  finals_there : f < 256 ^ Format.finals-length → u32_at image Format.finals-offset ≡ f
+  finals_there : f < 256 ^ Format.finals_length → u32_at image Format.finals_offset ≡ f
   unfolding header pair_bytes little_endian number_at
   finals_there h = omega arith
 
   directory_there :
-      Format.rules-offset ≤ length image → length image - Format.rules-offset ≡ Format.rule-length * n → Format.rule-length * n < 256 ^ 4 →
+      Format.rules_offset ≤ length image → length image - Format.rules_offset ≡ Format.rule_length * n → Format.rule_length * n < 256 ^ 4 →
       DirectoryRight image
   unfolding header pair_bytes little_endian number_at
   directory_there least long fits =
@@ -89,26 +89,26 @@ module _ (ps : Parts) (fit : Encodable ps) where
   abbrev bytes : List ℕ
   bytes = head ++ rest
 
-  head_length : length head ≡ Format.map-offset
+  head_length : length head ≡ Format.map_offset
   head_length = header_length ps.states ps.classes ps.symbols ps.finals (length ps.rules)
 
-  bytes_length : length bytes ≡ Format.rules-offset + Format.rule-length * length ps.rules
+  bytes_length : length bytes ≡ Format.rules_offset + Format.rule_length * length ps.rules
   bytes_length =
       length-append head rest
       ∙ omega (arith, head_length, length-append ps.class_map (rules_bytes ps.rules), fit.map_full, rules_bytes_length ps.rules)
 
-  map_there : (v : ℕ) → v < Format.map-length → byte bytes (Format.map-offset + v) ≡ byte ps.class_map v
+  map_there : (v : ℕ) → v < Format.map_length → byte bytes (Format.map_offset + v) ≡ byte ps.class_map v
   map_there v h =
-      byte_past head rest (Format.map-offset + v) v (omega (arith, head_length))
+      byte_past head rest (Format.map_offset + v) v (omega (arith, head_length))
       ∙ byte_within ps.class_map (rules_bytes ps.rules) v (omega (arith, fit.map_full))
 
-  rule_there : (i : ℕ) → i < length ps.rules → rule_from bytes (Format.rules-offset + Format.rule-length * i) ≡ rule_in ps.rules i
+  rule_there : (i : ℕ) → i < length ps.rules → rule_from bytes (Format.rules_offset + Format.rule_length * i) ≡ rule_in ps.rules i
   rule_there i h =
-      rule_past head rest (Format.rules-offset + 4 * i) (Format.map-length + 4 * i) (omega (arith, head_length))
-      ∙ rule_past ps.class_map (rules_bytes ps.rules) (Format.map-length + 4 * i) (4 * i) (omega (arith, fit.map_full))
+      rule_past head rest (Format.rules_offset + 4 * i) (Format.map_length + 4 * i) (omega (arith, head_length))
+      ∙ rule_past ps.class_map (rules_bytes ps.rules) (Format.map_length + 4 * i) (4 * i) (omega (arith, fit.map_full))
       ∙ rules_bytes_read ps.rules i h
 
-  counted : (states bytes ≡ ps.states) × (classes bytes ≡ ps.classes) × (symbols bytes ≡ ps.symbols) × (byte bytes Format.zero-offset ≡ 0)
+  counted : (states bytes ≡ ps.states) × (classes bytes ≡ ps.classes) × (symbols bytes ≡ ps.symbols) × (byte bytes Format.zero_offset ≡ 0)
   counted = counts_there ps.states ps.classes ps.symbols ps.finals (length ps.rules) rest
 
   length_there : LengthRight bytes
@@ -141,6 +141,6 @@ module _ (ps : Parts) (fit : Encodable ps) where
             (omega (arith, bytes_length));
       }
 
-  pub encoded_length : length (encode ps) ≡ Format.rules-offset + Format.rule-length * length ps.rules
+  pub encoded_length : length (encode ps) ≡ Format.rules_offset + Format.rule_length * length ps.rules
   unfolding encode
   encoded_length = bytes_length

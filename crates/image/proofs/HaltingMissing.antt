@@ -47,14 +47,14 @@ module _ (bs zs cs : List ℕ) (m : MissingForHalting bs zs) (bytes : Bytes cs) 
   unfolding symbols
   symbols_same = m.header 26 (omega arith)
 
-  finals_same : u32_at zs Format.finals-offset ≡ u32_at bs Format.finals-offset
+  finals_same : u32_at zs Format.finals_offset ≡ u32_at bs Format.finals_offset
   unfolding number_at
   finals_same = rw (m.header 28 (omega arith), m.header 29 (omega arith), m.header 30 (omega arith), m.header 31 (omega arith)) refl
 
   class_same : (i : ℕ) → class_under zs cs i ≡ class_under bs cs i
   unfolding class_under
   class_same zero = classes_same
-  class_same (suc i) = rw (classes_same, m.header (Format.map-offset + byte cs i) (omega (arith, bytes i))) refl
+  class_same (suc i) = rw (classes_same, m.header (Format.map_offset + byte cs i) (omega (arith, bytes i))) refl
 
   rule_missing : (p k a : ℕ) → rule_at zs p k a ≡ missing_rule (rule_at bs p k a)
   unfolding rule_at rule_offset

@@ -116,12 +116,12 @@ module _ (bs : List ℕ) (class head : ℕ) (r : Rule) (other : r.kind ≡ 4 →
 -- of the rules from an index on
 rules_as_before :
     (bs : List ℕ) (left i : ℕ) →
-    ((j : ℕ) → j < i + left → (rule_from bs (Format.rules-offset + Format.rule-length * j)).kind ≡ 4 → ⊥) →
+    ((j : ℕ) → j < i + left → (rule_from bs (Format.rules_offset + Format.rule_length * j)).kind ≡ 4 → ⊥) →
     rules_refusal_from left i bs ≡ rules_refusal_before left i bs
 unfolding rules_refusal_from rules_refusal_before
 rules_as_before bs zero i h = refl
 rules_as_before bs (suc left) i h =
-    let o : ℕ = Format.rules-offset + Format.rule-length * i in
+    let o : ℕ = Format.rules_offset + Format.rule_length * i in
     rw (bad_as_before bs (index_class bs i) 0 (rule_from bs o) (h i (omega arith)), rules_as_before bs left (suc i) (λ j l. h j (omega arith))) refl
 
 -- AN IMAGE WITHOUT ANY

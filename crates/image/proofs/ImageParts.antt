@@ -32,7 +32,7 @@ module _ (bs : List ℕ) where
 
   rules_pair_test :
       Reflects (RulesPairRight bs)
-      (leb Format.rules-offset (length bs) && pair_is bs Format.rules_pair Format.rules-offset (length bs - Format.rules-offset))
+      (leb Format.rules_offset (length bs) && pair_is bs Format.rules_pair Format.rules_offset (length bs - Format.rules_offset))
   rules_pair_test =
       restated (λ p. record { long_enough = p.0; pair = p.1 }) (λ r. (r.long_enough, r.pair))
       (both (at_most _ _) (pair_test Format.rules_pair _ _))
@@ -69,17 +69,17 @@ module _ (bs : List ℕ) where
 
   pub counts_part : Part (CountsRight bs) (FirstWrongCount bs)
   counts_part =
-      go (passing (count_test (states bs) Format.max-states)) (passing (count_test (classes bs) Format.max-classes))
-      (passing (count_test (symbols bs) Format.max-symbols)) (decided (equal (byte bs Format.zero-offset) 0)) (decided (bits_test (u32_at bs Format.finals-offset) (states bs)))
+      go (passing (count_test (states bs) Format.max_states)) (passing (count_test (classes bs) Format.max_classes))
+      (passing (count_test (symbols bs) Format.max_symbols)) (decided (equal (byte bs Format.zero_offset) 0)) (decided (bits_test (u32_at bs Format.finals_offset) (states bs)))
     where
       go :
-          Dec (StatesRight bs) → Dec (ClassesRight bs) → Dec (SymbolsRight bs) → Dec (byte bs Format.zero-offset ≡ 0) → Dec (FinalsRight bs) →
+          Dec (StatesRight bs) → Dec (ClassesRight bs) → Dec (SymbolsRight bs) → Dec (byte bs Format.zero_offset ≡ 0) → Dec (FinalsRight bs) →
           Part (CountsRight bs) (FirstWrongCount bs)
-      go (no h) q r s t = part_wrong Format.states-offset (states_wrong h)
-      go (yes a) (no h) r s t = part_wrong Format.classes-offset (classes_wrong a h)
-      go (yes a) (yes b) (no h) s t = part_wrong Format.symbols-offset (symbols_wrong a b h)
-      go (yes a) (yes b) (yes c) (no h) t = part_wrong Format.zero-offset (zero_wrong a b c h)
-      go (yes a) (yes b) (yes c) (yes d) (no h) = part_wrong Format.finals-offset (finals_wrong a b c d h)
+      go (no h) q r s t = part_wrong Format.states_offset (states_wrong h)
+      go (yes a) (no h) r s t = part_wrong Format.classes_offset (classes_wrong a h)
+      go (yes a) (yes b) (no h) s t = part_wrong Format.symbols_offset (symbols_wrong a b h)
+      go (yes a) (yes b) (yes c) (no h) t = part_wrong Format.zero_offset (zero_wrong a b c h)
+      go (yes a) (yes b) (yes c) (yes d) (no h) = part_wrong Format.finals_offset (finals_wrong a b c d h)
       go (yes a) (yes b) (yes c) (yes d) (yes e) =
           part_right (record { states_right = a; classes_right = b; symbols_right = c; zero_right = d; finals_right = e })
 
@@ -105,14 +105,14 @@ module _ (bs : List ℕ) where
         when_passed (count_test _ _) a,
         when_passed (count_test _ _) b,
         when_passed (count_test _ _) c,
-        when_fails (equal (byte bs Format.zero-offset) 0) h,
+        when_fails (equal (byte bs Format.zero_offset) 0) h,
       )
   counts_wrong o (finals_wrong a b c d h) =
       simp (
         when_passed (count_test _ _) a,
         when_passed (count_test _ _) b,
         when_passed (count_test _ _) c,
-        when_holds (equal (byte bs Format.zero-offset) 0) d,
+        when_holds (equal (byte bs Format.zero_offset) 0) d,
         when_fails (bits_test _ _) h,
       )
 
@@ -120,25 +120,25 @@ module _ (bs : List ℕ) where
   pub map_part : Part (MapRight bs) (FirstWrongClass bs)
   map_part =
       go
-      (look (λ (v : ℕ). byte bs (Format.map-offset + v) < classes bs)
-      (λ v. passing (reaching (classes bs) (byte bs (Format.map-offset + v))))
-      Format.map-length)
+      (look (λ (v : ℕ). byte bs (Format.map_offset + v) < classes bs)
+      (λ v. passing (reaching (classes bs) (byte bs (Format.map_offset + v))))
+      Format.map_length)
     where
       go :
-          Looked (λ (v : ℕ). byte bs (Format.map-offset + v) < classes bs) Format.map-length →
+          Looked (λ (v : ℕ). byte bs (Format.map_offset + v) < classes bs) Format.map_length →
           Part (MapRight bs) (FirstWrongClass bs)
       go (all_have f) = part_right f
       go (lacking v l) =
-          part_wrong (Format.map-offset + v)
+          part_wrong (Format.map_offset + v)
           (record { value = v; value_below = l.below; place_is = refl; wrong = omega (arith, l.lacks); before = l.before })
 
   -- the class at a place of the map, from its byte value
   at_place :
-      (n : ℕ) → ((v : ℕ) → v < n → byte bs (Format.map-offset + v) < classes bs) → (i : ℕ) → Format.map-offset ≤ i →
-      i < Format.map-offset + n → byte bs i < classes bs
+      (n : ℕ) → ((v : ℕ) → v < n → byte bs (Format.map_offset + v) < classes bs) → (i : ℕ) → Format.map_offset ≤ i →
+      i < Format.map_offset + n → byte bs i < classes bs
   at_place n h i least most =
-      let place : Format.map-offset + (i - Format.map-offset) ≡ i = omega arith in
-      subst (λ (j : ℕ). byte bs j < classes bs) place (h (i - Format.map-offset) (omega arith))
+      let place : Format.map_offset + (i - Format.map_offset) ≡ i = omega arith in
+      subst (λ (j : ℕ). byte bs j < classes bs) place (h (i - Format.map_offset) (omega arith))
 
   map_search : Search (λ (k i : ℕ). map_from k i bs) (refusal 5) (λ (i : ℕ). byte bs i < classes bs)
   unfolding map_from
@@ -150,23 +150,23 @@ module _ (bs : List ℕ) where
         one_more = λ k i. refl;
       }
 
-  pub map_fine : MapRight bs → map_from Format.map-length Format.map-offset bs ≡ no_refusal
-  map_fine h = none_found map_search Format.map-length Format.map-offset (at_place Format.map-length h)
+  pub map_fine : MapRight bs → map_from Format.map_length Format.map_offset bs ≡ no_refusal
+  map_fine h = none_found map_search Format.map_length Format.map_offset (at_place Format.map_length h)
 
-  pub map_wrong : (o : ℕ) → FirstWrongClass bs o → map_from Format.map-length Format.map-offset bs ≡ refusal 5 o
+  pub map_wrong : (o : ℕ) → FirstWrongClass bs o → map_from Format.map_length Format.map_offset bs ≡ refusal 5 o
   map_wrong o f =
-      first_found map_search Format.map-length Format.map-offset o (omega (arith, f.place_is))
+      first_found map_search Format.map_length Format.map_offset o (omega (arith, f.place_is))
       (omega (arith, f.place_is, f.value_below))
       (λ h. omega (arith, f.wrong))
       (λ i least less. at_place f.value f.before i least (omega (arith, f.place_is)))
 
   -- RULES
-  rules_search : Search (λ (k i : ℕ). rules_refusal_from k i bs) (λ (i : ℕ). refusal 6 (Format.rules-offset + Format.rule-length * i)) (IndexRight bs)
+  rules_search : Search (λ (k i : ℕ). rules_refusal_from k i bs) (λ (i : ℕ). refusal 6 (Format.rules_offset + Format.rule_length * i)) (IndexRight bs)
   unfolding rules_refusal_from
   rules_search =
       record {
-        refuses = λ i. rule_bad bs (index_class bs i) (rule_from bs (Format.rules-offset + Format.rule-length * i));
-        tests = λ i. rule_test bs (index_class bs i) (rule_from bs (Format.rules-offset + Format.rule-length * i));
+        refuses = λ i. rule_bad bs (index_class bs i) (rule_from bs (Format.rules_offset + Format.rule_length * i));
+        tests = λ i. rule_test bs (index_class bs i) (rule_from bs (Format.rules_offset + Format.rule_length * i));
         none_left = λ i. refl;
         one_more = λ k i. refl;
       }
@@ -176,7 +176,7 @@ module _ (bs : List ℕ) where
     where
       go : Looked (IndexRight bs) (rule_count bs) → Part (RulesRight bs) (FirstBadRule bs)
       go (all_have f) = part_right (rules_by_selection bs f)
-      go (lacking i l) = part_wrong (Format.rules-offset + Format.rule-length * i) (first_bad bs i l)
+      go (lacking i l) = part_wrong (Format.rules_offset + Format.rule_length * i) (first_bad bs i l)
 
   pub rules_fine : RulesRight bs → rules_refusal_from (rule_count bs) 0 bs ≡ no_refusal
   rules_fine h = none_found rules_search (rule_count bs) 0 (λ i least most. rules_by_index bs h i (omega arith))

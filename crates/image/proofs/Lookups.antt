@@ -31,24 +31,24 @@ kept_rules bs cs e = rw e refl
 
 -- one state's rules are few
 pub rules_few :
-    {bs cs : List ℕ} {k g : ℕ} → Unrefused bs cs → k ≡ classes bs → g ≡ symbols bs → (k + 2) * g ≤ (Format.max-classes + 2) * Format.max-symbols
+    {bs cs : List ℕ} {k g : ℕ} → Unrefused bs cs → k ≡ classes bs → g ≡ symbols bs → (k + 2) * g ≤ (Format.max_classes + 2) * Format.max_symbols
 rules_few u e f =
-    mul-le-mul {n₂ = Format.max-classes + 2} {m₂ = Format.max-symbols} (omega (arith, (good u).classes_most)) (omega (arith, (good u).symbols_most))
+    mul-le-mul {n₂ = Format.max_classes + 2} {m₂ = Format.max_symbols} (omega (arith, (good u).classes_most)) (omega (arith, (good u).symbols_most))
 
 -- the parts of a rule's index are few
 module _ {s : Sizes} {p k a : ℕ} (fits : RuleFits s p k a) where
-  pub earlier_few : p * s.rules ≤ Format.max-states * ((Format.max-classes + 2) * Format.max-symbols)
+  pub earlier_few : p * s.rules ≤ Format.max_states * ((Format.max_classes + 2) * Format.max_symbols)
   earlier_few =
       rw fits.rules_are
-      (mul-le-mul {n₂ = Format.max-states} {m₂ = (Format.max-classes + 2) * Format.max-symbols} (omega (arith, fits.state_below))
-      (mul-le-mul {n₂ = Format.max-classes + 2} {m₂ = Format.max-symbols} (omega (arith, fits.classes_most)) fits.symbols_most))
+      (mul-le-mul {n₂ = Format.max_states} {m₂ = (Format.max_classes + 2) * Format.max_symbols} (omega (arith, fits.state_below))
+      (mul-le-mul {n₂ = Format.max_classes + 2} {m₂ = Format.max_symbols} (omega (arith, fits.classes_most)) fits.symbols_most))
 
-  pub column_few : k * s.symbols ≤ (Format.max-classes + 2) * Format.max-symbols
+  pub column_few : k * s.symbols ≤ (Format.max_classes + 2) * Format.max_symbols
   column_few =
-      mul-le-mul {n₂ = Format.max-classes + 2} {m₂ = Format.max-symbols} (omega (arith, fits.class_below, fits.classes_most)) fits.symbols_most
+      mul-le-mul {n₂ = Format.max_classes + 2} {m₂ = Format.max_symbols} (omega (arith, fits.class_below, fits.classes_most)) fits.symbols_most
 
   pub index_few :
-      p * s.rules + k * s.symbols + a ≤ (Format.max-states + 1) * ((Format.max-classes + 2) * Format.max-symbols) + Format.max-symbols
+      p * s.rules + k * s.symbols + a ≤ (Format.max_states + 1) * ((Format.max_classes + 2) * Format.max_symbols) + Format.max_symbols
   index_few = omega (arith, earlier_few, column_few, fits.symbol_below, fits.symbols_most)
 
   pub index_is : p * s.rules + k * s.symbols + a ≡ (p * (s.classes + 2) + k) * s.symbols + a
@@ -62,7 +62,7 @@ unfolding action_by
 pop_is r i p a b d e = simp (ne_eqb _ _ a, ne_eqb _ _ b, eq-eqb _ _ d) (ap (λ (q : ℕ). Pop q (eqb r.direction 1)) e)
 
 module _ {bs cs : List ℕ} {s : Sizes} {c : Config} (l : LookupReady bs cs s c) {k : ℕ} (ek : k ≡ class_under bs cs c.head) where
-  offset_is : offset_by s c.state k c.symbol ≡ Format.rules-offset + Format.rule-length * rule_index bs cs c
+  offset_is : offset_by s c.state k c.symbol ≡ Format.rules_offset + Format.rule_length * rule_index bs cs c
   offset_is = simp (kept_classes bs cs l.counts, kept_symbols bs cs l.counts, ek)
 
   pub rule_fits : RuleFits s c.state k c.symbol

@@ -94,7 +94,7 @@ module _ (bs : List ℕ) (class : ℕ) (r : Rule) where
 
 -- THE RULE WITH AN INDEX, as the check goes through them
 abbrev pub IndexRight : List ℕ → (i : ℕ) → Type 0
-IndexRight bs i = RuleRight bs (index_class bs i) (rule_from bs (Format.rules-offset + Format.rule-length * i))
+IndexRight bs i = RuleRight bs (index_class bs i) (rule_from bs (Format.rules_offset + Format.rule_length * i))
 
 abbrev index_of : List ℕ → (p class a : ℕ) → ℕ
 index_of bs p k a = (p * (classes bs + 2) + k) * symbols bs + a
@@ -108,14 +108,14 @@ module _ (bs : List ℕ) (p k a : ℕ) (hk : k < classes bs + 2) (ha : a < symbo
   from_index : IndexRight bs (index_of bs p k a) → RuleRight bs k (rule_at bs p k a)
   unfolding rule_at rule_offset
   from_index h =
-      subst (λ (c : ℕ). RuleRight bs c (rule_from bs (Format.rules-offset + Format.rule-length * index_of bs p k a))) class_is h
+      subst (λ (c : ℕ). RuleRight bs c (rule_from bs (Format.rules_offset + Format.rule_length * index_of bs p k a))) class_is h
 
   to_index : RuleRight bs k (rule_at bs p k a) → IndexRight bs (index_of bs p k a)
   unfolding rule_at rule_offset
   to_index h =
-      subst (λ (c : ℕ). RuleRight bs c (rule_from bs (Format.rules-offset + Format.rule-length * index_of bs p k a))) (sym class_is) h
+      subst (λ (c : ℕ). RuleRight bs c (rule_from bs (Format.rules_offset + Format.rule_length * index_of bs p k a))) (sym class_is) h
 
-  offset_is : rule_offset bs p k a ≡ Format.rules-offset + Format.rule-length * index_of bs p k a
+  offset_is : rule_offset bs p k a ≡ Format.rules_offset + Format.rule_length * index_of bs p k a
   unfolding rule_offset
   offset_is = refl
 
@@ -150,18 +150,18 @@ selected bs i h =
 -- what holds of the rule of each state, class and symbol holds of each rule by its index
 pub each_index :
     (bs : List ℕ) (P : Rule → Type 0) → ((p k a : ℕ) → p < states bs → k < classes bs + 2 → a < symbols bs → P (rule_at bs p k a)) →
-    (i : ℕ) → i < rule_count bs → P (rule_from bs (Format.rules-offset + Format.rule-length * i))
+    (i : ℕ) → i < rule_count bs → P (rule_from bs (Format.rules_offset + Format.rule_length * i))
 unfolding rule_at rule_offset
 each_index bs P h i less =
     let s = selected bs i less in
-    subst (λ (j : ℕ). P (rule_from bs (Format.rules-offset + Format.rule-length * j))) s.index_is
+    subst (λ (j : ℕ). P (rule_from bs (Format.rules_offset + Format.rule_length * j))) s.index_is
     (h s.state s.class s.symbol s.state_below s.class_below s.symbol_below)
 
 module _ (bs : List ℕ) where
   -- what holds of each state, class and symbol whose rule's offset is less holds of each lesser index
   lesser_indices :
       (n : ℕ) → n ≤ rule_count bs →
-      ((p k a : ℕ) → p < states bs → k < classes bs + 2 → a < symbols bs → rule_offset bs p k a < Format.rules-offset + Format.rule-length * n →
+      ((p k a : ℕ) → p < states bs → k < classes bs + 2 → a < symbols bs → rule_offset bs p k a < Format.rules_offset + Format.rule_length * n →
       RuleRight bs k (rule_at bs p k a)) →
       (i : ℕ) → i < n → IndexRight bs i
   lesser_indices n most h i less =
@@ -179,7 +179,7 @@ module _ (bs : List ℕ) where
       from_index bs p k a hk ha (h (index_of bs p k a) (below_count bs p k a hk ha hp))
 
   -- the first bad rule is that of the least index, both ways
-  pub first_bad : (i : ℕ) → Least (IndexRight bs) (rule_count bs) i → FirstBadRule bs (Format.rules-offset + Format.rule-length * i)
+  pub first_bad : (i : ℕ) → Least (IndexRight bs) (rule_count bs) i → FirstBadRule bs (Format.rules_offset + Format.rule_length * i)
   first_bad i l =
       let s = selected bs i l.below in
       let there = offset_is bs s.state s.class s.symbol s.class_below s.symbol_below in
@@ -204,7 +204,7 @@ module _ (bs : List ℕ) where
     abbrev pub bad_index : ℕ
     bad_index = index_of bs f.state f.class f.symbol
 
-    pub bad_place : o ≡ Format.rules-offset + Format.rule-length * bad_index
+    pub bad_place : o ≡ Format.rules_offset + Format.rule_length * bad_index
     bad_place =
         f.place_is ∙ offset_is bs f.state f.class f.symbol f.class_below f.symbol_below
 

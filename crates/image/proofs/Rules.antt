@@ -30,7 +30,7 @@ unfolding class_under
 class_left bs cs zero e = refl
 class_left bs cs (suc i) e = absurd (omega arith)
 
-pub class_byte : (bs cs : List ℕ) (i : ℕ) → (i ≡ 0 → ⊥) → i - 1 < length cs → class_under bs cs i ≡ byte bs (Format.map-offset + byte cs (i - 1))
+pub class_byte : (bs cs : List ℕ) (i : ℕ) → (i ≡ 0 → ⊥) → i - 1 < length cs → class_under bs cs i ≡ byte bs (Format.map_offset + byte cs (i - 1))
 unfolding class_under
 class_byte bs cs zero h k = absurd (h refl)
 class_byte bs cs (suc i) h k = rw (sub-one (suc i)) (rw (lt-ltb i (length cs) (rw (sub-one (suc i)) at k)))
@@ -45,7 +45,7 @@ unfolding class_under
 class_below {bs} {cs} u zero = omega arith
 class_below {bs} {cs} u (suc i) = go (ltb i (length cs)) refl
   where
-    go : (b : Bool) → ltb i (length cs) ≡ b → cond b (byte bs (Format.map-offset + byte cs i)) (classes bs + 1) < classes bs + 2
+    go : (b : Bool) → ltb i (length cs) ≡ b → cond b (byte bs (Format.map_offset + byte cs i)) (classes bs + 1) < classes bs + 2
     go true e = omega (arith, (good u).map_below (byte cs i) (u.bytes i))
     go false e = omega arith
 
@@ -120,7 +120,7 @@ module _ {bs cs : List ℕ} (u : Unrefused bs cs) {c : Config} (t : ValidConfig 
   pub rule_there : GoodRule bs (class_under bs cs c.head) (rule_of bs cs c)
   rule_there = good_rule rule_right
 
-  pub rule_whole : Format.rules-offset + Format.rule-length * rule_index bs cs c + Format.rule-length ≤ length bs
+  pub rule_whole : Format.rules_offset + Format.rule_length * rule_index bs cs c + Format.rule_length ≤ length bs
   rule_whole = omega (arith, (good {bs = bs} {cs = cs} u).length_is, rule_index_below)
 
   -- no rule moves left off the left marker

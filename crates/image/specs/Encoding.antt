@@ -18,11 +18,11 @@ pub record Parts : Type 0 where
 -- THEIR BYTES. The directory's three pairs, the counts and a byte that is 0, the finals
 unfoldable pub header : (states classes symbols finals rule_count : ℕ) → List ℕ
 header q k g f n =
-    pair_bytes (pair Format.counts-offset Format.counts-length)
-    ++ pair_bytes (pair Format.map-offset Format.map-length)
-    ++ pair_bytes (pair Format.rules-offset (Format.rule-length * n))
+    pair_bytes (pair Format.counts_offset Format.counts_length)
+    ++ pair_bytes (pair Format.map_offset Format.map_length)
+    ++ pair_bytes (pair Format.rules_offset (Format.rule_length * n))
     ++ (q ∷ k ∷ g ∷ 0 ∷ [])
-    ++ little_endian Format.finals-length f
+    ++ little_endian Format.finals_length f
 
 unfoldable pub rule_bytes : Rule → List ℕ
 rule_bytes r = r.kind ∷ r.state ∷ r.symbol ∷ r.direction ∷ []
@@ -38,9 +38,9 @@ encode ps =
 
 -- PARTS THAT CAN BE READ BACK: a class for each byte value, a rule for each state, class and symbol, finals that fit their bytes
 pub record Encodable (ps : Parts) : Type 0 where
-  pub map_full : length ps.class_map ≡ Format.map-length
+  pub map_full : length ps.class_map ≡ Format.map_length
   pub rules_full : length ps.rules ≡ ps.states * (ps.classes + 2) * ps.symbols
-  pub finals_fit : ps.finals < 256 ^ Format.finals-length
+  pub finals_fit : ps.finals < 256 ^ Format.finals_length
 
 -- the rule with an index; past the last one there is none, and its bytes are 0
 unfoldable pub rule_in : List Rule → (i : ℕ) → Rule
@@ -53,11 +53,11 @@ pub record ReadsBack (bs : List ℕ) (ps : Parts) : Type 0 where
   pub states_are : states bs ≡ ps.states
   pub classes_are : classes bs ≡ ps.classes
   pub symbols_are : symbols bs ≡ ps.symbols
-  pub zero_is : byte bs Format.zero-offset ≡ 0
-  pub finals_are : u32_at bs Format.finals-offset ≡ ps.finals
-  pub map_is : (v : ℕ) → v < Format.map-length → byte bs (Format.map-offset + v) ≡ byte ps.class_map v
+  pub zero_is : byte bs Format.zero_offset ≡ 0
+  pub finals_are : u32_at bs Format.finals_offset ≡ ps.finals
+  pub map_is : (v : ℕ) → v < Format.map_length → byte bs (Format.map_offset + v) ≡ byte ps.class_map v
   pub rules_are :
       (p k a : ℕ) → p < ps.states → k < ps.classes + 2 → a < ps.symbols →
       rule_at bs p k a ≡ rule_in ps.rules ((p * (ps.classes + 2) + k) * ps.symbols + a)
   pub length_right : LengthRight bs
-  pub directory_right : Format.rule-length * length ps.rules < 256 ^ u32_width → DirectoryRight bs
+  pub directory_right : Format.rule_length * length ps.rules < 256 ^ u32_width → DirectoryRight bs

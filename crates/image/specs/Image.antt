@@ -14,13 +14,13 @@ use Rattle.machine.specs.Run.{Machine, config}
 
 -- Q, K and G
 unfoldable pub states : List ℕ → ℕ
-states bs = byte bs Format.states-offset
+states bs = byte bs Format.states_offset
 
 unfoldable pub classes : List ℕ → ℕ
-classes bs = byte bs Format.classes-offset
+classes bs = byte bs Format.classes_offset
 
 unfoldable pub symbols : List ℕ → ℕ
-symbols bs = byte bs Format.symbols-offset
+symbols bs = byte bs Format.symbols_offset
 
 -- the counts that a lookup keeps
 unfoldable pub sizes_of : (image capture : List ℕ) → Sizes
@@ -34,7 +34,7 @@ pub record Rule : Type 0 where
   pub direction : ℕ
 
 unfoldable pub rule_offset : List ℕ → (p class a : ℕ) → ℕ
-rule_offset bs p k a = Format.rules-offset + Format.rule-length * ((p * (classes bs + 2) + k) * symbols bs + a)
+rule_offset bs p k a = Format.rules_offset + Format.rule_length * ((p * (classes bs + 2) + k) * symbols bs + a)
 
 unfoldable pub rule_from : List ℕ → (offset : ℕ) → Rule
 rule_from bs o = record { kind = byte bs o; state = byte bs (o + 1); symbol = byte bs (o + 2); direction = byte bs (o + 3) }
@@ -45,11 +45,11 @@ rule_at bs p k a = rule_from bs (rule_offset bs p k a)
 -- the byte class under the head: the left marker is K, the right one K + 1
 unfoldable pub class_under : (image capture : List ℕ) → (head : ℕ) → ℕ
 class_under bs cs zero = classes bs
-class_under bs cs (suc i) = cond (ltb i (length cs)) (byte bs (Format.map-offset + byte cs i)) (classes bs + 1)
+class_under bs cs (suc i) = cond (ltb i (length cs)) (byte bs (Format.map_offset + byte cs i)) (classes bs + 1)
 
 -- a move: right, left, else stay
 unfoldable pub moved : (direction head : ℕ) → ℕ
-moved m i = cond (eqb m Format.direction-right) (i + 1) (cond (eqb m Format.direction-left) (i - 1) i)
+moved m i = cond (eqb m Format.direction_right) (i + 1) (cond (eqb m Format.direction_left) (i - 1) i)
 
 -- the configuration that a change or a push leads to, with the head at i
 abbrev pub led_to : Rule → (head : ℕ) → Config
@@ -57,14 +57,14 @@ led_to r i = config r.state (moved r.direction i) r.symbol
 
 -- why a rule that is no change, push or pop stops a run, by its kind: it halts, or it is missing
 abbrev pub stop_reason : (kind : ℕ) → Reason
-stop_reason k = cond (eqb k Format.kind-halt) Halting Missing
+stop_reason k = cond (eqb k Format.kind_halt) Halting Missing
 
 -- what a rule does with the head at i
 unfoldable pub action_by : Rule → (head : ℕ) → Action
 action_by r i =
-    cond (eqb r.kind Format.kind-change) (Change (led_to r i))
-    (cond (eqb r.kind Format.kind-push) (Push (led_to r i))
-    (cond (eqb r.kind Format.kind-pop) (Pop r.state (eqb r.direction Format.pop-return)) (Stop (stop_reason r.kind))))
+    cond (eqb r.kind Format.kind_change) (Change (led_to r i))
+    (cond (eqb r.kind Format.kind_push) (Push (led_to r i))
+    (cond (eqb r.kind Format.kind_pop) (Pop r.state (eqb r.direction Format.pop_return)) (Stop (stop_reason r.kind))))
 
 -- the rule that a configuration selects: by its state, the class under its head and its symbol
 abbrev pub rule_of : (image capture : List ℕ) → Config → Rule
@@ -75,7 +75,7 @@ action bs cs c = action_by (rule_of bs cs c) c.head
 
 -- accepting: by the image's finals, and the capture's places with the two markers
 unfoldable pub accepting : (image capture : List ℕ) → (state head : ℕ) → Bool
-accepting bs cs = accepts_by (u32_at bs Format.finals-offset) (length cs + 2)
+accepting bs cs = accepts_by (u32_at bs Format.finals_offset) (length cs + 2)
 
 unfoldable pub machine : (image capture : List ℕ) → Machine
 machine bs cs =

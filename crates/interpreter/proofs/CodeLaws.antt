@@ -76,7 +76,7 @@ module _ (accepts : (state head : ℕ) → Bool) (s : RunState) (ks : List ℕ) 
 
 -- the image's finals and the count of places accept as the machine does
 accepts_as :
-    (bs cs : List ℕ) (finals : ℕ) (z : Sizes) → finals ≡ u32_at bs Format.finals-offset → z ≡ sizes_of bs cs →
+    (bs cs : List ℕ) (finals : ℕ) (z : Sizes) → finals ≡ u32_at bs Format.finals_offset → z ≡ sizes_of bs cs →
     accepts_by finals z.places ≡ (machine bs cs).accepting
 unfolding machine accepting sizes_of
 accepts_as bs cs finals z e f = rw (e, f) refl
@@ -93,7 +93,7 @@ module _ (bs cs : List ℕ) (b : ℕ) (s : RunState) (ks : List ℕ) (a : Action
       }
 
   pub taken_stepped :
-      (finals : ℕ) (z : Sizes) (r : StepResult) (ks' : List ℕ) → (s.steps ≡ b → ⊥) → finals ≡ u32_at bs Format.finals-offset →
+      (finals : ℕ) (z : Sizes) (r : StepResult) (ks' : List ℕ) → (s.steps ≡ b → ⊥) → finals ≡ u32_at bs Format.finals_offset →
       z ≡ sizes_of bs cs → TakeSays (accepts_by finals z.places) s ks a r ks' → PlainStepSays bs cs b s ks r ks'
   unfolding result_by cells_by
   taken_stepped finals z r ks' e f g h =

@@ -18,7 +18,7 @@ use Rattle.image.proofs.Rules.{good}
 use Rattle.image.proofs.Inside.{inside}
 use Rattle.interpreter.proofs.ReadyLaws.{Runnable, entry_ready}
 
-pub image_long : (bs cs : List ℕ) → Unrefused bs cs → Format.map-offset ≤ length bs
+pub image_long : (bs cs : List ℕ) → Unrefused bs cs → Format.map_offset ≤ length bs
 image_long bs cs h = omega (arith, (good h).long)
 
 pub runnable : (bs cs : List ℕ) → Unrefused bs cs → Runnable (machine bs cs)
@@ -33,7 +33,7 @@ runnable bs cs h =
 
 -- a pop leads to a state of the machine's
 pop_state :
-    (bs cs : List ℕ) (c : Config) (p : ℕ) (t : Bool) → Unrefused bs cs → ValidConfig (machine bs cs) c → action bs cs c ≡ Pop p t → p < Format.max-states
+    (bs cs : List ℕ) (c : Config) (p : ℕ) (t : Bool) → Unrefused bs cs → ValidConfig (machine bs cs) c → action bs cs c ≡ Pop p t → p < Format.max_states
 unfolding machine
 pop_state bs cs c p t u h e =
     let fit = runnable bs cs u in

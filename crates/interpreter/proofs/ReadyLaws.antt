@@ -19,9 +19,9 @@ use Rattle.interpreter.proofs.CellLaws.{cell_symbol, cell_pointer}
 
 -- a machine whose rules lead to configurations of its own, small enough for the cells
 pub record Runnable (M : Machine) : Type 0 where
-  pub states_few : M.states ≤ Format.max-states
-  pub places_few : M.places ≤ Format.max-places
-  pub symbols_few : M.symbols ≤ Format.max-symbols
+  pub states_few : M.states ≤ Format.max_states
+  pub places_few : M.places ≤ Format.max_places
+  pub symbols_few : M.symbols ≤ Format.max_symbols
   pub inside : Inside M
 
 -- a run that is ready has an entry that fits a cell

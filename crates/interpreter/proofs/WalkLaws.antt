@@ -42,7 +42,7 @@ start_ready bs cs ks u l =
     }
 
 pub walk_starts :
-    (bs cs : List ℕ) (z : Sizes) (f b : ℕ) (ks : List ℕ) → RunReady bs cs ks → z ≡ sizes_of bs cs → f ≡ u32_at bs Format.finals-offset →
+    (bs cs : List ℕ) (z : Sizes) (f b : ℕ) (ks : List ℕ) → RunReady bs cs ks → z ≡ sizes_of bs cs → f ≡ u32_at bs Format.finals_offset →
     Walked bs cs z f b ks (run_state (config 0 0 0) 0 0 0) ks
 unfolding start stack_of
 walk_starts bs cs z f b ks r counts finals =

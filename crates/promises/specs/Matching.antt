@@ -60,10 +60,10 @@ WholeAsBefore = (gs : List ℕ) → built Whole gs ≡ built_before gs
 abbrev pub LeadingOneRow : Type 0
 LeadingOneRow =
     (gs : List ℕ) →
-    (take Format.rules-offset (built Leading gs) ≡ take Format.rules-offset (built Whole gs))
+    (take Format.rules_offset (built Leading gs) ≡ take Format.rules_offset (built Whole gs))
     × ((p k a : ℕ) → p < state_count → k < class_count gs + 2 → a < symbols_of gs →
     rule_at (built Leading gs) p k a
-    ≡ cond (eqb p state_ok && (ltb k (class_count gs) && eqb a 0)) (rule Format.kind-change state_ok 0 Format.direction-right) (rule_at (built Whole gs) p k a))
+    ≡ cond (eqb p state_ok && (ltb k (class_count gs) && eqb a 0)) (rule Format.kind_change state_ok 0 Format.direction_right) (rule_at (built Whole gs) p k a))
 
 -- FOR A GRAMMAR of m rules and n bytes, built to match a leading part, at most 6 m (n + 1) + n + 2 readings
 abbrev pub FewReadingsLeading : Type 0

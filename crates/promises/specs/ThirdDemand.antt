@@ -102,7 +102,7 @@ abbrev pub StartMade : Type 0
 StartMade =
     (bs cs : List ℕ) →
     start_in (environment_of bs cs)
-    ≡ start_state (take Format.counts-length (drop Format.counts-offset bs)) (length cs)
+    ≡ start_state (take Format.counts_length (drop Format.counts_offset bs)) (length cs)
 
 -- in every record of the chain, at each step up to the verdict and past it, the number kept is that of the state, head and symbol kept beside it, which is one of the machine's configurations,
 abbrev pub NumberAlong : Type 0

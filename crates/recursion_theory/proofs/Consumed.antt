@@ -43,8 +43,8 @@ consumed (sequence e p q) =
       nothing = λ same. MayMatchNothing.sequence e (x.nothing (omega arith)) (y.nothing (omega arith));
     }
 consumed (choice e p) = of_choice (MayMatchNothing.choice e) (consumed p)
-consumed (choice_other e p q) = of_choice (MayMatchNothing.choice-other e) (consumed q)
-consumed (not_there e p) = consumed_nothing (MayMatchNothing.a-not e)
+consumed (choice_other e p q) = of_choice (MayMatchNothing.choice_other e) (consumed q)
+consumed (not_there e p) = consumed_nothing (MayMatchNothing.a_not e)
 consumed (empty e) = consumed_nothing (MayMatchNothing.empty e)
 consumed (range e l t) = record { onward = omega arith; inside = λ m. l; nothing = λ same. absurd (omega arith) }
 

@@ -53,7 +53,7 @@ bare_input = 16 ∷ 0 ∷ 0 ∷ 0 ∷ 0 ∷ 0 ∷ 0 ∷ 0 ∷ 16 ∷ 0 ∷ 0 ∷
 
 pub bare_answering : (x : Lent) → answer_refusal bare_input x ≡ refusal 11 0
 unfolding answer_refusal input_refusal first_pair_right second_pair_right capture_offset input_grammar number_at
-    or_else parts_refusal build_refusal Grammar.grammar-refusal
+    or_else parts_refusal build_refusal Grammar.grammar_refusal
 bare_answering x = refl
 
 pub bare_fine : input_refusal bare_input ≡ refusal 0 0
@@ -62,7 +62,7 @@ bare_fine = refl
 
 pub bare_read : (x : Lent) → InputSays bare_input x x (refusal_line (refusal 11 0))
 unfolding InputSays InputAs PartsSay PartsAs input_refusal first_pair_right second_pair_right capture_offset input_grammar number_at
-    or_else parts_refusal build_refusal Grammar.grammar-refusal
+    or_else parts_refusal build_refusal Grammar.grammar_refusal
 bare_read x = record { says = refl; kept = refl }
 
 -- C5'S INPUT: it is right, and its image has 468 bytes and needs 30 cells
@@ -75,7 +75,7 @@ unfolding endless_input input_refusal first_pair_right second_pair_right input_g
     parts_refusal build_refusal judge_refusal capture_refusal how_many
     machine number_at little_endian pair_bytes header rule_bytes rules_bytes encode states classes symbols rule_from
     or_else refuse_if pair_is directory counts count_wrong map_from move_off rule_bad index_class rules_refusal_from rule_count image_refusal
-    Grammar.rules Grammar.kind-of Grammar.b-of Grammar.c-of Grammar.expression-by Grammar.expression Grammar.range-of Grammar.rule_right Grammar.grammar-rules-from Grammar.grammar-refusal
+    Grammar.rules Grammar.kind_of Grammar.b_of Grammar.c_of Grammar.expression_by Grammar.expression Grammar.range_of Grammar.rule_right Grammar.grammar_rules_from Grammar.grammar_refusal
     cuts_at cut_from cut class_of class_count class_in
     rows by_state select on_byte row_zero class_inside rows_at made
     symbols_of built_rules rules_made map_made parts built built_length

@@ -36,7 +36,7 @@ none_refused : bundle_refusal [] ≡ refusal 18 0
 unfolding bundle_refusal count number_at
 none_refused = refl
 
-pub bundle_refused : Wrong.Bundle-refused → ⊥
+pub bundle_refused : Wrong.BundleRefused → ⊥
 bundle_refused wrong =
     let bad = (wrong [] 0 18).1 ((promises.bundle_refused [] 18 0).0 none_refused) in
     omega (arith, ap (λ (f : Refusal). f.number) (sym none_refused ∙ bad))
@@ -46,7 +46,7 @@ both_refused : (or_else (bundle_refusal []) (image_refusal []) ≡ refusal 18 0)
 unfolding bundle_refusal count number_at call_refusal image_refusal or_else
 both_refused = (refl, refl)
 
-pub bundle_call_refused : Wrong.Bundle-call-refused → ⊥
+pub bundle_call_refused : Wrong.BundleCallRefused → ⊥
 bundle_call_refused wrong =
     let bad = (promises.bundle_call_refused [] [] 18 0).1 ((wrong [] [] 18 0).0 both_refused.0) in
     omega (arith, ap (λ (f : Refusal). f.number) (sym both_refused.1 ∙ bad))
@@ -54,7 +54,7 @@ bundle_call_refused wrong =
 none_unreported : (call_refusal [] []).number ≡ 0 → ⊥
 none_unreported e = omega (arith, e, ap (λ (f : Refusal). f.number) both_refused.1)
 
-pub bundle_refuses : Wrong.Bundle-refuses → ⊥
+pub bundle_refuses : Wrong.BundleRefuses → ⊥
 unfolding of_report
 bundle_refuses wrong =
     let bad = (wrong [] [] _ [] [] [] [] [] [] [] (none_says [] [] []) none_unreported).0 in
@@ -74,20 +74,20 @@ ones = 1 ∷ 1 ∷ 1 ∷ 1 ∷ 1 ∷ 1 ∷ 1 ∷ 1 ∷ []
 abbrev zeros : List ℕ
 zeros = 0 ∷ 0 ∷ 0 ∷ 0 ∷ 0 ∷ 0 ∷ 0 ∷ 0 ∷ []
 
-pub bundle_answers : Wrong.Bundle-answers → ⊥
+pub bundle_answers : Wrong.BundleAnswers → ⊥
 unfolding of_judged line_cells lines_cells
 bundle_answers wrong =
     let p = reported ones zeros zeros (omega arith) (omega arith) in
     let kept = (wrong popping_image one_empty _ ones _ zeros p.a_now zeros p.b_now p.says call_popping).1 in
     omega (arith, ap (λ (l : List ℕ). get_or l 0 0) (rw one_counted at kept))
 
-pub bundle_determined : Wrong.Bundle-determined → ⊥
+pub bundle_determined : Wrong.BundleDetermined → ⊥
 bundle_determined wrong =
     let says = none_says [] ones [] in
     let bad = (wrong [] [] _ _ [] [] [] ones _ _ [] _ _ says says).2 in
     omega (arith, ap length bad)
 
-pub bundle_independent : Wrong.Bundle-independent → ⊥
+pub bundle_independent : Wrong.BundleIndependent → ⊥
 unfolding of_judged line_cells lines_cells
 bundle_independent wrong =
     let p = reported ones zeros zeros (omega arith) (omega arith) in
@@ -95,7 +95,7 @@ bundle_independent wrong =
     let same = (wrong popping_image one_empty _ _ ones _ zeros _ zeros _ zeros _ zeros _ zeros _ refl refl p.says q.says).1 call_popping in
     omega (arith, ap (λ (l : List ℕ). get_or l 7 0) (rw one_counted at same))
 
-pub bundle_cells_independent : Wrong.Bundle-cells-independent → ⊥
+pub bundle_cells_independent : Wrong.BundleCellsIndependent → ⊥
 bundle_cells_independent wrong =
     let p = reported [] ones zeros (omega arith) (omega arith) in
     let q = reported [] zeros zeros (omega arith) (omega arith) in
@@ -110,11 +110,11 @@ bundle_cells_independent wrong =
     omega (arith, same, at_from 2 p.a_now ones kept, at_from 2 q.a_now zeros kept')
 
 -- two empty captures at one offset
-pub captures_inside : Wrong.Captures-inside → ⊥
+pub captures_inside : Wrong.CapturesInside → ⊥
 unfolding two_in_abc number_at little_endian pair_bytes count pair_place offset long end pairs_from bundle_refusal
 captures_inside wrong = omega (arith, ((wrong (two_in_abc 23 0 23 0) 0 refl (omega arith)).3 (omega arith)).1)
 
-pub line_alone : Wrong.Line-alone → ⊥
+pub line_alone : Wrong.LineAlone → ⊥
 unfolding of_judged line_cells lines_cells
 line_alone wrong =
     let p = reported [] zeros zeros (omega arith) (omega arith) in
@@ -130,12 +130,12 @@ written_long (ns ∷ ws) l =
     let rest = written_long ws (ns ++ drop (length ns) l) in
     omega (arith, rest, length-append ns (drop (length ns) l), length-drop (length ns) l)
 
-pub bundle_as_alone : Wrong.As-alone → ⊥
+pub bundle_as_alone : Wrong.AsAlone → ⊥
 bundle_as_alone wrong =
     let (ws, _, same, _, _) = wrong popping_image one_empty [] [] ones ones _ (one_ordered popping_image c10_refused [] [] ones ones (refused_judged ones)) in
     omega (arith, ap length same, written_long ws ones)
 
-pub bundle_later : Wrong.Bundle-later → ⊥
+pub bundle_later : Wrong.BundleLater → ⊥
 bundle_later wrong =
     let p = reported [] zeros ones (omega arith) (omega arith) in
     let few : (i : ℕ) → i < count one_empty → how_many (machine popping_image (capture one_empty i)) ≤ 2 =
@@ -145,20 +145,20 @@ bundle_later wrong =
     omega (arith, at_from 1 p.b_now ones kept, sym (get_or-take 2 p.b_now 1 0 (omega arith)) ∙ ap (λ (l : List ℕ). get_or l 1 0) cleared)
 
 -- TOTALS
-pub totals_sum : Wrong.Totals-sum → ⊥
+pub totals_sum : Wrong.TotalsSum → ⊥
 unfolding totals sum is_refused of_judged line_cells lines_cells sum_of_lines
 totals_sum wrong =
     let bad = (wrong popping_image one_empty _ _ [] _ [] [] [] [] (refused_says [] [])).1 in
     omega (arith, rw one_counted at bad)
 
-pub totals_whole : Wrong.Totals-whole → ⊥
+pub totals_whole : Wrong.TotalsWhole → ⊥
 unfolding totals sum gives
 totals_whole wrong =
     let bad = (wrong popping_image one_empty _ _ [] _ [] [] [] [] (refused_says [] [])).1 in
     omega (arith, bad, one_counted)
 
 -- THE LIBRARY FOR C: C10's one reading is no verdict
-pub line_accepted : Wrong.Line-accepted → ⊥
+pub line_accepted : Wrong.LineAccepted → ⊥
 unfolding of_report totals_left cells of_judged line_cells lines_cells image_of row_machine verdict_number
 line_accepted wrong =
     let p = reported [] zeros zeros (omega arith) (omega arith) in
@@ -169,15 +169,15 @@ line_accepted wrong =
     omega (arith, ap verdict_number (promises.one_verdict _ Accepted Ended _ _ (rw one_captured at says) c10_holds.says).0)
 
 -- WORKED EXAMPLES
-pub bundle_examples : Wrong.Bundle-examples → ⊥
+pub bundle_examples : Wrong.BundleExamples → ⊥
 unfolding RefusedSo two_in_abc number_at little_endian pair_bytes count pair_place offset long end pairs_from bundle_refusal
 bundle_examples wrong = omega (arith, ap (λ (f : Refusal). f.number) (first wrong))
 
-pub capture_example : Wrong.Capture-example → ⊥
+pub capture_example : Wrong.CaptureExample → ⊥
 capture_example wrong = omega (arith, ap length (sym promises.capture_example ∙ wrong))
 
-pub totals_example : Wrong.Totals-example → ⊥
+pub totals_example : Wrong.TotalsExample → ⊥
 totals_example wrong = omega (arith, ap (λ (t : Totals). t.readings) (sym promises.totals_example ∙ wrong))
 
-pub cells_example : Wrong.Cells-example → ⊥
+pub cells_example : Wrong.CellsExample → ⊥
 cells_example wrong = omega (arith, ap (λ (l : List ℕ). get_or l 1 0) (sym promises.cells_example ∙ wrong))

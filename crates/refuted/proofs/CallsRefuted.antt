@@ -62,51 +62,51 @@ not_stuck t =
     other (empty_means t.legal means)
 
 -- FROM A TEXT TO A VERDICT: C2 by a leading match, by a whole one, and C1 with 3 readings, where 3 is the number of stuck
-pub typed_told : Wrong.Typed-told → ⊥
+pub typed_told : Wrong.TypedTold → ⊥
 unfolding verdict_number
 typed_told wrong =
     not_accepted
     ((wrong Leading empty_text (replicate 124 0) _ buffer _ (97 ∷ []) _ _ _ _ 0 _ _ _ Accepted c2_leading.unrefused.bytes (empty_told (replicate 124 0))
     (build_told Leading buffer (omega arith)) c2_leading_told).0 refl).1
 
-pub built_text_told : Wrong.Built-text-told → ⊥
+pub built_text_told : Wrong.BuiltTextTold → ⊥
 unfolding verdict_number
 built_text_told wrong =
     let judged = rw (sym (image_taken Whole buffer)) at (judge_told _ _ _ _ _ _ Stuck 3 (config 2 1 0) c2_built.judged) in
     not_stuck_leading
     ((wrong empty_text buffer _ (97 ∷ []) _ _ _ _ 0 _ _ Stuck c2_built.unrefused.bytes (build_text_told buffer (omega arith)) judged).0 refl).1
 
-pub text_told : Wrong.Text-told → ⊥
+pub text_told : Wrong.TextTold → ⊥
 unfolding verdict_number
 text_told wrong = not_stuck ((wrong empty_text [] _ _ 0 _ Stuck c1_built.unrefused.bytes judge_text_told).0 refl).1
 
 -- THE CHECKS. No image is refused by 1 at 0
-pub check_told : Wrong.Check-told → ⊥
+pub check_told : Wrong.CheckTold → ⊥
 check_told wrong =
     let bad = (promises.image_refused [] 0 1).1 (wrong [] 1 _ none_checked) in
     omega (arith, ap (λ (f : Refusal). f.number) (sym none_refused ∙ bad))
 
 -- C1 needs 30 cells of each kind
-pub cells_told : Wrong.Cells-told → ⊥
+pub cells_told : Wrong.CellsTold → ⊥
 unfolding or_else refuse_if
 cells_told wrong =
     let fine = (((wrong c1_bytes [] 0 _ c1_counted).1 refl).1 15 15).1 (omega arith) in
     omega (arith, fine, ap (λ (f : Refusal). f.number) (c1_judging 15 15))
 
 -- rule 1 leads back to itself, rule 0 does not
-pub recursion_told : Wrong.Recursion-told → ⊥
+pub recursion_told : Wrong.RecursionTold → ⊥
 recursion_told wrong =
     let bad = (promises.recursion_refused never_reached 19 0).1 (wrong never_reached 19 _ reached_told) in
     omega (arith, ap (λ (f : Refusal). f.place) (sym reached_refused ∙ bad))
 
-pub text_recursion_told : Wrong.Text-recursion-told → ⊥
+pub text_recursion_told : Wrong.TextRecursionTold → ⊥
 text_recursion_told wrong =
     let exchanged = (wrong endless_text 19 _ endless_told).1.0 refl in
     let bad : Recursive 0 1 ≡ Recursive 1 0 = promises.text_recursion_determined endless_text _ _ endless_recursive exchanged in
     clash cc
 
 -- WHAT EACH CALL IS DETERMINED BY, call by call
-pub calls_determined : Wrong.Calls-determined → ⊥
+pub calls_determined : Wrong.CallsDetermined → ⊥
 calls_determined (check wrong) = omega (arith, (wrong [] c1_bytes _ _ _ _ none_checked c1_checked).0)
 calls_determined (cells wrong) = omega (arith, (wrong c1_bytes 0 65536 _ _ _ _ c1_counted c1_too_long).0)
 calls_determined (judge wrong) =

@@ -38,14 +38,14 @@ not_stuck : Halted ≡ Stuck → ⊥
 not_stuck e = let z : ◌≡◌ {A = ℕ} 0 1 = cc in omega arith
 
 -- RULES: a halting one, and one of kind 5
-pub halting_right : Wrong.Halting-right → ⊥
+pub halting_right : Wrong.HaltingRight → ⊥
 halting_right wrong = (wrong [] 0 (rule 4 0 0 0)).1 (omega arith) (halt_right refl refl refl refl)
 
-pub lookup_apart : Wrong.Lookup-apart → ⊥
+pub lookup_apart : Wrong.LookupApart → ⊥
 unfolding action_by
 lookup_apart wrong = let e : ◌≡◌ {A = ℕ} 5 0 = (wrong 0 (rule 5 0 0 0)).1.0 refl in omega arith
 
-pub rule_as_before : Wrong.Rule-as-before → ⊥
+pub rule_as_before : Wrong.RuleAsBefore → ⊥
 unfolding rule_bad rule_bad_before
 rule_as_before wrong =
     let e : false ≡ true = (wrong [] 0 0 (rule 4 0 0 0)).0 in
@@ -63,7 +63,7 @@ h1_stops =
     (promises.halted_exact halting_image [] _ _ _ _ Halted 1 _ h1_holds.unrefused.bytes h1_judged.says (config 0 0 0)).0 (refl, refl)
 
 -- what is entered with such a rule is the end, and the right marker is not
-pub halted_exact : Wrong.Halted-exact → ⊥
+pub halted_exact : Wrong.HaltedExact → ⊥
 unfolding image_of row_machine
 halted_exact wrong =
     let at_right = (wrong halting_image [] _ _ _ _ Halted 1 _ h1_holds.unrefused.bytes h1_judged.says (config 0 1 0)).0 refl in
@@ -71,19 +71,19 @@ halted_exact wrong =
     (promises.halted_exact halting_image [] _ _ _ _ Halted 1 _ h1_holds.unrefused.bytes h1_judged.says (config 0 1 0)).1 at_right in
     omega (arith, ap (λ (c : Config). c.head) end)
 
-pub stuck_exact : Wrong.Stuck-exact → ⊥
+pub stuck_exact : Wrong.StuckExact → ⊥
 unfolding image_of row_machine
 stuck_exact wrong =
     not_stuck ((wrong halting_image [] _ _ _ _ Halted 1 _ h1_holds.unrefused.bytes h1_judged.says (config 0 0 0)).1 h1_stops).0
 
-pub halted_like_stuck : Wrong.Halted-like-stuck → ⊥
+pub halted_like_stuck : Wrong.HaltedLikeStuck → ⊥
 halted_like_stuck wrong =
     let M = machine halting_image [] in
     let stuck = (((promises.halted_like_stuck M).halted (config 0 0 0)).0 h1_says).0 in
     let again = (((wrong M).stuck (config 0 0 0)).0 stuck).0 in
     not_stuck (promises.one_verdict M Halted Stuck _ _ h1_says again).0
 
-pub judged_like_stuck : Wrong.Judged-like-stuck → ⊥
+pub judged_like_stuck : Wrong.JudgedLikeStuck → ⊥
 unfolding image_of row_machine
 judged_like_stuck wrong =
     not_stuck
@@ -102,7 +102,7 @@ unfolding after start
 low zero y h e = let same : start ≡ y = cc in rw (← same) (omega arith)
 low (suc m) y h e = absurd (omega arith)
 
-pub run_stops : Wrong.Run-stops → ⊥
+pub run_stops : Wrong.RunStops → ⊥
 unfolding image_of config_of top start
 run_stops wrong =
     let ran = answer (run_on 0 (machine halting_image []) 0 1 start) in
@@ -112,12 +112,12 @@ run_stops wrong =
     let good = (promises.run_stops halting_image [] 0 0 start ran (0 ∷ []) _ run_fine says (after_zero _ start) (omega arith) low).0 four in
     omega (arith, ap (λ (r : Reply). r.count) (sym good ∙ bad))
 
-pub image_as_before : Wrong.Image-as-before → ⊥
+pub image_as_before : Wrong.ImageAsBefore → ⊥
 unfolding image_of
 image_as_before wrong = (wrong halting_image).never_halted [] (config 0 0 0) h1_holds.unrefused h1_says
 
 -- C2 is stuck: its rule is missing
-pub built_without_halting : Wrong.Built-without-halting → ⊥
+pub built_without_halting : Wrong.BuiltWithoutHalting → ⊥
 unfolding image_of row_machine machine
 built_without_halting wrong =
     let (entered, none) =
@@ -127,15 +127,15 @@ built_without_halting wrong =
     wrong Whole empty_grammar 2 _ 0 valid.state_below (class_below c2_holds.unrefused 1) valid.symbol_below none
 
 -- THE TABLES
-pub halting_rows : Wrong.Halting-rows → ⊥
+pub halting_rows : Wrong.HaltingRows → ⊥
 unfolding halting_table
 halting_rows wrong = not_stuck (ap (λ (r : Row). r.verdict) (promises.only_row h1 _ refl refl h1_holds (first wrong)))
 
-pub halting_runs : Wrong.Halting-runs → ⊥
+pub halting_runs : Wrong.HaltingRuns → ⊥
 unfolding HaltsAfter halting_budgets
 halting_runs wrong = omega (arith, ap (λ (e : RunEnd). e.steps) (sym (first promises.halting_runs) ∙ first wrong))
 
-pub halting_images : Wrong.Halting-images → ⊥
+pub halting_images : Wrong.HaltingImages → ⊥
 unfolding RuleRefusedSo halting_rules
 halting_images wrong =
     let refused = first (others (others (others (others promises.halting_images)))) in

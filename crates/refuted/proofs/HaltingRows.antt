@@ -35,7 +35,7 @@ h1_judged = row_judged_zeros h1 h1_holds
 
 -- MISSING FOR HALTING: the two images differ in one rule. What stands before the rules, and the bytes of the three
 unfoldable front : List ℕ
-front = header 1 1 1 0 3 ++ replicate Format.map-length 0
+front = header 1 1 1 0 3 ++ replicate Format.map_length 0
 
 abbrev three : (kind : ℕ) → List ℕ
 three k = 0 ∷ 0 ∷ 0 ∷ 0 ∷ k ∷ 0 ∷ 0 ∷ 0 ∷ 0 ∷ 0 ∷ 0 ∷ 0 ∷ []

@@ -50,7 +50,7 @@ pub record Computed : Type 0 where
 pub computed : Computed
 unfolding image_of row_machine marker_parts marker_image telling_image start after further only_next step step_on step_by config_of top how_many number number_by
     machine number_at little_endian pair_bytes header rule_bytes rules_bytes encode states classes symbols rule_offset rule_from rule_at class_under moved action_by action accepting
-    Grammar.rules Grammar.kind-of Grammar.b-of Grammar.c-of Grammar.expression-by Grammar.expression Grammar.range-of
+    Grammar.rules Grammar.kind_of Grammar.b_of Grammar.c_of Grammar.expression_by Grammar.expression Grammar.range_of
     cuts_at cut_from cut class_of class_count class_in
     rows by_state select on_byte row_zero class_inside rows_at made
     symbols_of built_rules rules_made map_made parts built

@@ -27,35 +27,35 @@ use Rattle.refuted.proofs.GrammarExamples.{c2_built, c2_parses, c2_not_all, c1_l
 use Rattle.refuted.proofs.BuiltFacts.{marker_unruled}
 use Rattle.refuted.proofs.CallsWitnesses.{buffer, build_told, c2_leading_told}
 
-pub default_leading : Wrong.Default-leading → ⊥
+pub default_leading : Wrong.DefaultLeading → ⊥
 unfolding default_matching
 default_leading wrong =
     let z : ◌≡◌ {A = ℕ} 0 1 = cc in
     omega arith
 
-pub leading_accepts : Wrong.Leading-accepts → ⊥
+pub leading_accepts : Wrong.LeadingAccepts → ⊥
 leading_accepts wrong = c2_not_all ((wrong empty_grammar (97 ∷ []) c2_built.good c2_built.unrefused.bytes).0 (_, c2_leading.says))
 
-pub leading_stuck : Wrong.Leading-stuck → ⊥
+pub leading_stuck : Wrong.LeadingStuck → ⊥
 unfolding verdict_number
 leading_stuck wrong =
     let none_left : ◌≡◌ {A = Option ℕ} (some 0) (some 1) → ⊥ = λ e. let z : ◌≡◌ {A = ℕ} 0 1 = cc in omega arith in
     let (d, stuck) = (wrong empty_grammar (97 ∷ []) c2_built.good c2_built.unrefused.bytes).1 (some 0, c2_parses, none_left) in
     omega (arith, same_number stuck c2_leading.says)
 
-pub whole_then_leading : Wrong.Whole-then-leading → ⊥
+pub whole_then_leading : Wrong.WholeThenLeading → ⊥
 unfolding verdict_number
 whole_then_leading wrong =
     let (d, accepted) = wrong empty_grammar (97 ∷ []) c2_built.good c2_built.unrefused.bytes (_, c2_leading.says) in
     omega (arith, same_number accepted c2_built.says)
 
-pub judged_whole_leading : Wrong.Judged-whole-leading → ⊥
+pub judged_whole_leading : Wrong.JudgedWholeLeading → ⊥
 unfolding verdict_number
 judged_whole_leading wrong =
     let same = wrong empty_grammar (97 ∷ []) _ _ _ _ _ _ _ _ Stuck 4 3 _ _ c2_built.good c2_built.unrefused.bytes c2_leading.judged c2_built.judged in
     omega (arith, ap verdict_number same)
 
-pub whole_as_before : Wrong.Whole-as-before → ⊥
+pub whole_as_before : Wrong.WholeAsBefore → ⊥
 unfolding verdict_number
 whole_as_before wrong =
     let same : built Leading empty_grammar ≡ built Whole empty_grammar = wrong empty_grammar ∙ sym (promises.whole_as_before empty_grammar) in
@@ -63,7 +63,7 @@ whole_as_before wrong =
     omega (arith, same_number accepted c2_built.says)
 
 -- on the left marker ok has no rule by either choice
-pub leading_one_row : Wrong.Leading-one-row → ⊥
+pub leading_one_row : Wrong.LeadingOneRow → ⊥
 unfolding symbols_of rules kind_of b_of c_of expression_by expression range_of cuts_at cut_from cut class_of class_count
 leading_one_row wrong =
     let unruled = (promises.leading_one_row empty_grammar).1 state_ok 1 0 (omega arith) (omega arith) (omega arith) in
@@ -71,7 +71,7 @@ leading_one_row wrong =
     omega (arith, ap (λ (r : Rule). r.kind) (sym passed ∙ unruled ∙ marker_unruled))
 
 -- C1 has 3 readings
-pub few_readings_leading : Wrong.Few-readings-leading → ⊥
+pub few_readings_leading : Wrong.FewReadingsLeading → ⊥
 few_readings_leading wrong =
     let u = c1_leading.unrefused in
     let k = promises.chain_judges _ _ u in
@@ -79,14 +79,14 @@ few_readings_leading wrong =
     let three = promises.one_count _ _ _ 3 u k.entered c1_leading.entered in
     omega (arith, few, three, k.counted k.steps (omega arith))
 
-pub built_accepted_told : Wrong.Built-accepted-told → ⊥
+pub built_accepted_told : Wrong.BuiltAcceptedTold → ⊥
 unfolding default_matching verdict_number
 built_accepted_told wrong =
     c2_not_all
     ((wrong empty_grammar (97 ∷ []) buffer _ _ _ _ _ 0 _ _ c2_built.unrefused.bytes c2_leading_told refl).0 (build_told Leading buffer (omega arith)))
 
 -- the byte 61 and another after it: parsing consumes one of the two
-pub leading_rows : Wrong.Leading-rows → ⊥
+pub leading_rows : Wrong.LeadingRows → ⊥
 unfolding leading_table grammar_rows image_of row_machine source_refusal verdict_number expression expression_by kind_of b_of c_of in_range
 leading_rows wrong =
     let h = first (rows_from 9 (leading_table Whole) wrong) in

@@ -51,13 +51,13 @@ use Rattle.refuted.proofs.Rows.{first, c1_holds, c5_holds, c5_judged}
 pub reached_refused : recursion_refusal never_reached ≡ refusal 19 1
 reached_refused = (promises.recursion_refused never_reached 19 1).1 promises.recursion_harmless.1.refused
 
-pub recursion_refused : Wrong.Recursion-refused → ⊥
+pub recursion_refused : Wrong.RecursionRefused → ⊥
 recursion_refused wrong =
     let bad = (wrong never_reached 19 1).1 promises.recursion_harmless.1.refused in
     omega (arith, ap (λ (f : Refusal). f.place) (sym reached_refused ∙ bad))
 
 -- C1's grammar, of one rule
-pub nothing_exact : Wrong.Nothing-exact → ⊥
+pub nothing_exact : Wrong.NothingExact → ⊥
 unfolding rules kind_of b_of c_of expression_by expression rule_right grammar_rules_from grammar_refusal nothing_after
 nothing_exact wrong =
     let e : false ≡ true = (wrong empty_grammar 0 0 refl refl (omega arith)).1 (MayMatchNothing.empty refl) in
@@ -74,7 +74,7 @@ range_some (sequence e p q) f = clash cc
 range_some (choice e p) f = clash cc
 range_some (choice_other e p) f = clash cc
 
-pub nothing_least : Wrong.Nothing-least → ⊥
+pub nothing_least : Wrong.NothingLeast → ⊥
 nothing_least wrong =
     let all : SuchSet ranges (λ k. true) =
     record { has_empty = λ k e. refl; has_not = λ k b e. refl; has_sequence = λ k b c e p q. refl; has_choice = λ k b c e p. refl } in
@@ -88,7 +88,7 @@ not_empty_rules : ((grammar_refusal not_empty).number ≡ 0) × (expression not_
 unfolding rules kind_of b_of c_of expression_by expression rule_right grammar_rules_from grammar_refusal
 not_empty_rules = (refl, refl, refl)
 
-pub nothing_matched : Wrong.Nothing-matched → ⊥
+pub nothing_matched : Wrong.NothingMatched → ⊥
 unfolding verdict_number
 nothing_matched wrong =
     let (good, zero_is, one_is) = not_empty_rules in
@@ -98,7 +98,7 @@ nothing_matched wrong =
     omega (arith, ap verdict_number (promises.one_verdict _ Accepted Stuck _ _ accepted stuck).0)
 
 -- rule 0 leads to rule 1, which is empty
-pub leads_exact : Wrong.Leads-exact → ⊥
+pub leads_exact : Wrong.LeadsExact → ⊥
 unfolding rules kind_of b_of c_of expression_by expression rule_right grammar_rules_from grammar_refusal nothing_by nothing_after leads_by leads_through leads_on
 leads_exact wrong =
     let e : false ≡ true = (wrong not_empty 1 0 refl (omega arith)).1 (last (its_own refl)) in
@@ -109,11 +109,11 @@ endless_good : (grammar_refusal endless_grammar).number ≡ 0
 unfolding source_refusal
 endless_good = c5_holds.good
 
-pub never_looping : Wrong.Never-looping → ⊥
+pub never_looping : Wrong.NeverLooping → ⊥
 unfolding image_of row_machine
 never_looping wrong = (wrong endless_grammar [] endless_good c5_holds.unrefused.bytes).not_looping Whole _ c5_holds.says
 
-pub judged_not_looping : Wrong.Judged-not-looping → ⊥
+pub judged_not_looping : Wrong.JudgedNotLooping → ⊥
 unfolding image_of row_machine
 judged_not_looping wrong = wrong Whole endless_grammar [] _ _ _ _ Looping 2 _ endless_good c5_holds.unrefused.bytes c5_judged.says refl
 
@@ -126,7 +126,7 @@ looping_line Stuck n d e = absurd (omega (arith, e))
 looping_line Looping n d e = refl
 looping_line Halted n d e = absurd (omega (arith, e))
 
-pub line_not_looping : Wrong.Line-not-looping → ⊥
+pub line_not_looping : Wrong.LineNotLooping → ⊥
 unfolding answer_line verdict_word total endless_input little_endian pair_bytes
 line_not_looping wrong =
     let good : (grammar_refusal (input_grammar endless_input)).number ≡ 0 = rw endless_right endless_good in
@@ -137,14 +137,14 @@ line_not_looping wrong =
     let (v, n, d, same, other) = wrong endless_input lends line.after _ good bytes (endless_unrefused lends enough) line.says in
     other (looping_line v n d (sym (ap (λ (l : List ℕ). get_or l 0 0) same)))
 
-pub bundle_not_looping : Wrong.Bundle-not-looping → ⊥
+pub bundle_not_looping : Wrong.BundleNotLooping → ⊥
 unfolding image_of row_machine totals sum gives verdict_number total
 bundle_not_looping wrong =
     let says = one_says (built Whole endless_grammar) _ [] _ _ _ _ c5_holds.unrefused.good c5_judged.says in
     omega (arith, wrong Whole endless_grammar one_empty 1 _ [] _ _ _ _ _ endless_good (small_bytes one_empty (omega arith)) says)
 
 -- TYPED GRAMMARS: rule 0 of the text a=a a; after a space, named at 1
-pub text_recursion_determined : Wrong.Text-recursion-determined → ⊥
+pub text_recursion_determined : Wrong.TextRecursionDetermined → ⊥
 text_recursion_determined wrong =
     let bad : Recursive 0 1 ≡ Recursive 1 0 = wrong endless_text 0 1 0 1 endless_recursive endless_recursive in
     clash cc
@@ -157,13 +157,13 @@ only_name (there (here)) e = absurd (clash cc)
 only_name (there (there p)) e = absurd (clash cc)
 
 -- a space stands at 0
-pub recursion_named : Wrong.Recursion-named → ⊥
+pub recursion_named : Wrong.RecursionNamed → ⊥
 recursion_named wrong =
     let named = wrong endless_text (line_of itself_twice) 0 1 endless_recursive legal_texts.2 (omega arith) in
     let is : named.name ≡ 97 ∷ [] = only_name named.defined refl in
     omega (arith, ap (λ (l : List ℕ). get_or l 0 0) (rw is at named.there))
 
-pub typed_results : Wrong.Typed-results → ⊥
+pub typed_results : Wrong.TypedResults → ⊥
 unfolding image_of row_machine
 typed_results wrong =
     let looping : (c : Config) × Says (machine (built Whole (grammar_of (line_of itself_twice))) []) Looping c =
@@ -172,13 +172,13 @@ typed_results wrong =
     let (o, means) = wrong endless_text [] _ 0 0 _ _ legal_texts.2 here in
     without o means
 
-pub text_not_looping : Wrong.Text-not-looping → ⊥
+pub text_not_looping : Wrong.TextNotLooping → ⊥
 text_not_looping wrong =
     let j = text_judged_in_room endless_text endless_grammar [] Looping 2 (config 1 1 1) none endless_read c5_holds in
     wrong endless_text [] _ j.after Looping 2 _ c5_holds.unrefused.bytes j.says refl
 
 -- THE OTHER WAY ROUND
-pub tried_first_fails : Wrong.Tried-first-fails → ⊥
+pub tried_first_fails : Wrong.TriedFirstFails → ⊥
 tried_first_fails wrong = wrong (expression fails_first) 0 fails_first_recursive [] 0 none (fails_first_fails [] 0)
 
 -- rule 1 is rule 1 twice, and rule 0 is empty
@@ -186,17 +186,17 @@ reached_rules : ((grammar_refusal never_reached).number ≡ 0) × (expression ne
 unfolding never_reached rules kind_of b_of c_of expression_by expression rule_right grammar_rules_from grammar_refusal
 reached_rules = (refl, refl)
 
-pub tried_first_endless : Wrong.Tried-first-endless → ⊥
+pub tried_first_endless : Wrong.TriedFirstEndless → ⊥
 tried_first_endless wrong =
     let bytes = c5_holds.unrefused.bytes in
     promises.recursion_harmless.1.terminates Whole [] bytes (wrong Whole never_reached [] 1 reached_rules.0 bytes (TriesOn.last (first_part reached_rules.1)))
 
-pub recursion_harmless : Wrong.Recursion-harmless → ⊥
+pub recursion_harmless : Wrong.RecursionHarmless → ⊥
 recursion_harmless wrong =
     let bad = (promises.recursion_refused never_reached 19 0).1 wrong.1.refused in
     omega (arith, ap (λ (f : Refusal). f.place) (sym reached_refused ∙ bad))
 
-pub recursion_examples : Wrong.Recursion-examples → ⊥
+pub recursion_examples : Wrong.RecursionExamples → ⊥
 unfolding RecursionSo or_else rules kind_of b_of c_of expression_by expression rule_right grammar_rules_from grammar_refusal
     nothing_by nothing_after leads_by leads_through leads_on recursion_from recursion_refusal
 recursion_examples wrong = omega (arith, ap (λ (f : Refusal). f.number) (first wrong))
@@ -205,9 +205,9 @@ only_line : {d : Definition} {k : ℕ} {n : List ℕ} {e : Tree} → Defines (d 
 only_line here = refl
 
 -- the one line begins at 1, its rule is 0
-pub recursion_line : Wrong.Recursion-line → ⊥
-unfolding line_offsets Tokens.ends-line Tokens.lexemes Tokens.lexemes-from Tokens.skipped Tokens.token-at Tokens.letter Tokens.word Tokens.same Tokens.letters Tokens.width-at
-    Tokens.range-there Tokens.sign_of
+pub recursion_line : Wrong.RecursionLine → ⊥
+unfolding line_offsets Tokens.ends_line Tokens.lexemes Tokens.lexemes_from Tokens.skipped Tokens.token_at Tokens.letter Tokens.word Tokens.same Tokens.letters Tokens.width_at
+    Tokens.range_there Tokens.sign_of
 recursion_line wrong =
     let (line, at, _, _, _) = wrong endless_text (line_of itself_twice) 0 1 endless_recursive legal_texts.2 in
     let begins = at.begins in

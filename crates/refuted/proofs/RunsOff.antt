@@ -19,7 +19,7 @@ use Rattle.image.specs.Encoding.{header, rule_bytes, rules_bytes, encode}
 use Rattle.builder.specs.Table.{rule, no_rule}
 
 abbrev go_right : Rule
-go_right = rule Format.kind-change 0 0 Format.direction-right
+go_right = rule Format.kind_change 0 0 Format.direction_right
 
 -- one state, class and symbol: both markers' rules move right
 pub runs_off : List ℕ
@@ -30,7 +30,7 @@ runs_off =
       classes = 1;
       symbols = 1;
       finals = 0;
-      class_map = replicate Format.map-length 0;
+      class_map = replicate Format.map_length 0;
       rules = no_rule ∷ go_right ∷ go_right ∷ [];
     })
 

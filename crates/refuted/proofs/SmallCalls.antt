@@ -66,7 +66,7 @@ none_ran n a = (refl, refl)
 abbrev pub c1_bytes : List ℕ
 c1_bytes = built Whole empty_grammar
 
-pub c1_good : (Grammar.grammar-refusal empty_grammar).number ≡ 0
+pub c1_good : (Grammar.grammar_refusal empty_grammar).number ≡ 0
 unfolding source_refusal
 c1_good = c1_holds.good
 
@@ -126,7 +126,7 @@ c1_computed :
     × (byte (built Whole empty_grammar) 0 ≡ 24) × (byte (built Whole empty_grammar) 360 ≡ 0) × (byte (built Leading empty_grammar) 360 ≡ 1)
 unfolding build_refusal
     little_endian pair_bytes header rule_bytes rules_bytes encode or_else refuse_if
-    Grammar.rules Grammar.kind-of Grammar.b-of Grammar.c-of Grammar.expression-by Grammar.expression Grammar.range-of Grammar.rule_right Grammar.grammar-rules-from Grammar.grammar-refusal
+    Grammar.rules Grammar.kind_of Grammar.b_of Grammar.c_of Grammar.expression_by Grammar.expression Grammar.range_of Grammar.rule_right Grammar.grammar_rules_from Grammar.grammar_refusal
     cuts_at cut_from cut class_of class_count class_in
     rows by_state select on_byte row_zero class_inside rows_at made
     symbols_of built_rules rules_made map_made parts built built_length

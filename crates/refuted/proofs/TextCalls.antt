@@ -66,8 +66,8 @@ itself_twice = sequence (nonterminal (97 ∷ [])) (nonterminal (97 ∷ []))
 pub legal_texts :
     LegalText empty_text (line_of (leaf EmptyString)) × LegalText byte_text (line_of (bytes 97 97)) × LegalText endless_text (line_of itself_twice)
     × LegalText undefined_text (line_of not_there)
-unfolding Tokens.tokens Tokens.lexemes Tokens.lexemes-from Tokens.skipped Tokens.token-at Tokens.letter Tokens.word Tokens.same Tokens.letters Tokens.width-at
-    Tokens.range-there Tokens.sign_of
+unfolding Tokens.tokens Tokens.lexemes Tokens.lexemes_from Tokens.skipped Tokens.token_at Tokens.letter Tokens.word Tokens.same Tokens.letters Tokens.width_at
+    Tokens.range_there Tokens.sign_of
 legal_texts = (
   record { reads = last_line (last_choice (last_part (no_prefix (no_suffix a_leaf)))); distinct = cons Memᴰ.not-nil nil },
   record { reads = last_line (last_choice (last_part (no_prefix (no_suffix a_range)))); distinct = cons Memᴰ.not-nil nil },
@@ -78,8 +78,8 @@ legal_texts = (
 pub unrefused_texts :
     ((later_refusal empty_text (line_of (leaf EmptyString))).number ≡ 0) × ((later_refusal byte_text (line_of (bytes 97 97))).number ≡ 0)
     × ((later_refusal endless_text (line_of itself_twice)).number ≡ 0)
-unfolding Tokens.lexemes Tokens.lexemes-from Tokens.skipped Tokens.token-at Tokens.letter Tokens.word Tokens.same Tokens.letters Tokens.width-at
-    Tokens.range-there Tokens.sign_of first_undefined undefined_in not_in need line_need needs later_refusal or_else refuse_if
+unfolding Tokens.lexemes Tokens.lexemes_from Tokens.skipped Tokens.token_at Tokens.letter Tokens.word Tokens.same Tokens.letters Tokens.width_at
+    Tokens.range_there Tokens.sign_of first_undefined undefined_in not_in need line_need needs later_refusal or_else refuse_if
 unrefused_texts = (refl, refl, refl)
 
 pub grammars_are :
@@ -152,8 +152,8 @@ text_judged_in_room text gs cs v n d s reads holds =
 pub endless_recursive : TextRecursionSays endless_text (Recursive 0 1)
 unfolding recursion_refusal recursion_from leads_on leads_through leads_by nothing_after nothing_by
     rules kind_of b_of c_of expression_by expression rule_right grammar_rules_from grammar_refusal or_else
-    line_offsets Tokens.ends-line Tokens.lexemes Tokens.lexemes-from Tokens.skipped Tokens.token-at Tokens.letter Tokens.word Tokens.same Tokens.letters Tokens.width-at
-    Tokens.range-there Tokens.sign_of
+    line_offsets Tokens.ends_line Tokens.lexemes Tokens.lexemes_from Tokens.skipped Tokens.token_at Tokens.letter Tokens.word Tokens.same Tokens.letters Tokens.width_at
+    Tokens.range_there Tokens.sign_of
 endless_recursive =
     recursive legal_texts.2 endless_read refl (own (omega arith))
     (record { name = 97 ∷ []; body = itself_twice; defined = here; there = refl; begins = refl })

@@ -34,24 +34,24 @@ abbrev second_symbol : List Entry → ℕ
 second_symbol es = (get_or es 1 (entry 0 0)).symbol
 
 -- READINGS
-pub readings_entered : Wrong.Readings-entered → ⊥
+pub readings_entered : Wrong.ReadingsEntered → ⊥
 unfolding row_machine
 readings_entered wrong =
     let four = wrong _ _ _ _ _ _ _ _ _ c1_holds.unrefused.bytes c1_judged.says in
     omega (arith, promises.one_count _ _ _ _ c1_holds.unrefused c1_holds.entered four)
 
-pub one_count : Wrong.One-count → ⊥
+pub one_count : Wrong.OneCount → ⊥
 unfolding row_machine
 one_count wrong = omega (arith, wrong _ _ _ 4 3 c3_holds.unrefused c4_holds.unrefused c3_holds.entered c4_holds.entered)
 
-pub readings_noted : Wrong.Readings-noted → ⊥
+pub readings_noted : Wrong.ReadingsNoted → ⊥
 unfolding row_machine
 readings_noted wrong =
     let bad = wrong _ _ _ _ _ _ _ _ _ c10_holds.unrefused.bytes c10_longer.says in
     let good = promises.readings_noted _ _ _ _ _ _ _ _ _ c10_holds.unrefused.bytes c10_longer.says in
     omega (arith, bad, good, one_nonzero c10_one_more.0)
 
-pub few_readings : Wrong.Few-readings → ⊥
+pub few_readings : Wrong.FewReadings → ⊥
 unfolding image_of row_machine source_refusal rules
 few_readings wrong =
     let u = nested_holds.unrefused in
@@ -64,14 +64,14 @@ unseen_zero : note_of 0 ≡ Unseen
 unfolding note_of
 unseen_zero = refl
 
-pub entered_numbered : Wrong.Entered-numbered → ⊥
+pub entered_numbered : Wrong.EnteredNumbered → ⊥
 unfolding row_machine
 entered_numbered wrong =
     let (entered, kind) = (promises.stuck_exact _ _ _ _ _ _ _ _ _ edge_holds.unrefused.bytes edge_judged.says (config 0 1 0)).0 (refl, refl) in
     let (valid, below) = wrong _ _ edge_holds.unrefused (config 0 1 0) entered in
     omega (arith, below, computed.edge_number, computed.edge_cells)
 
-pub notes_left : Wrong.Notes-left → ⊥
+pub notes_left : Wrong.NotesLeft → ⊥
 unfolding row_machine
 notes_left wrong =
     let M = row_machine c10 in
@@ -83,7 +83,7 @@ notes_left wrong =
     let next : suc (number M (config 0 0 0)) ≡ number M (config 0 1 0) = omega (arith, computed.c10_start, computed.c10_next) in
     seen M bad (start_entered M) (ap (λ (k : ℕ). note_of (get_or ns k 0)) next ∙ ap note_of cell ∙ unseen_zero)
 
-pub others_zero : Wrong.Others-zero → ⊥
+pub others_zero : Wrong.OthersZero → ⊥
 unfolding row_machine
 others_zero wrong =
     let M = row_machine empty_row in
@@ -92,14 +92,14 @@ others_zero wrong =
     let right = promises.notes_left _ _ _ _ _ _ _ _ _ empty_holds.unrefused.bytes empty_judged.says (config 0 0 0) (start_entered M) in
     seen M right (start_entered M) (ap note_of cell ∙ unseen_zero)
 
-pub notes_tell : Wrong.Notes-tell → ⊥
+pub notes_tell : Wrong.NotesTell → ⊥
 unfolding row_machine
 notes_tell wrong =
     let M = row_machine c10 in
     let bad = wrong _ _ _ _ _ _ _ _ _ c10_holds.unrefused.bytes c10_judged.says 0 0 (config 0 0 0) [] (starts M) in
     tells_seen M bad (ap note_of (zero_cell (how_many M) (number M (config 0 0 0))) ∙ unseen_zero)
 
-pub notes_of_run : Wrong.Notes-of-run → ⊥
+pub notes_of_run : Wrong.NotesOfRun → ⊥
 unfolding row_machine
 notes_of_run wrong =
     let M = row_machine c10 in
@@ -112,20 +112,20 @@ notes_of_run wrong =
     let bad = closed_tells M (starts M) ends (wrong M ns k.noted 0 0 (config 0 0 0) [] valid (starts M)) in
     omega (arith, one_cell v (suc v) (told ∙ sym bad))
 
-pub notes_imply : Wrong.Notes-imply → ⊥
+pub notes_imply : Wrong.NotesImply → ⊥
 notes_imply wrong =
     let M = machine [] [] in
     let implied = wrong [] [] [] (λ c valid. absurd (omega (arith, valid.state_below, computed.byteless_states))) in
     omega (arith, implied.open_end (config 0 0 0) (start_entered M) (stops_at_once M computed.byteless_stops))
 
 -- TERMINATORS
-pub one_end : Wrong.One-end → ⊥
+pub one_end : Wrong.OneEnd → ⊥
 one_end wrong =
     let M = row_machine c3 in
     let same = (wrong M 2 1 1 2 (config 2 1 1) (config 2 2 1) (pops_itself M (config 2 1 1) computed.c3_byte)).1 (pops_itself M (config 2 2 1) computed.c3_end) in
     omega (arith, ap (λ (c : Config). c.head) same)
 
-pub terminators_of_run : Wrong.Terminators-of-run → ⊥
+pub terminators_of_run : Wrong.TerminatorsOfRun → ⊥
 terminators_of_run wrong =
     let M = row_machine c1 in
     let gone = (promises.terminators_of_run M 0 0 (config 0 0 0) (config 2 1 0) [] (starts M)).0 computed.c1_ends in
@@ -147,7 +147,7 @@ on_second r = go r.wait r.reached r.never_lower
         let high = low 7 (description 2 1 under_second) (omega arith) (omega arith) computed.c6_popped in
         omega (arith, high)
 
-pub same_each_time : Wrong.Same-each-time → ⊥
+pub same_each_time : Wrong.SameEachTime → ⊥
 same_each_time wrong =
     let M = row_machine c6 in
     let c = config 1 1 5 in
@@ -163,22 +163,22 @@ none_in : (l : List Config) {c : Config} → length l ≡ 0 → Memᴰ c l → �
 none_in [] e m = Memᴰ.not-nil m
 none_in (b ∷ l) e m = omega (arith, e)
 
-pub chain_judges : Wrong.Chain-judges → ⊥
+pub chain_judges : Wrong.ChainJudges → ⊥
 chain_judges wrong =
     let k = wrong [] [] in
     let all = k.entered in
     let none_read = k.counted k.steps (omega arith) ∙ none_counted _ _ computed.byteless_cells in
     none_in all.configs (all.counted ∙ none_read) (all.all (config 0 0 0) (start_entered (machine [] [])))
 
-pub start_made : Wrong.Start-made → ⊥
+pub start_made : Wrong.StartMade → ⊥
 unfolding start_state sizes_of
 start_made wrong = omega (arith, ap (λ (s : JudgeState). s.environment.sizes.places) (wrong [] []))
 
-pub number_along : Wrong.Number-along → ⊥
+pub number_along : Wrong.NumberAlong → ⊥
 number_along wrong =
     omega (arith, (wrong _ _ 0 c10_holds.unrefused).is, (promises.number_along _ _ 0 c10_holds.unrefused).is)
 
-pub judge_by_chain : Wrong.Judge-by-chain → ⊥
+pub judge_by_chain : Wrong.JudgeByChain → ⊥
 unfolding row_machine
 judge_by_chain wrong =
     let ns = c10_longer.notes_now in
@@ -192,13 +192,13 @@ judge_by_chain wrong =
     let short : length (take n ns) ≡ n = length-take-le n ns (omega (arith, long)) in
     omega (arith, long, short, ap length all)
 
-pub few_steps : Wrong.Few-steps → ⊥
+pub few_steps : Wrong.FewSteps → ⊥
 unfolding image_of
 few_steps wrong =
     let (k, few, there, before) = wrong _ _ _ _ _ _ _ _ _ pushing_holds.unrefused.bytes pushing_judged.says in
     pushing_late k _ (omega (arith, few)) there
 
-pub work_cleared : Wrong.Work-cleared → ⊥
+pub work_cleared : Wrong.WorkCleared → ⊥
 unfolding row_machine
 work_cleared wrong =
     let n = how_many (row_machine c10) in

@@ -54,11 +54,11 @@ use Rattle.refuted.proofs.Rows.{first, rows_from, c1_holds, c2_holds, c4_holds}
 
 -- READING. a=empty; has no fault, and no text one at its end
 faults : (fault empty_text ≡ no_refusal) × (fault [] ≡ refusal 15 0)
-unfolding fault first_wrong next to_if not_in is_equals by_sign defined_after name_of at_end Tokens.lexemes Tokens.lexemes-from Tokens.skipped
-    Tokens.token-at Tokens.letter Tokens.word Tokens.same Tokens.letters Tokens.width-at Tokens.range-there Tokens.sign_of
+unfolding fault first_wrong next to_if not_in is_equals by_sign defined_after name_of at_end Tokens.lexemes Tokens.lexemes_from Tokens.skipped
+    Tokens.token_at Tokens.letter Tokens.word Tokens.same Tokens.letters Tokens.width_at Tokens.range_there Tokens.sign_of
 faults = (refl, refl)
 
-pub faults_right : Wrong.Faults-right → ⊥
+pub faults_right : Wrong.FaultsRight → ⊥
 faults_right wrong =
     let bad = ((wrong empty_text).0 no_refusal).1 faults.0 in
     (((promises.faults_right empty_text).0 no_refusal).0 bad).1 refl
@@ -81,27 +81,27 @@ none_read =
     let says : ReadSays [] (Refused (fault [])) = at_fault faulty in
     rw faults.1 at says
 
-pub reading_exact : Wrong.Reading-exact → ⊥
+pub reading_exact : Wrong.ReadingExact → ⊥
 reading_exact wrong =
     let (gs, _, only) = wrong [] in
     let e : Refused (refusal 15 0) ≡ Grammar gs = only (Refused (refusal 15 0)) none_read in
     clash cc
 
 -- a=!b; has one rule, which names rule 1
-pub typed_right : Wrong.Typed-parses → ⊥
-unfolding Compile.grammar-of Compile.encode Compile.all-rules Compile.named-from Compile.helpers-from Compile.line-rule Compile.line-helpers Compile.top-rule Compile.top-helpers
-    Compile.compile Compile.compile-prefix Compile.place Compile.own-rules Compile.own-number Compile.index_of Compile.rule-bytes Tokens.same
+pub typed_right : Wrong.TypedParses → ⊥
+unfolding Compile.grammar_of Compile.encode Compile.all_rules Compile.named_from Compile.helpers_from Compile.line_rule Compile.line_helpers Compile.top_rule Compile.top_helpers
+    Compile.compile Compile.compile_prefix Compile.place Compile.own_rules Compile.own_number Compile.index_of Compile.rule_bytes Tokens.same
     rules kind_of b_of c_of rule_right grammar_rules_from grammar_refusal
 typed_right wrong = omega (arith, (wrong undefined_text (line_of not_there) legal_texts.3).good)
 
 empty_tells : ReadTells empty_text (grammar_answer (Grammar empty_grammar))
 empty_tells = record { reading = _; says = empty_read; told = refl }
 
-pub read_determined : Wrong.Read-determined → ⊥
+pub read_determined : Wrong.ReadDetermined → ⊥
 unfolding grammar_answer
 read_determined wrong = omega (arith, ((wrong empty_text _ _ empty_tells empty_tells).1 refl).0)
 
-pub read_good : Wrong.Read-good → ⊥
+pub read_good : Wrong.ReadGood → ⊥
 unfolding grammar_answer rules kind_of b_of c_of rule_right grammar_rules_from grammar_refusal
 read_good wrong = omega (arith, (wrong empty_text _ empty_tells refl).good)
 
@@ -112,7 +112,7 @@ empty_built a enough = BuildTextSays.read empty_read (c1_built Whole a enough)
 abbrev exactly : List ℕ
 exactly = replicate 468 0
 
-pub build_text_refuses : Wrong.Build-text-refuses → ⊥
+pub build_text_refuses : Wrong.BuildTextRefuses → ⊥
 unfolding of_built
 build_text_refuses wrong =
     let few : build_refusal empty_grammar 467 ≡ refusal 13 (built_length empty_grammar) = no_room empty_grammar 467 c1_good (omega (arith, c1_length)) in
@@ -125,7 +125,7 @@ first_byte : (l : List ℕ) → get_or (built Whole empty_grammar ++ l) 0 0 ≡ 
 unfolding built encode header pair_bytes little_endian
 first_byte l = refl
 
-pub build_text_determined : Wrong.Build-text-determined → ⊥
+pub build_text_determined : Wrong.BuildTextDetermined → ⊥
 build_text_determined wrong =
     let says = empty_built exactly (omega arith) in
     let bad = (wrong empty_text exactly _ _ _ _ says says).1 in
@@ -136,7 +136,7 @@ byte_after : (b : ℕ) → get_or (take 469 (built Whole empty_grammar ++ (b ∷
 byte_after b =
     get_or-take 469 (built Whole empty_grammar ++ (b ∷ [])) 468 0 (omega arith) ∙ get_or_at (built Whole empty_grammar) b [] 0 468 promises.c1_image
 
-pub build_text_independent : Wrong.Build-text-independent → ⊥
+pub build_text_independent : Wrong.BuildTextIndependent → ⊥
 build_text_independent wrong =
     let a : List ℕ = replicate 469 0 in
     let b : List ℕ = replicate 469 1 in
@@ -151,18 +151,18 @@ one_note = lent [] (0 ∷ []) []
 pub none_judged_by : JudgeTextSays [] [] (Unjudged (refusal 15 0)) one_note one_note
 none_judged_by = JudgeTextSays.unread none_read
 
-pub judge_text_refuses : Wrong.Judge-text-refuses → ⊥
+pub judge_text_refuses : Wrong.JudgeTextRefuses → ⊥
 judge_text_refuses wrong =
     let bad = (wrong [] [] _ one_note one_note (refusal 15 0) none_judged_by (JudgeTextRefused.text_refused none_read)).1 in
     omega (arith, ap (λ (x : Lent). length x.notes) bad)
 
-pub judge_text_determined : Wrong.Judge-text-determined → ⊥
+pub judge_text_determined : Wrong.JudgeTextDetermined → ⊥
 judge_text_determined wrong =
     let bad = (wrong [] [] one_note _ _ one_note one_note none_judged_by none_judged_by).1 in
     omega (arith, ap (λ (x : Lent). length x.notes) bad)
 
 -- C1's answer, and none with no image buffer
-pub judge_text_independent : Wrong.Judge-text-independent → ⊥
+pub judge_text_independent : Wrong.JudgeTextIndependent → ⊥
 unfolding parts_refusal or_else
 judge_text_independent wrong =
     let j = text_judged_in_room empty_text empty_grammar [] Accepted 3 (config 2 1 0) (some 3) empty_read c1_holds in
@@ -174,21 +174,21 @@ judge_text_independent wrong =
     (wrong empty_text [] x j.after z z _ _ refl refl j.says (JudgeTextSays.refused empty_read refused)).0 in
     clash cc
 
-pub typed_accepts : Wrong.Typed-accepts → ⊥
+pub typed_accepts : Wrong.TypedAccepts → ⊥
 unfolding image_of row_machine verdict_number
 typed_accepts wrong =
     let (c, says) = (wrong empty_text (97 ∷ []) _ [] c2_holds.unrefused.bytes legal_texts.0 unrefused_texts.0).1 (0, nothing) in
     omega (arith, same_number (rw grammars_are.0 at says) c2_holds.says)
 
 -- C1 is accepted, and has a result
-pub typed_stuck : Wrong.Typed-stuck → ⊥
+pub typed_stuck : Wrong.TypedStuck → ⊥
 unfolding image_of row_machine verdict_number
 typed_stuck wrong =
     let (c, says) = (wrong empty_text [] _ [] c1_holds.unrefused.bytes legal_texts.0 unrefused_texts.0).1 (some 0, nothing) in
     omega (arith, same_number (rw grammars_are.0 at says) c1_holds.says)
 
 -- C4 is stuck, and fails
-pub typed_loops : Wrong.Typed-loops → ⊥
+pub typed_loops : Wrong.TypedLoops → ⊥
 unfolding image_of row_machine verdict_number in_range
 typed_loops wrong =
     let (c, says) = (wrong byte_text (98 ∷ []) _ [] c4_holds.unrefused.bytes legal_texts.1 unrefused_texts.1 (omega arith)).1 (byte_out refl) in
@@ -209,7 +209,7 @@ few_cells e =
     let bad = (judged_right (built Whole empty_grammar) (97 ∷ []) _ x.notes _ x.work _ fine says).answers in
     clash cc
 
-pub typed_judged : Wrong.Typed-judged → ⊥
+pub typed_judged : Wrong.TypedJudged → ⊥
 unfolding image_of
 typed_judged wrong =
     let x : Lent = room empty_grammar [] in
@@ -220,7 +220,7 @@ typed_judged wrong =
     clash cc
 
 -- no text is refused, and has no lines
-pub read_right : Wrong.Read-right → ⊥
+pub read_right : Wrong.ReadRight → ⊥
 read_right wrong =
     let (ds, legal, _) = wrong [] _ (record { reading = _; says = none_read; told = refl }) in
     omega (arith, (promises.faults_right []).1.1 (ds, legal), ap (λ (f : Refusal). f.number) faults.1)
@@ -229,13 +229,13 @@ read_right wrong =
 no_helper : {E : Rules} {ds : List Definition} {k : ℕ} {hs : List ℕ} → LineRules E ds (leaf EmptyString) k hs → hs ≡ []
 no_helper (own_line (RuleOf.nothing e)) = refl
 
-pub rules_of_lines : Wrong.Rules-of-lines → ⊥
+pub rules_of_lines : Wrong.RulesOfLines → ⊥
 rules_of_lines wrong =
     let (hs, made, only) = wrong empty_text _ 0 _ _ legal_texts.0 unrefused_texts.0 here in
     Memᴰ.not-nil (subst (λ (l : List ℕ). Memᴰ 0 l) (no_helper made) ((only 0).0 (own (omega arith))))
 
 -- a=b;c is refused at its end
-pub text_examples : Wrong.Text-examples → ⊥
+pub text_examples : Wrong.TextExamples → ⊥
 unfolding refused_table ReadSo grammar_answer
 text_examples wrong =
     let (reading, says, _) = promises.reading_exact (bytes_of "a=b;c") in

@@ -46,7 +46,7 @@ no_verdict Stuck n d e = omega (arith, ap (λ (l : List ℕ). get_or l 0 0) e)
 no_verdict Looping n d e = omega (arith, ap (λ (l : List ℕ). get_or l 0 0) e)
 no_verdict Halted n d e = omega (arith, ap (λ (l : List ℕ). get_or l 0 0) e)
 
-pub line_says : Wrong.Line-says → ⊥
+pub line_says : Wrong.LineSays → ⊥
 line_says wrong =
     let p = wrong [] nothing_lent nothing_lent _ (λ i. omega arith) (AnswerCalls.unread nothing_lent) in
     no_verdict p.verdict p.readings p.end p.says
@@ -64,7 +64,7 @@ endless_right =
       nothing_after = refl;
     }
 
-pub input_is : Wrong.Input-is → ⊥
+pub input_is : Wrong.InputIs → ⊥
 unfolding endless_right endless_input input_grammar number_at little_endian pair_bytes
 input_is wrong = omega (arith, (wrong endless_input endless_right).grammar_long)
 
@@ -72,7 +72,7 @@ input_is wrong = omega (arith, (wrong endless_input endless_right).grammar_long)
 long_line : Lined (replicate 64 0) (replicate 63 0) (written (replicate 64 0) (replicate 63 0)) 63
 long_line = record { holds = record { bytes = refl; counted = refl }; short = omega arith }
 
-pub line_whole : Wrong.Line-whole → ⊥
+pub line_whole : Wrong.LineWhole → ⊥
 line_whole wrong = omega (arith, (wrong (replicate 64 0) (replicate 63 0) _ 63 long_line (omega arith)).0)
 
 -- C5 in the program's buffers
@@ -83,50 +83,50 @@ room : ProgramRoom program_lent (replicate 64 0)
 unfolding program_lent
 room = record { image = length-replicate {A = ℕ} 65536 0; notes = length-replicate {A = ℕ} 16384 0; work = length-replicate {A = ℕ} 16384 0; line = omega arith }
 
-pub endless_printed : Wrong.Endless-printed → ⊥
+pub endless_printed : Wrong.EndlessPrinted → ⊥
 unfolding endless_line answer_line verdict_word field decimal digits
 endless_printed wrong =
-    let (y, now, count, says) = AnswerCalls.endless-told program_lent (replicate 64 0) room in
+    let (y, now, count, says) = AnswerCalls.endless_told program_lent (replicate 64 0) room in
     let right = promises.endless_printed program_lent y (replicate 64 0) now count room says in
     omega (arith, ap (λ (l : List ℕ). get_or l 8 0) (sym right ∙ wrong program_lent y (replicate 64 0) now count room says))
 
-pub unread_refused : Wrong.Unread-refused → ⊥
+pub unread_refused : Wrong.UnreadRefused → ⊥
 unfolding refusal_line refused_word field decimal digits
 unread_refused wrong = omega (arith, ap (λ (l : List ℕ). get_or l 11 0) (wrong nothing_lent nothing_lent _ (AnswerCalls.unread nothing_lent)))
 
 -- C1 with neither notes nor work cells
-pub refusals_left : Wrong.Refusals-left → ⊥
+pub refusals_left : Wrong.RefusalsLeft → ⊥
 unfolding or_else refuse_if
 refusals_left wrong =
-    let bad = rw promises.c1_cells at (wrong Whole empty_grammar [] 0 0 SmallCalls.c1-good) in
-    omega (arith, ap (λ (f : Refusal). f.number) (sym (SmallCalls.c1-judging 0 0) ∙ bad))
+    let bad = rw promises.c1_cells at (wrong Whole empty_grammar [] 0 0 SmallCalls.c1_good) in
+    omega (arith, ap (λ (f : Refusal). f.number) (sym (SmallCalls.c1_judging 0 0) ∙ bad))
 
 -- THE EXAMPLES
-pub examples_hold : Wrong.Examples-hold → ⊥
+pub examples_hold : Wrong.ExamplesHold → ⊥
 unfolding table grammar_rows second_row row_machine verdict_number
 examples_hold wrong =
     let bad : RowHolds (row (from_grammar Whole empty_grammar) (97 ∷ []) Accepted 4 (config 2 2 0) (some 4)) = first (others wrong) in
     omega (arith, ap verdict_number (promises.one_verdict _ Accepted Stuck _ _ bad.says c2_holds.says).0)
 
-pub c1_image : Wrong.C1-image → ⊥
+pub c1_image : Wrong.C1Image → ⊥
 c1_image wrong = omega (arith, wrong, promises.c1_image)
 
-pub c1_cells : Wrong.C1-cells → ⊥
+pub c1_cells : Wrong.C1Cells → ⊥
 c1_cells wrong = omega (arith, wrong, promises.c1_cells)
 
-pub c1_plain_runs : Wrong.C1-plain-runs → ⊥
+pub c1_plain_runs : Wrong.C1PlainRuns → ⊥
 unfolding plain_table
-c1_plain_runs wrong = omega (arith, ap (λ (e : RunEnd). e.steps) (sym (first wrong) ∙ SmallCalls.c1-accepted))
+c1_plain_runs wrong = omega (arith, ap (λ (e : RunEnd). e.steps) (sym (first wrong) ∙ SmallCalls.c1_accepted))
 
 -- THE LIBRARY FOR C: an image of one byte is refused by 1 at 1
 one_byte_told : JudgeTells (0 ∷ []) [] [] [] [] [] 1 (1 ∷ 0 ∷ 0 ∷ 0 ∷ 0 ∷ 0 ∷ [])
 unfolding JudgeSays JudgeAs judge_refusal capture_refusal image_refusal or_else of_judged cells
 one_byte_told = record { judged = Refused (refusal 1 1); says = (refl, refl, refl); tells = record { number = refl; written = refl } }
 
-pub accepted_told : Wrong.Accepted-told → ⊥
+pub accepted_told : Wrong.AcceptedTold → ⊥
 accepted_told wrong = omega (arith, (wrong _ _ _ _ _ _ 1 _ one_byte_told refl).0)
 
 -- C3 and C4 have captures of one byte, of which one is accepted and the other not
-pub only_row : Wrong.Only-row → ⊥
+pub only_row : Wrong.OnlyRow → ⊥
 unfolding verdict_number
 only_row wrong = omega (arith, ap (λ (r : Row). verdict_number r.verdict) (wrong c3 c4 refl refl c3_holds c4_holds))

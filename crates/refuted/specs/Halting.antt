@@ -86,7 +86,7 @@ ImageAsBefore = (bs : List ℕ) → AsBefore bs
 abbrev pub BuiltWithoutHalting : Type 0
 BuiltWithoutHalting =
     (how : Matching) (gs : List ℕ) (p k a : ℕ) → p < states (built how gs) → k < classes (built how gs) + 2 → a < symbols (built how gs) →
-    (rule_at (built how gs) p k a).kind ≡ Format.kind-none → ⊥
+    (rule_at (built how gs) p k a).kind ≡ Format.kind_none → ⊥
 
 -- stuck where a rule of kind 4 stops the run
 abbrev pub HaltingRows : Type 0

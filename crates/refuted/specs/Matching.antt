@@ -61,10 +61,10 @@ WholeAsBefore = (gs : List ℕ) → built Leading gs ≡ built_before gs
 abbrev pub LeadingOneRow : Type 0
 LeadingOneRow =
     (gs : List ℕ) →
-    (take Format.rules-offset (built Leading gs) ≡ take Format.rules-offset (built Whole gs))
+    (take Format.rules_offset (built Leading gs) ≡ take Format.rules_offset (built Whole gs))
     × ((p k a : ℕ) → p < state_count → k < class_count gs + 2 → a < symbols_of gs →
     rule_at (built Leading gs) p k a
-    ≡ cond (eqb p state_ok && (ltb k (class_count gs + 1) && eqb a 0)) (rule Format.kind-change state_ok 0 Format.direction-right) (rule_at (built Whole gs) p k a))
+    ≡ cond (eqb p state_ok && (ltb k (class_count gs + 1) && eqb a 0)) (rule Format.kind_change state_ok 0 Format.direction_right) (rule_at (built Whole gs) p k a))
 
 -- n places for n + 1: the right marker's is left out
 abbrev pub FewReadingsLeading : Type 0

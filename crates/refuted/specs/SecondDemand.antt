@@ -76,7 +76,7 @@ BuiltAccepts =
 -- loops where parsing fails
 abbrev pub BuiltLoops : Type 0
 BuiltLoops =
-    (how : Matching) (gs cs : List ℕ) → (grammar_refusal gs).number ≡ 0 → Bytes cs → length cs ≤ Format.max-capture →
+    (how : Matching) (gs cs : List ℕ) → (grammar_refusal gs).number ≡ 0 → Bytes cs → length cs ≤ Format.max_capture →
     ((d : Config) × Says (machine (built how gs) cs) Looping d) ↔ Parses (expression gs) cs 0 0 none
 
 -- goes on where parsing does not consume all
@@ -145,7 +145,7 @@ RunAnswers =
 
 -- the rules alone: what stands before them is left out
 abbrev pub ImageLength : Type 0
-ImageLength = (how : Matching) (gs : List ℕ) → length (built how gs) ≡ Format.rule-length * built_rules gs
+ImageLength = (how : Matching) (gs : List ℕ) → length (built how gs) ≡ Format.rule_length * built_rules gs
 
 -- the two markers counted twice
 abbrev pub CellsCounted : Type 0

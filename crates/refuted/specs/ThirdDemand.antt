@@ -105,7 +105,7 @@ abbrev pub StartMade : Type 0
 StartMade =
     (bs cs : List ℕ) →
     start_in (environment_of bs cs)
-    ≡ start_state (take Format.counts-length (drop Format.counts-offset bs)) (length cs + 2)
+    ≡ start_state (take Format.counts_length (drop Format.counts_offset bs)) (length cs + 2)
 
 -- configurations numbered from 1 on
 abbrev pub NumberAlong : Type 0

@@ -41,11 +41,11 @@ pub record AfterSteps (bs cs : List ℕ) (e : Environment) (r : Registers) (ns w
 -- the start is the chain's
 pub start_is :
     (bs cs : List ℕ) →
-    start_in (environment_of bs cs) ≡ start_state (take Format.counts-length (drop Format.counts-offset bs)) (length cs)
+    start_in (environment_of bs cs) ≡ start_state (take Format.counts_length (drop Format.counts_offset bs)) (length cs)
 unfolding start_state
 start_is bs cs = ap start_in (sym (start_environment bs cs))
 
-pub long_image : {bs cs ns ws : List ℕ} → Cleared bs cs ns ws → Format.map-offset ≤ length bs
+pub long_image : {bs cs ns ws : List ℕ} → Cleared bs cs ns ws → Format.map_offset ≤ length bs
 long_image c = omega (arith, (good c.unrefused).long)
 
 pub at_start :

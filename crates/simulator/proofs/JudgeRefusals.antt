@@ -77,11 +77,11 @@ checked bs cs x y {n} sized bytes h k =
     }
 
 -- image and capture are not refused, and so many cells are needed for them
-module _ (bs : List ℕ) (n : ℕ) (good : (image_refusal bs).number ≡ 0) {f : Refusal} (q : f ≡ refuse_if (ltb Format.max-capture n) (refusal 7 n)) (none : f.number ≡ 0) where
+module _ (bs : List ℕ) (n : ℕ) (good : (image_refusal bs).number ≡ 0) {f : Refusal} (q : f ≡ refuse_if (ltb Format.max_capture n) (refusal 7 n)) (none : f.number ≡ 0) where
   length_fine : (capture_refusal bs n).number ≡ 0
   length_fine = ap (λ (g : Refusal). g.number) (sym (then_length bs n (image_refusal bs) refl good q)) ∙ none
 
-  pub length_short : ((image_refusal bs).number ≡ 0) × (n ≤ Format.max-capture)
+  pub length_short : ((image_refusal bs).number ≡ 0) × (n ≤ Format.max_capture)
   length_short = capture_fine bs n length_fine
 
   pub sized : (cs : List ℕ) → n ≡ length cs → {k : ℕ} → k ≡ cells_needed bs n → Sized bs cs k
@@ -97,7 +97,7 @@ module _ (bs cs x y : List ℕ) {r : Judged} where
   image_says {f} e some q = early_says (image_first bs (length cs) f e some) some q
 
   pub long_says :
-      (image_refusal bs).number ≡ 0 → {f : Refusal} → f ≡ refuse_if (ltb Format.max-capture (length cs)) (refusal 7 (length cs)) →
+      (image_refusal bs).number ≡ 0 → {f : Refusal} → f ≡ refuse_if (ltb Format.max_capture (length cs)) (refusal 7 (length cs)) →
       (f.number ≡ 0 → ⊥) → r ≡ Refused f → JudgeSays bs cs r x x y y
   long_says good {f} q some e = early_says (then_length bs (length cs) (image_refusal bs) refl good q) some e
 

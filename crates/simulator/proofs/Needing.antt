@@ -20,7 +20,7 @@ pub cells_are : (bs cs : List ℕ) → cells_needed bs (length cs) ≡ how_many 
 unfolding cells_needed how_many machine
 cells_are bs cs = refl
 
-module _ (bs : List ℕ) (n : ℕ) (g : (image_refusal bs).number ≡ 0) (s : n ≤ Format.max-capture) where
+module _ (bs : List ℕ) (n : ℕ) (g : (image_refusal bs).number ≡ 0) (s : n ≤ Format.max_capture) where
   -- a capture of that length is not refused: what holds of any capture holds of this one
   pub some_capture : Unrefused bs (replicate n 0)
   some_capture =
@@ -30,10 +30,10 @@ module _ (bs : List ℕ) (n : ℕ) (g : (image_refusal bs).number ≡ 0) (s : n 
         bytes = λ i. let z = zeros n i in omega (arith, z);
       }
 
-  pub few_places_of : states bs * (n + 2) ≤ Format.max-states * Format.max-places
+  pub few_places_of : states bs * (n + 2) ≤ Format.max_states * Format.max_places
   few_places_of = let f = few_places some_capture in rw (length-replicate {A = ℕ} n 0) at f
 
-  pub few_cells_of : states bs * (n + 2) * symbols bs ≤ Format.max-states * Format.max-places * Format.max-symbols
+  pub few_cells_of : states bs * (n + 2) * symbols bs ≤ Format.max_states * Format.max_places * Format.max_symbols
   unfolding how_many machine
   few_cells_of = let f = few_cells some_capture in rw (length-replicate {A = ℕ} n 0) at f
 

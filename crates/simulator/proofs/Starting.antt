@@ -17,8 +17,8 @@ use Rattle.simulator.specs.Code.Checked.{FewEnough}
 module _ {s : Sizes} (y : FewEnough s) where
   pub stride_fits : Fits w32 (s.places * s.symbols)
   stride_fits =
-      let h : s.places * s.symbols ≤ Format.max-places * Format.max-symbols =
-      mul-le-mul {n₂ = Format.max-places} {m₂ = Format.max-symbols} y.places_most y.symbols_most in
+      let h : s.places * s.symbols ≤ Format.max_places * Format.max_symbols =
+      mul-le-mul {n₂ = Format.max_places} {m₂ = Format.max_symbols} y.places_most y.symbols_most in
       omega arith
 
   pub both_some : (0 < s.symbols) × (0 < s.places * s.symbols)

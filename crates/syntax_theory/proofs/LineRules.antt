@@ -28,17 +28,17 @@ use Rattle.syntax_theory.proofs.TypedRight.{rules_held, legal_closed}
 rule_counted : {E : Rules} {ds : List Definition} {e : Tree} {k : ℕ} {own : List ℕ} → RuleOf E ds e k own → length own ≡ need e
 unfolding need prefix_need suffix_need
 rule_counted (RuleOf.call d) = refl
-rule_counted (RuleOf.byte-range r) = refl
-rule_counted (RuleOf.any-byte r) = refl
+rule_counted (RuleOf.byte_range r) = refl
+rule_counted (RuleOf.any_byte r) = refl
 rule_counted (RuleOf.nothing r) = refl
 rule_counted (RuleOf.failure r l) = refl
 rule_counted (RuleOf.both {xs = xs} {ys = ys} r p q) = omega (arith, length-append xs ys, rule_counted p, rule_counted q)
 rule_counted (RuleOf.either {xs = xs} {ys = ys} r p q) = omega (arith, length-append xs ys, rule_counted p, rule_counted q)
-rule_counted (RuleOf.not-rule r p) = omega (arith, rule_counted p)
-rule_counted (RuleOf.and-rule r s p) = omega (arith, rule_counted p)
+rule_counted (RuleOf.not_rule r p) = omega (arith, rule_counted p)
+rule_counted (RuleOf.and_rule r s p) = omega (arith, rule_counted p)
 rule_counted (RuleOf.optional r s p) = omega (arith, rule_counted p)
 rule_counted (RuleOf.iteration r s t p) = omega (arith, rule_counted p)
-rule_counted (RuleOf.iteration-once r s t u p) = omega (arith, rule_counted p)
+rule_counted (RuleOf.iteration_once r s t u p) = omega (arith, rule_counted p)
 
 line_rules_counted : {E : Rules} {ds : List Definition} {e : Tree} {k : ℕ} {hs : List ℕ} → LineRules E ds e k hs → suc (length hs) ≡ line_need e
 unfolding line_need

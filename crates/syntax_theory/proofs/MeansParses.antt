@@ -29,12 +29,12 @@ always_fails (Means.present m) = refl
 -- a rule, then nothing
 module _ {E : Rules} {cs : List ℕ} {k : ℕ} where
   then_nothing : {h j i : ℕ} (o : Option ℕ) → E k ≡ Sequence j h → E h ≡ Empty → Parses E cs j i o → Parses E cs k i o
-  then_nothing none s t p = Parses.sequence-fails s p
+  then_nothing none s t p = Parses.sequence_fails s p
   then_nothing (some j) s t p = Parses.sequence s p (Parses.empty t)
 
   -- a range that no byte is in
   fails_there : {i b c : ℕ} {o : Option ℕ} → E k ≡ Range b c → c < b → o ≡ none → Parses E cs k i o
-  fails_there {i} {b} {c} e l n = subst (Parses E cs k i) (sym n) (Parses.range-fails e (matches_nowhere cs b c i l))
+  fails_there {i} {b} {c} e l n = subst (Parses E cs k i) (sym n) (Parses.range_fails e (matches_nowhere cs b c i l))
 
 module _ {E : Rules} {ds : List Definition} {cs : List ℕ} where
   by_line :
@@ -48,20 +48,20 @@ module _ {E : Rules} {ds : List Definition} {cs : List ℕ} where
       (k : ℕ) (own : List ℕ) → RuleOf E ds e k own → Parses E cs k i o
   means_parses l u {i = i} {o = o} (Means.call {k = h} d m) k own (RuleOf.call c) =
       subst (λ j. Parses E cs j i o) (one_number u d c) (by_line (means_parses l u m) (l _ _ _ d).1)
-  means_parses l u (Means.byte-in f g) k own (RuleOf.byte-range r) = Parses.range r f g
-  means_parses l u (Means.byte-out f) k own (RuleOf.byte-range r) = Parses.range-fails r f
+  means_parses l u (Means.byte_in f g) k own (RuleOf.byte_range r) = Parses.range r f g
+  means_parses l u (Means.byte_out f) k own (RuleOf.byte_range r) = Parses.range_fails r f
   means_parses l u Means.nothing k own (RuleOf.nothing r) = Parses.empty r
   means_parses l u (Means.both m n) k own (RuleOf.both r s t) = Parses.sequence r (means_parses l u m _ _ s) (means_parses l u n _ _ t)
-  means_parses l u (Means.first-fails m) k own (RuleOf.both r s t) = Parses.sequence-fails r (means_parses l u m _ _ s)
+  means_parses l u (Means.first_fails m) k own (RuleOf.both r s t) = Parses.sequence_fails r (means_parses l u m _ _ s)
   means_parses l u (Means.one m) k own (RuleOf.either r s t) = Parses.choice r (means_parses l u m _ _ s)
-  means_parses l u (Means.other m n) k own (RuleOf.either r s t) = Parses.choice-other r (means_parses l u m _ _ s) (means_parses l u n _ _ t)
-  means_parses l u (Means.absent m) k own (RuleOf.not-rule r s) = Parses.not_there r (means_parses l u m _ _ s)
-  means_parses l u (Means.present m) k own (RuleOf.not-rule r s) = Parses.not-fails r (means_parses l u m _ _ s)
-  means_parses l u (Means.any-byte m) k own (RuleOf.any-byte r) = means_parses l u m _ _ (RuleOf.byte-range r)
+  means_parses l u (Means.other m n) k own (RuleOf.either r s t) = Parses.choice_other r (means_parses l u m _ _ s) (means_parses l u n _ _ t)
+  means_parses l u (Means.absent m) k own (RuleOf.not_rule r s) = Parses.not_there r (means_parses l u m _ _ s)
+  means_parses l u (Means.present m) k own (RuleOf.not_rule r s) = Parses.not_fails r (means_parses l u m _ _ s)
+  means_parses l u (Means.any_byte m) k own (RuleOf.any_byte r) = means_parses l u m _ _ (RuleOf.byte_range r)
   means_parses l u (Means.failure m) k own (RuleOf.failure r f) = fails_there r f (always_fails m)
-  means_parses l u (Means.predicate m) k own (RuleOf.and-rule r s t) = means_parses l u m _ _ (RuleOf.not-rule r (RuleOf.not-rule s t))
+  means_parses l u (Means.predicate m) k own (RuleOf.and_rule r s t) = means_parses l u m _ _ (RuleOf.not_rule r (RuleOf.not_rule s t))
   means_parses l u (Means.iteration m) k own (RuleOf.iteration a b c r) =
       means_parses l u m _ _ (RuleOf.either a (RuleOf.both b r (RuleOf.iteration a b c r)) (RuleOf.nothing c))
-  means_parses l u (Means.iteration-once m) k own (RuleOf.iteration-once s a b c r) =
+  means_parses l u (Means.iteration_once m) k own (RuleOf.iteration_once s a b c r) =
       means_parses l u m _ _ (RuleOf.both s r (RuleOf.iteration a b c r))
   means_parses l u (Means.optional m) k own (RuleOf.optional a b r) = means_parses l u m _ _ (RuleOf.either a r (RuleOf.nothing b))

@@ -81,17 +81,17 @@ module _ (ds : List Definition) where
 
   derived : {v : Level} {d : ℕ} {ts us : List Token} {e : Tree} → Derives v d ts e us → Each Known ts → Closed ds e × Each Known us
   unfolding Closed undefined_in
-  derived (Derives.last-choice p) k = derived p k
-  derived (Derives.more-choices p q) k = let a = derived p k in let b = derived q (each_rest a.1) in ((a.0, b.0), b.1)
-  derived (Derives.last-part p) k = derived p k
+  derived (Derives.last_choice p) k = derived p k
+  derived (Derives.more_choices p q) k = let a = derived p k in let b = derived q (each_rest a.1) in ((a.0, b.0), b.1)
+  derived (Derives.last_part p) k = derived p k
   derived (Derives.more_parts p q) k = let a = derived p k in let b = derived q a.1 in ((a.0, b.0), b.1)
-  derived (Derives.no-prefix p) k = derived p k
-  derived (Derives.a-prefix p) k = derived p (each_rest k)
-  derived (Derives.no-suffix p) k = derived p k
-  derived (Derives.a-suffix p) k = let a = derived p k in (a.0, each_rest a.1)
-  derived (Derives.a-name {n = n}) k = (found n ds (each_first k), each_rest k)
-  derived Derives.a-leaf k = (record {}, each_rest k)
-  derived Derives.a-range k = (record {}, each_rest k)
+  derived (Derives.no_prefix p) k = derived p k
+  derived (Derives.a_prefix p) k = derived p (each_rest k)
+  derived (Derives.no_suffix p) k = derived p k
+  derived (Derives.a_suffix p) k = let a = derived p k in (a.0, each_rest a.1)
+  derived (Derives.a_name {n = n}) k = (found n ds (each_first k), each_rest k)
+  derived Derives.a_leaf k = (record {}, each_rest k)
+  derived Derives.a_range k = (record {}, each_rest k)
   derived (Derives.brackets p) k = let a = derived p (each_rest k) in (a.0, each_rest a.1)
 
   abbrev pub ClosedLine : Definition → Type 0
@@ -99,7 +99,7 @@ module _ (ds : List Definition) where
 
   pub read_closed : {deep : ℕ} {ts : List Token} {es : List Definition} → Reads deep ts es → Each Known ts → Each ClosedLine es
   read_closed (Reads.last_Line p) k = an_element (derived p (each_rest (each_rest k))).0 no_element
-  read_closed (Reads.more-lines p r) k =
+  read_closed (Reads.more_lines p r) k =
       let a = derived p (each_rest (each_rest k)) in
       an_element a.0 (read_closed r (each_rest a.1))
 

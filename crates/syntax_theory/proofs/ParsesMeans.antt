@@ -24,16 +24,16 @@ Within ds cs f e = (i : ℕ) (o : Option ℕ) → Means ds cs f i o → Means ds
 module _ {ds : List Definition} {cs : List ℕ} where
   -- a range that no byte is in fails
   as_failure : {b c i : ℕ} {o : Option ℕ} → c < b → Means ds cs (bytes b c) i o → Means ds cs (leaf Failure) i o
-  as_failure {b} {c} l (Means.byte-in {i = i} f g) =
+  as_failure {b} {c} l (Means.byte_in {i = i} f g) =
       let missed : in_range b c (byte cs i) ≡ false = none_between b c (byte cs i) l in
       let z : ◌≡◌ {A = ℕ} 0 1 = cc in
       absurd (omega arith)
-  as_failure l (Means.byte-out f) = Means.failure (Means.present Means.nothing)
+  as_failure l (Means.byte_out f) = Means.failure (Means.present Means.nothing)
 
   -- a tree, then nothing
   then_nothing : {e : Tree} {i : ℕ} {o : Option ℕ} → Means ds cs (sequence e (leaf EmptyString)) i o → Means ds cs e i o
   then_nothing (Means.both m Means.nothing) = m
-  then_nothing (Means.first-fails m) = m
+  then_nothing (Means.first_fails m) = m
 
 -- a tree as a rule of one of the five kinds
 data View (E : Rules) (ds : List Definition) (cs : List ℕ) (e : Tree) : Expression → Type 0 where
@@ -68,18 +68,18 @@ module _ {E : Rules} {ds : List Definition} {cs : List ℕ} where
       (own ≡ [] → (n : List ℕ) (f : Tree) → e ≡ nonterminal n → Defines ds k n f → View E ds cs e (E k)) →
       RuleOf E ds e k own → View E ds cs e (E k)
   view_by named (RuleOf.call d) = named refl _ _ refl d
-  view_by named (RuleOf.byte-range r) = shown r (as_range (λ i o m. m))
-  view_by named (RuleOf.any-byte r) = shown r (as_range (λ i o m. Means.any-byte m))
+  view_by named (RuleOf.byte_range r) = shown r (as_range (λ i o m. m))
+  view_by named (RuleOf.any_byte r) = shown r (as_range (λ i o m. Means.any_byte m))
   view_by named (RuleOf.nothing r) = shown r (as_empty (λ i o m. m))
   view_by named (RuleOf.failure r l) = shown r (as_range (λ i o m. as_failure l m))
   view_by named (RuleOf.both r s t) = shown r (as_sequence s t (λ i o m. m))
   view_by named (RuleOf.either r s t) = shown r (as_choice s t (λ i o m. m))
-  view_by named (RuleOf.not-rule r s) = shown r (as_not s (λ i o m. m))
-  view_by named (RuleOf.and-rule r s t) = shown r (as_not (RuleOf.not-rule s t) (λ i o m. Means.predicate m))
+  view_by named (RuleOf.not_rule r s) = shown r (as_not s (λ i o m. m))
+  view_by named (RuleOf.and_rule r s t) = shown r (as_not (RuleOf.not_rule s t) (λ i o m. Means.predicate m))
   view_by named (RuleOf.optional a b r) = shown a (as_choice r (RuleOf.nothing b) (λ i o m. Means.optional m))
   view_by named (RuleOf.iteration a b c r) =
       shown a (as_choice (RuleOf.both b r (RuleOf.iteration a b c r)) (RuleOf.nothing c) (λ i o m. Means.iteration m))
-  view_by named (RuleOf.iteration-once s a b c r) = shown s (as_sequence r (RuleOf.iteration a b c r) (λ i o m. Means.iteration-once m))
+  view_by named (RuleOf.iteration_once s a b c r) = shown s (as_sequence r (RuleOf.iteration a b c r) (λ i o m. Means.iteration_once m))
 
   by_line : {k : ℕ} {n hs : List ℕ} {e : Tree} → Defines ds k n e → LineRules E ds e k hs → View E ds cs (nonterminal n) (E k)
   by_line d (own_line r) = widened (view_by (λ z. let bad : ◌≡◌ {A = ℕ} 0 1 = cc in absurd (omega arith)) r) (λ i o m. Means.call d m)
@@ -95,7 +95,7 @@ module _ {E : Rules} {ds : List Definition} {cs : List ℕ} where
     at_sequence (as_sequence r s w) f g = w _ _ (Means.both (f _ _ r) (g _ _ s))
 
     at_first_fails : {b c : ℕ} → View E ds cs e (Sequence b c) → Meant E ds cs b i none → Means ds cs e i none
-    at_first_fails (as_sequence r s w) f = w _ _ (Means.first-fails (f _ _ r))
+    at_first_fails (as_sequence r s w) f = w _ _ (Means.first_fails (f _ _ r))
 
     at_choice : {b c j : ℕ} → View E ds cs e (Choice b c) → Meant E ds cs b i (some j) → Means ds cs e i (some j)
     at_choice (as_choice r s w) f = w _ _ (Means.one (f _ _ r))
@@ -117,11 +117,11 @@ module _ {E : Rules} {ds : List Definition} {cs : List ℕ} where
 
   pub parses_means : EachLine E ds → {k i : ℕ} {o : Option ℕ} → Parses E cs k i o → Meant E ds cs k i o
   parses_means l (Parses.sequence f p q) e own r = at_sequence (seen l f r) (parses_means l p) (parses_means l q)
-  parses_means l (Parses.sequence-fails f p) e own r = at_first_fails (seen l f r) (parses_means l p)
+  parses_means l (Parses.sequence_fails f p) e own r = at_first_fails (seen l f r) (parses_means l p)
   parses_means l (Parses.choice f p) e own r = at_choice (seen l f r) (parses_means l p)
-  parses_means l (Parses.choice-other f p q) e own r = at_other (seen l f r) (parses_means l p) (parses_means l q)
+  parses_means l (Parses.choice_other f p q) e own r = at_other (seen l f r) (parses_means l p) (parses_means l q)
   parses_means l (Parses.not_there f p) e own r = at_absent (seen l f r) (parses_means l p)
-  parses_means l (Parses.not-fails f p) e own r = at_present (seen l f r) (parses_means l p)
+  parses_means l (Parses.not_fails f p) e own r = at_present (seen l f r) (parses_means l p)
   parses_means l (Parses.empty f) e own r = at_empty (seen l f r)
-  parses_means l (Parses.range f g h) e own r = at_range (seen l f r) (Means.byte-in g h)
-  parses_means l (Parses.range-fails f g) e own r = at_range (seen l f r) (Means.byte-out g)
+  parses_means l (Parses.range f g h) e own r = at_range (seen l f r) (Means.byte_in g h)
+  parses_means l (Parses.range_fails f g) e own r = at_range (seen l f r) (Means.byte_out g)

@@ -92,7 +92,7 @@ module _ {E : Rules} {ds : List Definition} where
   -- A LEAF, AN OPERATOR OVER PLACED PARTS
   leaf_stands : (a : Leaf) (n m : ℕ) → Stands E ds (leaf a) n m (Operator (compile_leaf a))
   unfolding compile_leaf
-  leaf_stands AnyByte n m = by_operator (block_none n m) (λ k f. RuleOf.any-byte f)
+  leaf_stands AnyByte n m = by_operator (block_none n m) (λ k f. RuleOf.any_byte f)
   leaf_stands EmptyString n m = by_operator (block_none n m) (λ k f. RuleOf.nothing f)
   leaf_stands Failure n m = by_operator (block_none n m) (λ k f. RuleOf.failure {b = 1} {c = 0} f (omega arith))
 
@@ -101,13 +101,13 @@ module _ {E : Rules} {ds : List Definition} where
       (Holds E n q.helpers → StandsAt E ds e q.number n (n + length q.helpers)) → Holds E n (compile_prefix p q n).helpers →
       Stands E ds (prefixed p e) n (n + length (compile_prefix p q n).helpers) (compile_prefix p q n).node
   unfolding compile_prefix
-  prefix_stands NotPredicate q n f h = let s = f h in by_operator s.block (λ k r. RuleOf.not-rule r s.rule)
+  prefix_stands NotPredicate q n f h = let s = f h in by_operator s.block (λ k r. RuleOf.not_rule r s.rule)
   prefix_stands AndPredicate q n f h =
       let m = n + length q.helpers in
       let s = f (holds_front q.helpers _ h) in
       let inner : E m ≡ Not q.number = holds_first (holds_after q.helpers _ h) in
       by_operator (block_wider (over_one (omega arith) s.block) (omega arith) (omega (arith, ends n q.helpers (Not q.number ∷ []))))
-      (λ k r. RuleOf.and-rule r inner s.rule)
+      (λ k r. RuleOf.and_rule r inner s.rule)
 
   suffix_stands :
       {e : Tree} (x : Suffix) (q : Placed) (n : ℕ) →
@@ -120,7 +120,7 @@ module _ {E : Rules} {ds : List Definition} where
       let s = f (holds_front q.helpers _ h) in
       let rows : Holds E m (repetition_rules q.number m) = holds_after q.helpers _ h in
       by_operator (block_wider (over_three (omega arith) s.block) (omega arith) (omega (arith, ends n q.helpers (repetition_rules q.number m))))
-      (λ k r. RuleOf.iteration-once r (holds_first rows) (holds_first (holds_rest rows)) (holds_first (holds_rest (holds_rest rows))) s.rule)
+      (λ k r. RuleOf.iteration_once r (holds_first rows) (holds_first (holds_rest rows)) (holds_first (holds_rest (holds_rest rows))) s.rule)
   suffix_stands Optional q n f h =
       let m = n + length q.helpers in
       let s = f (holds_front q.helpers _ h) in
@@ -160,7 +160,7 @@ module _ {E : Rules} {ds : List Definition} where
   unfolding compile Closed
   compiled_stands (nonterminal x) n c h = by_number (RuleOf.call c.1)
   compiled_stands (leaf a) n c h = leaf_stands a n (n + 0)
-  compiled_stands (bytes l u) n c h = by_operator (block_none n (n + 0)) (λ k r. RuleOf.byte-range r)
+  compiled_stands (bytes l u) n c h = by_operator (block_none n (n + 0)) (λ k r. RuleOf.byte_range r)
   compiled_stands (prefixed p e) n c h =
       prefix_stands p (place (compile (names ds) e n) n) n (placed_stands e (compile (names ds) e n) n (compiled_stands e n c)) h
   compiled_stands (suffixed s e) n c h =

@@ -57,7 +57,7 @@ few_rules text ds h = go (ltb max_rules (needs ds)) refl (neither _ _ h).1
 
 some_line : {deep : ℕ} {ts : List Token} {ds : List Definition} → Reads deep ts ds → 0 < length ds
 some_line (Reads.last_Line p) = omega arith
-some_line (Reads.more-lines p r) = omega arith
+some_line (Reads.more_lines p r) = omega arith
 
 module _ (ds : List Definition) where
   -- THE BYTES

@@ -83,7 +83,7 @@ module _
         (λ s. typed_as right cs Whole Stuck (exact.0 s), λ m. exact.1 (parsed_as right cs Whole Stuck m))
 
     pub typed_loops :
-        length cs ≤ Format.max-capture →
+        length cs ≤ Format.max_capture →
         ((c : Config) × Says (machine (built Whole (grammar_of (d ∷ ds))) cs) Looping c) ↔ ((o : Option ℕ) → Means (d ∷ ds) cs d.body 0 o → ⊥)
     typed_loops short =
         let exact = loops_exact Whole (grammar_of (d ∷ ds)) cs right.good bytes short in

@@ -63,7 +63,7 @@ pub record EnoughLent (text cs : List ℕ) (x : Lent) : Type 0 where
   pub grammar : List ℕ
   pub read : ReadSays text (Grammar grammar)
   pub bytes : Bytes cs
-  pub short : length cs ≤ Format.max-capture
+  pub short : length cs ≤ Format.max_capture
   pub image_room : built_length grammar ≤ length x.image
   pub notes_room : how_many (machine (built Whole grammar) cs) ≤ length x.notes
   pub work_room : how_many (machine (built Whole grammar) cs) ≤ length x.work

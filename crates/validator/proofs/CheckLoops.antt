@@ -29,44 +29,44 @@ unfolding map_from
 map_empty i bs = refl
 
 abbrev pub MapLeft : (bs : List ℕ) → (at : ℕ) → Type 0
-MapLeft bs at = map_from Format.map-length Format.map-offset bs ≡ map_from (Format.rules-offset - at) at bs
+MapLeft bs at = map_from Format.map_length Format.map_offset bs ≡ map_from (Format.rules_offset - at) at bs
 
-pub map_stop : (bs : List ℕ) (at : ℕ) → MapLeft bs at → at < Format.rules-offset → classes bs ≤ byte bs at → refusal 5 at ≡ map_from Format.map-length Format.map-offset bs
+pub map_stop : (bs : List ℕ) (at : ℕ) → MapLeft bs at → at < Format.rules_offset → classes bs ≤ byte bs at → refusal 5 at ≡ map_from Format.map_length Format.map_offset bs
 map_stop bs at e h bad =
-    let one_more : Format.rules-offset - at ≡ suc (Format.rules-offset - suc at) = omega arith in
-    sym (e ∙ ap (λ (k : ℕ). map_from k at bs) one_more ∙ map_refused (Format.rules-offset - suc at) at bs bad)
+    let one_more : Format.rules_offset - at ≡ suc (Format.rules_offset - suc at) = omega arith in
+    sym (e ∙ ap (λ (k : ℕ). map_from k at bs) one_more ∙ map_refused (Format.rules_offset - suc at) at bs bad)
 
-pub map_next : (bs : List ℕ) (at : ℕ) → MapLeft bs at → at < Format.rules-offset → byte bs at < classes bs → MapLeft bs (at + 1)
+pub map_next : (bs : List ℕ) (at : ℕ) → MapLeft bs at → at < Format.rules_offset → byte bs at < classes bs → MapLeft bs (at + 1)
 map_next bs at e h good =
-    let one_more : Format.rules-offset - at ≡ suc (Format.rules-offset - suc at) = omega arith in
-    let less : Format.rules-offset - suc at ≡ Format.rules-offset - (at + 1) = omega arith in
+    let one_more : Format.rules_offset - at ≡ suc (Format.rules_offset - suc at) = omega arith in
+    let less : Format.rules_offset - suc at ≡ Format.rules_offset - (at + 1) = omega arith in
     let further : suc at ≡ at + 1 = omega arith in
-    e ∙ ap (λ (k : ℕ). map_from k at bs) one_more ∙ map_passed (Format.rules-offset - suc at) at bs good
+    e ∙ ap (λ (k : ℕ). map_from k at bs) one_more ∙ map_passed (Format.rules_offset - suc at) at bs good
     ∙ ap (λ (k : ℕ). map_from k (suc at) bs) less
-    ∙ ap (λ (i : ℕ). map_from (Format.rules-offset - (at + 1)) i bs) further
+    ∙ ap (λ (i : ℕ). map_from (Format.rules_offset - (at + 1)) i bs) further
 
-pub map_end : (bs : List ℕ) (at : ℕ) → MapLeft bs at → Format.rules-offset ≤ at → no_refusal ≡ map_from Format.map-length Format.map-offset bs
+pub map_end : (bs : List ℕ) (at : ℕ) → MapLeft bs at → Format.rules_offset ≤ at → no_refusal ≡ map_from Format.map_length Format.map_offset bs
 map_end bs at e h =
-    let nothing : Format.rules-offset - at ≡ 0 = omega arith in
+    let nothing : Format.rules_offset - at ≡ 0 = omega arith in
     sym (e ∙ ap (λ (k : ℕ). map_from k at bs) nothing ∙ map_empty at bs)
 
 -- THE RULES, with those from the one at a place on still to be checked; s selects that one
 pub record RulesLeft (bs : List ℕ) (s : Selector) (at : ℕ) : Type 0 where
   pub index : ℕ
   pub left : ℕ
-  pub at_is : at ≡ Format.rules-offset + Format.rule-length * index
+  pub at_is : at ≡ Format.rules_offset + Format.rule_length * index
   pub left_is : index + left ≡ rule_count bs
   pub selects : Selects s (classes bs + 2) (symbols bs) index
   pub same : rules_refusal_from (rule_count bs) 0 bs ≡ rules_refusal_from left index bs
 
 rules_refused :
-    (n i : ℕ) (bs : List ℕ) → rule_bad bs (index_class bs i) (rule_from bs (Format.rules-offset + Format.rule-length * i)) ≡ true →
-    rules_refusal_from (suc n) i bs ≡ refusal 6 (Format.rules-offset + Format.rule-length * i)
+    (n i : ℕ) (bs : List ℕ) → rule_bad bs (index_class bs i) (rule_from bs (Format.rules_offset + Format.rule_length * i)) ≡ true →
+    rules_refusal_from (suc n) i bs ≡ refusal 6 (Format.rules_offset + Format.rule_length * i)
 unfolding rules_refusal_from
 rules_refused n i bs e = simp e
 
 rules_passed :
-    (n i : ℕ) (bs : List ℕ) → rule_bad bs (index_class bs i) (rule_from bs (Format.rules-offset + Format.rule-length * i)) ≡ false →
+    (n i : ℕ) (bs : List ℕ) → rule_bad bs (index_class bs i) (rule_from bs (Format.rules_offset + Format.rule_length * i)) ≡ false →
     rules_refusal_from (suc n) i bs ≡ rules_refusal_from n (suc i) bs
 unfolding rules_refusal_from
 rules_passed n i bs e = simp e
@@ -75,7 +75,7 @@ rules_empty : (i : ℕ) (bs : List ℕ) → rules_refusal_from 0 i bs ≡ no_ref
 unfolding rules_refusal_from
 rules_empty i bs = refl
 
-pub rules_start : (bs : List ℕ) → 1 ≤ symbols bs → RulesLeft bs first_selector Format.rules-offset
+pub rules_start : (bs : List ℕ) → 1 ≤ symbols bs → RulesLeft bs first_selector Format.rules_offset
 rules_start bs h =
     record {
       index = 0;
@@ -94,10 +94,10 @@ unfolding index_class
 index_class_is bs s at w = class_of s (classes bs + 2) (symbols bs) w.index w.selects
 
 -- the turn of the loop at which these are left
-module _ (bs : List ℕ) (s : Selector) (at : ℕ) (w : RulesLeft bs s at) (long : length bs ≡ Format.rules-offset + Format.rule-length * rule_count bs) where
+module _ (bs : List ℕ) (s : Selector) (at : ℕ) (w : RulesLeft bs s at) (long : length bs ≡ Format.rules_offset + Format.rule_length * rule_count bs) where
   at_index :
       (t : Bool) → t ≡ rule_bad bs s.class (rule_from bs at) →
-      rule_bad bs (index_class bs w.index) (rule_from bs (Format.rules-offset + Format.rule-length * w.index)) ≡ t
+      rule_bad bs (index_class bs w.index) (rule_from bs (Format.rules_offset + Format.rule_length * w.index)) ≡ t
   at_index t e = rw (index_class_is bs s at w, ← w.at_is) (sym e)
 
   pub rules_end : length bs ≤ at → no_refusal ≡ rules_refusal_from (rule_count bs) 0 bs
@@ -109,7 +109,7 @@ module _ (bs : List ℕ) (s : Selector) (at : ℕ) (w : RulesLeft bs s at) (long
     one_more : w.left ≡ suc (w.left - 1)
     one_more = omega arith
 
-    pub whole_rule : at + Format.rule-length ≤ length bs
+    pub whole_rule : at + Format.rule_length ≤ length bs
     whole_rule = omega arith
 
     -- there are few rules, so that counting on fits
@@ -124,7 +124,7 @@ module _ (bs : List ℕ) (s : Selector) (at : ℕ) (w : RulesLeft bs s at) (long
         ∙ ap (refusal 6) (sym w.at_is))
 
     pub rules_next :
-        false ≡ rule_bad bs s.class (rule_from bs at) → RulesLeft bs (next_selector s (classes bs + 2) (symbols bs)) (at + Format.rule-length)
+        false ≡ rule_bad bs s.class (rule_from bs at) → RulesLeft bs (next_selector s (classes bs + 2) (symbols bs)) (at + Format.rule_length)
     rules_next good =
         record {
           index = w.index + 1;

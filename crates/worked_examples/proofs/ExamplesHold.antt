@@ -45,7 +45,7 @@ unfolding second_row grammar_rows table leading_table plain_table telling_image 
     or_else refuse_if pair_is directory counts count_wrong map_from move_off rule_bad index_class rules_refusal_from rule_count image_refusal
     judge_step step_by_mode look unwind unwound clear cleared closed first_look resumed cell_note reached started chain start_state verdict_of registers_at
     run_on run_step spent_or exit_verdict stop_verdict termination_verdict accepts_by
-    Grammar.rules Grammar.kind-of Grammar.b-of Grammar.c-of Grammar.expression-by Grammar.expression Grammar.range-of Grammar.rule_right Grammar.grammar-rules-from Grammar.grammar-refusal
+    Grammar.rules Grammar.kind_of Grammar.b_of Grammar.c_of Grammar.expression_by Grammar.expression Grammar.range_of Grammar.rule_right Grammar.grammar_rules_from Grammar.grammar_refusal
     cuts_at cut_from cut class_of class_count class_in
     rows by_state select on_byte row_zero class_inside rows_at made
     symbols_of built_rules rules_made map_made parts built

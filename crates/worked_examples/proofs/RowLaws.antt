@@ -97,7 +97,7 @@ found_by r M x =
     record {
       source_refused = source_refusal r.source;
       image_refused = (image_refusal (image_of r.source)).number;
-      short = leb (length r.capture) Format.max-capture;
+      short = leb (length r.capture) Format.max_capture;
       bytes = all_bytes r.capture;
       verdict = verdict_of x.state.mode;
       readings = x.state.readings;

@@ -36,12 +36,12 @@ faulty text n p e =
 
 -- or by lines
 module _ (text : List ℕ) {ds : List Definition} (legal : LegalText text ds) where
-  lines : (gs : List ℕ) → Needs.later-refusal text ds ≡ no_refusal → Compile.grammar-of ds ≡ gs → ReadSays text (Grammar gs)
+  lines : (gs : List ℕ) → Needs.later_refusal text ds ≡ no_refusal → Compile.grammar_of ds ≡ gs → ReadSays text (Grammar gs)
   lines gs none e = subst (λ (hs : List ℕ). ReadSays text (Grammar hs)) e (read legal (ap (λ (f : Refusal). f.number) none))
 
-  later : (n p : ℕ) → Needs.later-refusal text ds ≡ refusal (suc n) p → ReadSays text (Refused (refusal (suc n) p))
+  later : (n p : ℕ) → Needs.later_refusal text ds ≡ refusal (suc n) p → ReadSays text (Refused (refusal (suc n) p))
   later n p e =
-      let some : (Needs.later-refusal text ds).number ≡ 0 → ⊥ = λ z. let is = ap (λ (f : Refusal). f.number) e in omega (arith, is, z) in
+      let some : (Needs.later_refusal text ds).number ≡ 0 → ⊥ = λ z. let is = ap (λ (f : Refusal). f.number) e in omega (arith, is, z) in
       subst (λ (f : Refusal). ReadSays text (Refused f)) e (refused legal some)
 
 abbrev any : Token
@@ -50,18 +50,18 @@ any = sign (Operand AnyByte)
 -- TREES: an operand alone, in four brackets, four dots before others; a line
 module _ {d : ℕ} {ts us : List Token} {e : Tree} where
   alone : Derives operand d ts e us → Derives choices d ts e us
-  alone x = Derives.last-choice (Derives.last-part (Derives.no-prefix (Derives.no-suffix x)))
+  alone x = Derives.last_choice (Derives.last_part (Derives.no_prefix (Derives.no_suffix x)))
 
   dot : Derives parts d ts e us → Derives parts d (any ∷ ts) (sequence (leaf AnyByte) e) us
-  dot x = Derives.more_parts (Derives.no-prefix (Derives.no-suffix Derives.a-leaf)) x
+  dot x = Derives.more_parts (Derives.no_prefix (Derives.no_suffix Derives.a_leaf)) x
 
 not_dot :
     {d : ℕ} {ts us : List Token} {e : Tree} → Derives parts d ts e us →
     Derives parts d (sign (Before NotPredicate) ∷ any ∷ ts) (sequence (prefixed NotPredicate (leaf AnyByte)) e) us
-not_dot x = Derives.more_parts (Derives.a-prefix (Derives.no-prefix (Derives.no-suffix Derives.a-leaf))) x
+not_dot x = Derives.more_parts (Derives.a_prefix (Derives.no_prefix (Derives.no_suffix Derives.a_leaf))) x
 
 last_dot : {d : ℕ} {us : List Token} → Derives parts d (any ∷ us) (leaf AnyByte) us
-last_dot = Derives.last-part (Derives.no-prefix (Derives.no-suffix Derives.a-leaf))
+last_dot = Derives.last_part (Derives.no_prefix (Derives.no_suffix Derives.a_leaf))
 
 one_line : {n : List ℕ} {ts : List Token} {e : Tree} → Derives choices max_depth ts e (sign Semicolon ∷ []) →
     Legal max_depth (name n ∷ sign Equals ∷ ts) (record { letters = n; body = e } ∷ [])
@@ -73,7 +73,7 @@ two_lines :
     Legal max_depth (name n ∷ sign Equals ∷ ts) (record { letters = n; body = e } ∷ record { letters = m; body = f } ∷ [])
 two_lines x y other =
     record {
-      reads = Reads.more-lines x (Reads.last_Line y);
+      reads = Reads.more_lines x (Reads.last_Line y);
       distinct = Distinct.cons (λ m. other (Memᴰ.eq_of_singleton m)) (Distinct.cons Memᴰ.not-nil Distinct.nil);
     }
 
@@ -94,22 +94,22 @@ four_dots x = dot (dot (dot (dot x)))
 -- THE TABLES
 pub text_examples : Each ReadSo read_table × Each ReadSo refused_table
 unfolding ReadSo read_table refused_table bytes_of any_bytes chained or_else refuse_if
-    Tokens.lexemes Tokens.lexemes-from Tokens.tokens Tokens.skipped Tokens.token-at Tokens.letter Tokens.word Tokens.same Tokens.letters
-    Tokens.width-at Tokens.range-there Tokens.sign_of
-    Faults.fault Faults.first-wrong Faults.next Faults.to-if Faults.not_in Faults.is-equals Faults.by_sign Faults.defined-after Faults.name_of
-    Faults.at_end Faults.first-undefined Faults.undefined-in
-    Needs.later-refusal Needs.needs Needs.line-need Needs.need Needs.prefix-need
-    Compile.grammar-of Compile.all-rules Compile.named-from Compile.helpers-from Compile.line-rule Compile.line-helpers Compile.top-rule
-    Compile.top-helpers Compile.compile Compile.compile-leaf Compile.place Compile.own-rules Compile.own-number Compile.index_of Compile.encode
-    Compile.rule-bytes
+    Tokens.lexemes Tokens.lexemes_from Tokens.tokens Tokens.skipped Tokens.token_at Tokens.letter Tokens.word Tokens.same Tokens.letters
+    Tokens.width_at Tokens.range_there Tokens.sign_of
+    Faults.fault Faults.first_wrong Faults.next Faults.to_if Faults.not_in Faults.is_equals Faults.by_sign Faults.defined_after Faults.name_of
+    Faults.at_end Faults.first_undefined Faults.undefined_in
+    Needs.later_refusal Needs.needs Needs.line_need Needs.need Needs.prefix_need
+    Compile.grammar_of Compile.all_rules Compile.named_from Compile.helpers_from Compile.line_rule Compile.line_helpers Compile.top_rule
+    Compile.top_helpers Compile.compile Compile.compile_leaf Compile.place Compile.own_rules Compile.own_number Compile.index_of Compile.encode
+    Compile.rule_bytes
 text_examples = (
-  cons (answered _ (lines _ (one_line (alone Derives.a-range)) _ refl refl))
-      (cons (answered _ (lines _ (one_line (alone Derives.a-range)) _ refl refl))
-      (cons (answered _ (lines _ (one_line (alone Derives.a-range)) _ refl refl))
-      (cons (answered _ (lines _ (one_line (alone Derives.a-leaf)) _ refl refl))
-      (cons (answered _ (lines _ (two_lines (alone Derives.a-name) (alone Derives.a-leaf) apart) _ refl refl))
-      (cons (answered _ (lines _ (one_line (alone (four_brackets (four_brackets (four_brackets (four_brackets Derives.a-leaf)))))) _ refl refl))
-      (cons (answered _ (lines _ (one_line (Derives.last-choice (four_dots (four_dots (four_dots (dot (dot (dot last_dot)))))))) _ refl refl)) nil)))))),
+  cons (answered _ (lines _ (one_line (alone Derives.a_range)) _ refl refl))
+      (cons (answered _ (lines _ (one_line (alone Derives.a_range)) _ refl refl))
+      (cons (answered _ (lines _ (one_line (alone Derives.a_range)) _ refl refl))
+      (cons (answered _ (lines _ (one_line (alone Derives.a_leaf)) _ refl refl))
+      (cons (answered _ (lines _ (two_lines (alone Derives.a_name) (alone Derives.a_leaf) apart) _ refl refl))
+      (cons (answered _ (lines _ (one_line (alone (four_brackets (four_brackets (four_brackets (four_brackets Derives.a_leaf)))))) _ refl refl))
+      (cons (answered _ (lines _ (one_line (Derives.last_choice (four_dots (four_dots (four_dots (dot (dot (dot last_dot)))))))) _ refl refl)) nil)))))),
   cons (answered _ (faulty _ 14 0 refl))
       (cons (answered _ (faulty _ 14 2 refl))
       (cons (answered _ (faulty _ 14 2 refl))
@@ -118,8 +118,8 @@ text_examples = (
       (cons (answered _ (faulty _ 14 4 refl))
       (cons (answered _ (faulty _ 14 3 refl))
       (cons (answered _ (faulty _ 14 4 refl))
-      (cons (answered _ (later _ (one_line (alone Derives.a-name)) 14 2 refl))
+      (cons (answered _ (later _ (one_line (alone Derives.a_name)) 14 2 refl))
       (cons (answered _ (faulty _ 14 5 refl))
       (cons (answered _ (faulty _ 16 18 refl))
-      (cons (answered _ (later _ (one_line (Derives.last-choice (not_dot (four_dots (four_dots (four_dots (dot (dot last_dot)))))))) 15 20 refl)) nil))))))))))),
+      (cons (answered _ (later _ (one_line (Derives.last_choice (not_dot (four_dots (four_dots (four_dots (dot (dot last_dot)))))))) 15 20 refl)) nil))))))))))),
 )

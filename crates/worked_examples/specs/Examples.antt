@@ -58,7 +58,7 @@ marker_parts r =
       classes = 1;
       symbols = 1;
       finals = 0;
-      class_map = replicate Format.map-length 0;
+      class_map = replicate Format.map_length 0;
       rules = no_rule ∷ r ∷ no_rule ∷ [];
     }
 
@@ -67,7 +67,7 @@ marker_image r = encode (marker_parts r)
 
 -- C10's: it pops and stays
 abbrev pub popping_image : List ℕ
-popping_image = marker_image (rule Format.kind-pop 0 0 Format.pop-stay)
+popping_image = marker_image (rule Format.kind_pop 0 0 Format.pop_stay)
 
 -- the grammars, in hex; 97 and 98 are the bytes 61 and 62
 -- 04000000

@@ -31,7 +31,7 @@ telling_image =
       symbols = 1;
       finals = 0;
       class_map = replicate 97 0 ++ (1 ∷ []) ++ replicate 158 0;
-      rules = no_rule ∷ rule 4 0 0 0 ∷ rule Format.kind-change 0 0 Format.direction-right ∷ no_rule ∷ [];
+      rules = no_rule ∷ rule 4 0 0 0 ∷ rule Format.kind_change 0 0 Format.direction_right ∷ no_rule ∷ [];
     })
 
 -- by the verdict at a rule of kind 4, with readings, end configuration and steps: the two stops on one path differ in the verdict alone

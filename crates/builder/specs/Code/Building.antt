@@ -24,7 +24,7 @@ pub record Planned (gs : List ℕ) (p : Plan) : Type 0 where
 
 pub record Short (gs : List ℕ) (n : ℕ) : Type 0 where
   pub good : (grammar_refusal gs).number ≡ 0
-  pub fits : n ≤ Format.max-capture
+  pub fits : n ≤ Format.max_capture
 
 -- a buffer of exactly the image's length
 pub record BufferReady (gs : List ℕ) (p : Plan) (image : List ℕ) : Type 0 where

@@ -26,7 +26,7 @@ pub record Few (k : ℕ) (e : Expression) : Type 0 where
 
 -- whether a class is in a range, by the class map of an image
 unfoldable pub class_between : (image : List ℕ) → (low high class : ℕ) → Bool
-class_between bs b c k = leb b c && (leb (byte bs (Format.map-offset + b)) k && leb k (byte bs (Format.map-offset + c)))
+class_between bs b c k = leb b c && (leb (byte bs (Format.map_offset + b)) k && leb k (byte bs (Format.map_offset + c)))
 
 unfoldable pub inside_by : (image : List ℕ) → (classes : ℕ) → ByteRange → (class : ℕ) → Bool
 inside_by bs n Nothing k = false
@@ -35,9 +35,9 @@ inside_by bs n (Between b c) k = ltb k n && class_between bs b c k
 -- an image with its class map, for a grammar that is not refused
 pub record RowsReady (gs image : List ℕ) (classes : ℕ) : Type 0 where
   pub good : (grammar_refusal gs).number ≡ 0
-  pub long : Format.rules-offset ≤ length image
+  pub long : Format.rules_offset ≤ length image
   pub classes_are : classes ≡ class_count gs
-  pub map : (v : ℕ) → v < Format.map-length → byte image (Format.map-offset + v) ≡ class_of gs v
+  pub map : (v : ℕ) → v < Format.map_length → byte image (Format.map_offset + v) ≡ class_of gs v
 
 -- the same, and a rule of the grammar
 pub record RuleReady (gs image : List ℕ) (classes k : ℕ) : Type 0 where
@@ -68,8 +68,8 @@ pub record WriteReady (gs image : List ℕ) (classes count : ℕ) : Type 0 where
 
 -- the image with one rule written at its index
 abbrev pub with_rule : (image : List ℕ) → (i : ℕ) → RuleBytes → List ℕ
-with_rule image i r = written image (Format.rules-offset + Format.rule-length * i) (r.kind ∷ r.state ∷ r.symbol ∷ r.direction ∷ [])
+with_rule image i r = written image (Format.rules_offset + Format.rule_length * i) (r.kind ∷ r.state ∷ r.symbol ∷ r.direction ∷ [])
 
 -- the image with its rules, after what stands before them
 abbrev pub with_rules : Matching → (gs image : List ℕ) → List ℕ
-with_rules how gs image = take Format.rules-offset image ++ rules_bytes (rules_made (made how gs) (built_rules gs) 0 gs)
+with_rules how gs image = take Format.rules_offset image ++ rules_bytes (rules_made (made how gs) (built_rules gs) 0 gs)

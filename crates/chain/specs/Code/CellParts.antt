@@ -5,5 +5,5 @@ use Rattle.image.specs.Format
 
 -- head and symbol have room in a note
 pub record NoteFits (c : Config) : Type 0 where
-  pub head_low : c.head < Format.max-places
-  pub symbol_low : c.symbol < Format.max-symbols
+  pub head_low : c.head < Format.max_places
+  pub symbol_low : c.symbol < Format.max_symbols

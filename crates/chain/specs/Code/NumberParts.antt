@@ -15,13 +15,13 @@ pub record Constants (e : Environment) : Type 0 where
   pub stride_is : e.stride ≡ e.sizes.places * e.sizes.symbols
   pub reciprocals_are : e.reciprocals ≡ reciprocals_by e.sizes.symbols (e.sizes.places * e.sizes.symbols)
   pub symbols_some : 0 < e.sizes.symbols
-  pub symbols_most : e.sizes.symbols ≤ Format.max-symbols
+  pub symbols_most : e.sizes.symbols ≤ Format.max_symbols
   pub places_some : 0 < e.sizes.places
-  pub places_most : e.sizes.places ≤ Format.max-places
+  pub places_most : e.sizes.places ≤ Format.max_places
 
 -- a configuration within these counts
 pub record ConfigBelow (e : Environment) (c : Config) : Type 0 where
-  pub state_low : c.state < Format.max-states
+  pub state_low : c.state < Format.max_states
   pub head_below : c.head < e.sizes.places
   pub symbol_below : c.symbol < e.sizes.symbols
 
@@ -43,4 +43,4 @@ pub record Moves (e : Environment) (k : ℕ) (at c : Config) : Type 0 where
 -- k can be taken apart
 pub record Apart (e : Environment) (k : ℕ) : Type 0 where
   pub constants : Constants e
-  pub below : k < Format.max-states * e.sizes.places * e.sizes.symbols
+  pub below : k < Format.max_states * e.sizes.places * e.sizes.symbols

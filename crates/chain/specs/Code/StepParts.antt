@@ -32,21 +32,21 @@ Newest e ns ws t = 0 < t → OpenAt e ns ws (t - 1)
 pub record PopReady (e : Environment) (d : Config) (k row state head depth : ℕ) (notes work : List ℕ) : Type 0 where
   pub terminator : Numbered e d k
   pub row_is : row ≡ head * e.sizes.symbols
-  pub state_low : state < Format.max-states
+  pub state_low : state < Format.max_states
   pub head_below : head < e.sizes.places
   pub newest : Newest e notes work depth
 
 -- an entry with this pointer can be popped by d, if the action is a pop
 pub record Resumable (e : Environment) (d : Config) (k : ℕ) (a : Action) (pointer depth : ℕ) (notes work : List ℕ) : Type 0 where
   pub terminator : Numbered e d k
-  pub state_low : (p : ℕ) (b : Bool) → a ≡ Pop p b → p < Format.max-states
+  pub state_low : (p : ℕ) (b : Bool) → a ≡ Pop p b → p < Format.max_states
   pub pointer_below : pointer < e.sizes.places
   pub newest : Newest e notes work depth
 
 -- the configuration looked at can be opened: it has its cells, and depth and count fit 32 bits
 pub record Openable (r : Registers) (notes work : List ℕ) : Type 0 where
-  pub head_low : r.at.head < Format.max-places
-  pub symbol_low : r.at.symbol < Format.max-symbols
+  pub head_low : r.at.head < Format.max_places
+  pub symbol_low : r.at.symbol < Format.max_symbols
   pub note_there : r.number < length notes
   pub work_there : r.depth < length work
   pub depth_room : r.depth + 1 < u32_end
@@ -55,7 +55,7 @@ pub record Openable (r : Registers) (notes work : List ℕ) : Type 0 where
 -- it can pop into a state: it is unseen, and note and count fit 32 bits
 pub record Poppable (e : Environment) (r : Registers) (state : ℕ) (notes work : List ℕ) : Type 0 where
   pub own : Numbered e r.at r.number
-  pub state_low : state < Format.max-states
+  pub state_low : state < Format.max_states
   pub newest : Newest e notes work r.depth
   pub unseen : get_or notes r.number 0 ≡ 0
   pub number_room : r.number + 2 < u32_end

@@ -22,7 +22,7 @@ use Rattle.interpreter.specs.Calls.{answer}
 
 -- a cell holds one entry: its pointer times the most symbols, and its symbol
 abbrev pub cell_symbols : ℕ
-cell_symbols = Format.max-symbols
+cell_symbols = Format.max_symbols
 
 unfoldable pub cell_of : (symbol pointer : ℕ) → ℕ
 cell_of a i = i * cell_symbols + a
@@ -104,23 +104,23 @@ max_steps = 4294967295
 -- an entry that fits a cell, a cell for it, and one more step to count
 pub record PushReady (s : RunState) (ks : List ℕ) : Type 0 where
   pub more : s.steps < max_steps
-  pub head_few : s.at.head < Format.max-places
-  pub pointer_few : s.pointer < Format.max-places
+  pub head_few : s.at.head < Format.max_places
+  pub pointer_few : s.pointer < Format.max_places
   pub symbol_few : s.at.symbol < cell_symbols
   pub room : s.below < length ks
 
 pub record PopReady (state : ℕ) (s : RunState) (ks : List ℕ) : Type 0 where
   pub ready : PushReady s ks
-  pub state_few : state < Format.max-states
+  pub state_few : state < Format.max_states
 
 pub record TakeReady (a : Action) (s : RunState) (ks : List ℕ) : Type 0 where
   pub ready : PushReady s ks
-  pub pops : (p : ℕ) (r : Bool) → a ≡ Pop p r → p < Format.max-states
+  pub pops : (p : ℕ) (r : Bool) → a ≡ Pop p r → p < Format.max_states
 
 pub record PlainStepReady (bs cs : List ℕ) (z : Sizes) (finals budget : ℕ) (s : RunState) (ks : List ℕ) : Type 0 where
   pub unrefused : Unrefused bs cs
   pub counts : z ≡ sizes_of bs cs
-  pub finals_are : finals ≡ u32_at bs Format.finals-offset
+  pub finals_are : finals ≡ u32_at bs Format.finals_offset
   pub within : s.steps ≤ budget
   pub ready : StackReady (machine bs cs) s ks
 

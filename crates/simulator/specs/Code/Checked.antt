@@ -22,9 +22,9 @@ pub record Cleared (bs cs notes work : List ℕ) : Type 0 where
 -- counts that some have, and few enough for their product to fit 32 bits
 pub record FewEnough (s : Sizes) : Type 0 where
   pub symbols_some : 0 < s.symbols
-  pub symbols_most : s.symbols ≤ Format.max-symbols
+  pub symbols_most : s.symbols ≤ Format.max_symbols
   pub places_some : 0 < s.places
-  pub places_most : s.places ≤ Format.max-places
+  pub places_most : s.places ≤ Format.max_places
 
 -- so many cells are needed for image and capture, which are not refused
 pub record Sized (bs cs : List ℕ) (cells : ℕ) : Type 0 where

@@ -15,7 +15,7 @@ unfolding class_between
 returns_2 c = simp (lt-ltb _ _ c.before.if1.false, lt-leb _ _ c.if2.true)
 
 cast_first : tie.Need-overflow-cast-first
-cast_first c = omega (arith, c.shared-slice-known.given (Format.map-offset + c.before.before.before.args.low))
+cast_first c = omega (arith, c.shared-slice-known.given (Format.map_offset + c.before.before.before.args.low))
 
 returns_3 : tie.Need-returns-3
 unfolding class_between
@@ -29,7 +29,7 @@ returns_3 c =
 cast_last : tie.Need-overflow-cast-last
 cast_last c =
     let tested = c.before.before.before in
-    omega (arith, c.shared-slice-known2.given (Format.map-offset + tested.before.before.args.high))
+    omega (arith, c.shared-slice-known2.given (Format.map_offset + tested.before.before.args.high))
 
 returns_4 : tie.Need-returns-4
 unfolding class_between

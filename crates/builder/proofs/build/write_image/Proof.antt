@@ -47,7 +47,7 @@ write_rules_requires c κs =
     let gs = start.args.grammar.now in
     let header = after_header.write-header in
     let map = After-map.write-map in
-    let room : Format.rules-offset ≤ length header.new.0 = omega (arith, header.auto.0, start.requires.long, length_is gs) in (
+    let room : Format.rules_offset ≤ length header.new.0 = omega (arith, header.auto.0, start.requires.long, length_is gs) in (
       ready_after gs header.new.0 map.new.1.0 _ start.requires.good start.requires.classes_are room map.auto.1.0
           (map_front gs header.new.0 map.new.1.0 room map.ensures),
       record {
@@ -75,8 +75,8 @@ returns c =
     let gs = start.args.grammar.now in
     let header = after_header.write-header in
     let map = After-map.write-map in
-    let room : Format.rules-offset ≤ length header.new.0 = omega (arith, header.auto.0, start.requires.long, length_is gs) in
-    let before : Format.map-offset ≤ length start.args.image.now = omega (arith, start.requires.long, length_is gs) in
+    let room : Format.rules_offset ≤ length header.new.0 = omega (arith, header.auto.0, start.requires.long, length_is gs) in
+    let before : Format.map_offset ≤ length start.args.image.now = omega (arith, start.requires.long, length_is gs) in
     image_whole _ gs start.args.image.now header.new.0 map.new.1.0 after_rules.write-rules.new.1.0
     _ _ _ start.requires.count_is start.requires.classes_are counted.symbol-count.ensures before header.ensures
     (map_front gs header.new.0 map.new.1.0 room map.ensures) after_rules.write-rules.ensures

@@ -9,7 +9,7 @@ use Rattle.builder.proofs.rows.change.Statement.{statement}
 use Rattle.builder.proofs.rows.change.Tie as tie
 
 returns : tie.Need-returns
-returns c = ap (λ (a : ℕ). rule Format.kind-change state_work a Format.direction-stay) (omega arith)
+returns c = ap (λ (a : ℕ). rule Format.kind_change state_work a Format.direction_stay) (omega arith)
 
 pub change_spec : {M : Type 1} → statement M
 change_spec = tie.close (tie.spec (λ c. search rules) (λ c. search rules) returns)

@@ -9,7 +9,7 @@ use Rattle.builder.proofs.rows.one_byte.Statement.{statement}
 use Rattle.builder.proofs.rows.one_byte.Tie as tie
 
 returns : tie.Need-returns
-returns c = simp c.if1.true (ap (λ (a : ℕ). rule Format.kind-change state_ok a Format.direction-right) (omega arith))
+returns c = simp c.if1.true (ap (λ (a : ℕ). rule Format.kind_change state_ok a Format.direction_right) (omega arith))
 
 returns_2 : tie.Need-returns-2
 returns_2 c = simp c.if1.false

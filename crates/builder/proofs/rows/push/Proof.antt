@@ -9,7 +9,7 @@ use Rattle.builder.proofs.rows.push.Statement.{statement}
 use Rattle.builder.proofs.rows.push.Tie as tie
 
 returns : tie.Need-returns
-returns c = ap (λ (a : ℕ). rule Format.kind-push state_work a Format.direction-stay) (omega arith)
+returns c = ap (λ (a : ℕ). rule Format.kind_push state_work a Format.direction_stay) (omega arith)
 
 pub push_spec : {M : Type 1} → statement M
 push_spec = tie.close (tie.spec (λ c. search rules) (λ c. search rules) returns)

@@ -25,7 +25,7 @@ popping_requires c κs =
     start.requires.pops _ _ c.before.before.before.action4.given.1
 
 returns : tie.Need-returns
-unfolding Step.first-look
+unfolding Step.first_look
 returns c =
     let opening = c.before.before.before.before in
     let opening4 = opening.before.before.before.before in
@@ -34,7 +34,7 @@ returns c =
     record { is = rw (opening4.before.action.given.1, sym opening.before.before.before.stop-verdict.ensures) (opening.opened.ensures.is start.args.e start.requires.own.is) }
 
 returns_2 : tie.Need-returns-2
-unfolding Step.first-look
+unfolding Step.first_look
 returns_2 c =
     let opening = c.before.before.before.before in
     let opening4 = opening.before.before.before.before in
@@ -43,7 +43,7 @@ returns_2 c =
     record { is = rw opening4.before.action2.given.1 (opening.opened2.ensures.is start.args.e opening.before.before.before.moved-number.ensures) }
 
 returns_3 : tie.Need-returns-3
-unfolding Step.first-look
+unfolding Step.first_look
 returns_3 c =
     let opening = c.before.before.before.before in
     let opening4 = opening.before.before.before.before in

@@ -29,7 +29,7 @@ add_result : tie.Need-overflow-add-result
 add_result c = let start = c.before.before in omega (arith, index_few start.requires)
 
 returns : tie.Need-returns
-returns c = ap (λ (i : ℕ). Format.rules-offset + Format.rule-length * i) (index_is c.before.before.requires)
+returns c = ap (λ (i : ℕ). Format.rules_offset + Format.rule_length * i) (index_is c.before.before.requires)
 
 pub rule_offset_spec : {M : Type 1} → statement M
 rule_offset_spec =

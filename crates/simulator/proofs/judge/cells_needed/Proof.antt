@@ -14,13 +14,13 @@ shared_slice_read_states : tie.Need-shared-slice-read-states
 shared_slice_read_states c = omega (arith, (good (some_capture _ _ c.before.requires.0 c.before.requires.1)).long)
 
 cast_states : tie.Need-overflow-cast-states
-cast_states c = omega (arith, c.shared-slice-known.given Format.states-offset)
+cast_states c = omega (arith, c.shared-slice-known.given Format.states_offset)
 
 shared_slice_read_symbols : tie.Need-shared-slice-read-symbols
 shared_slice_read_symbols c = omega (arith, (good (some_capture _ _ c.before.before.requires.0 c.before.before.requires.1)).long)
 
 cast_symbols : tie.Need-overflow-cast-symbols
-cast_symbols c = omega (arith, c.shared-slice-known2.given Format.symbols-offset)
+cast_symbols c = omega (arith, c.shared-slice-known2.given Format.symbols_offset)
 
 mul_result : tie.Need-overflow-mul-result
 unfolding states

@@ -24,7 +24,7 @@ returns_2 c =
 rules_requires : tie.Need-rules-requires
 rules_requires c κs =
     let at_length = c.before.before.before in
-    let rules : ℕ → ℕ = λ n. Format.rules-offset + Format.rule-length * n in
+    let rules : ℕ → ℕ = λ n. Format.rules_offset + Format.rule_length * n in
     record {
       some_symbol = at_length.before.before.before.requires.some_symbol;
       length_is = at_length.if1.false ∙ ap rules at_length.before.rule-count.ensures;
@@ -34,7 +34,7 @@ returns_3 : tie.Need-returns-3
 unfolding or_else
 returns_3 c =
     let at_length = c.before.before.before.before in
-    let rules : ℕ → ℕ = λ n. Format.rules-offset + Format.rule-length * n in
+    let rules : ℕ → ℕ = λ n. Format.rules_offset + Format.rule_length * n in
     simp (
       eq-eqb _ _ (at_length.if1.false ∙ ap rules at_length.before.rule-count.ensures),
       ← c.before.before.before.class_map.ensures,

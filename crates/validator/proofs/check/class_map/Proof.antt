@@ -9,10 +9,10 @@ use Rattle.validator.proofs.check.class_map.Statement.{statement}
 use Rattle.validator.proofs.check.class_map.Tie as tie
 
 abbrev invariant_loop : tie.invariant-loop
-invariant_loop image classes at₀ at = (at ≤ Format.rules-offset) × MapLeft image at
+invariant_loop image classes at₀ at = (at ≤ Format.rules_offset) × MapLeft image at
 
 abbrev decreases_loop : tie.decreases-loop
-decreases_loop image classes at₀ at = Format.rules-offset - at
+decreases_loop image classes at₀ at = Format.rules_offset - at
 
 loop_holds : tie.Need-loop-init invariant_loop decreases_loop
 loop_holds c = (omega arith, refl)

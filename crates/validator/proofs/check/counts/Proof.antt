@@ -64,7 +64,7 @@ within_requires c κs =
     let before_ore_end = before_end.before.before.before.before in
     let at_if1 = before_ore_end.before in
     let at_count_wrong = at_if1.before in
-    (count_right _ Format.max-states
+    (count_right _ Format.max_states
     (sym at_count_wrong.count-wrong.ensures ∙ at_if1.if1.false)).1
 
 returns_5 : tie.Need-returns-5

@@ -10,14 +10,14 @@ use Rattle.validator.proofs.rule_check.move_off.Statement.{statement}
 use Rattle.validator.proofs.rule_check.move_off.Tie as tie
 
 cast_left : tie.Need-overflow-cast-left
-cast_left c = omega (arith, c.shared-slice-known.given Format.classes-offset)
+cast_left c = omega (arith, c.shared-slice-known.given Format.classes_offset)
 
 returns : tie.Need-returns
 unfolding move_off classes
 returns c = at_left _ _ c.before.before.args.direction c.if1.true
 
 add_right : tie.Need-overflow-add-right
-add_right c = omega (arith, c.before.shared-slice-known.given Format.classes-offset)
+add_right c = omega (arith, c.before.shared-slice-known.given Format.classes_offset)
 
 returns_2 : tie.Need-returns-2
 unfolding move_off classes

@@ -19,13 +19,13 @@ abbrev decreases_loop : tie.decreases-loop
 decreases_loop image columns symbols s₀ at₀ s at = length image - at
 
 cast_columns : tie.Need-overflow-cast-columns invariant_loop decreases_loop
-cast_columns c = omega (arith, c.shared-slice-known2.given Format.classes-offset)
+cast_columns c = omega (arith, c.shared-slice-known2.given Format.classes_offset)
 
 add_columns : tie.Need-overflow-add-columns invariant_loop decreases_loop
-add_columns c = omega (arith, c.shared-slice-known2.given Format.classes-offset)
+add_columns c = omega (arith, c.shared-slice-known2.given Format.classes_offset)
 
 cast_symbols : tie.Need-overflow-cast-symbols invariant_loop decreases_loop
-cast_symbols c = omega (arith, c.shared-slice-known3.given Format.symbols-offset)
+cast_symbols c = omega (arith, c.shared-slice-known3.given Format.symbols_offset)
 
 loop_holds : tie.Need-loop-init invariant_loop decreases_loop
 loop_holds c = left_as c.first.ensures (rules_start _ c.before.before.before.before.requires.some_symbol)
@@ -61,7 +61,7 @@ next_requires c κs =
     let at_symbols = at_loop.before.before in
     let at_start = at_symbols.before.before.before in
     let bytes = at_symbols.shared-slice-known3.given in
-    let few = three_counts _ _ _ (bytes Format.states-offset).fits (bytes Format.classes-offset).fits (bytes Format.symbols-offset).fits in
+    let few = three_counts _ _ _ (bytes Format.states_offset).fits (bytes Format.classes_offset).fits (bytes Format.symbols_offset).fits in
     rules_count _ _ _ at_loop.loop.invariant at_start.requires.length_is at_loop_test.loop-test.true (omega (arith, few))
 
 loop_again : tie.Need-loop-preserved invariant_loop decreases_loop
