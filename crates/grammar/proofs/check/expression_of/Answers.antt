@@ -1,6 +1,5 @@
 -- `grammar::check::expression_of` meets its contract: the first three of the rule's four bytes. Assumes nothing.
 use native.Mathlib.Omega.{arith}
-use borrow.Author.Rules.{rules}
 use Rattle.grammar.specs.Grammar.{rules, expression, kind_of, b_of, c_of}
 use Rattle.grammar.proofs.check.expression_of.Goals as goal
 

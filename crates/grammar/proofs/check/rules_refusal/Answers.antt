@@ -1,7 +1,6 @@
 -- `grammar::check::rules_refusal` meets its contract: the loop's invariant says that the rules left decide. Assumes nothing.
 use mathlib.Core.Path.{sym, ◌∙◌}
 use Prim.Native.Nat.{◌-◌}
-use borrow.Author.Tests.{not-true, not-false}
 use Rattle.grammar.specs.Grammar.{rules, kind_of, b_of, c_of}
 use Rattle.grammar.proofs.CodeGrammar.{check_start, check_stop, check_next, check_end}
 use Rattle.grammar.proofs.check.rules_refusal.Goals as goal
@@ -16,13 +15,13 @@ pub returns-then-not-right : goal.returns-then-not-right
 unfolding rules kind_of b_of c_of
 returns-then-not-right c =
     check_stop c.args.grammar.now c.loop-k.k c.loop-k.invariant c.loop-k-test.true
-    (sym c.right.ensures ∙ not-true _ c.if-not-right.true)
+    (sym c.right.ensures ∙ c.if-not-right.true)
 
 pub loop-k-preserved : goal.loop-k-preserved
 unfolding rules kind_of b_of c_of
 loop-k-preserved c =
     check_next c.args.grammar.now c.loop-k.k c.loop-k.invariant c.loop-k-test.true
-    (sym c.right.ensures ∙ not-false _ c.if-not-right.false)
+    (sym c.right.ensures ∙ c.if-not-right.false)
 
 pub returns : goal.returns
 unfolding rules
