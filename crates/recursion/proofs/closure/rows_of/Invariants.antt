@@ -1,0 +1,13 @@
+-- The invariants and measures of `recursion::closure::rows_of`.
+use Prim.Native.Nat.{◌-◌}
+use Rattle.recursion.proofs.Rows.{RowsSoFar}
+use Rattle.recursion.specs.Code.Sets.{member}
+use Rattle.recursion.specs.Computed.{leads_by}
+use Rattle.grammar.specs.Grammar.{expression}
+use Rattle.recursion.proofs.closure.rows_of.Given as goal
+
+abbrev pub invariant-loop-k : goal.invariant-loop-k
+invariant-loop-k l = RowsSoFar (λ j. leads_by (member l.nothing) (expression l.grammar j)) l.k l.rows
+
+abbrev pub decreases-loop-k : goal.decreases-loop-k
+decreases-loop-k l = l.count - l.k
