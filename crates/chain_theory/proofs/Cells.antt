@@ -63,10 +63,12 @@ pub data Stacked (M : Machine) (ns ws : List ℕ) : List Open → Type 0 where
       get_or ns (number M o.config) 0 ≡ open_note o.config o.pushed → Stacked M ns ws os → Stacked M ns ws (o ∷ os)
 
 pub among_there : {M : Machine} {ns ws : List ℕ} {os : List Open} {c : Config} → Stacked M ns ws os → Among c os → ValidConfig M c
+among_there {M = M} {ns = ns} {ws = ws} {c = c} nothing_open x3 = elim x3 [ ]
 among_there (one_open t w v l) here = t
 among_there (one_open t w v l) (later a) = among_there l a
 
 pub among_seen : {M : Machine} {ns ws : List ℕ} {os : List Open} → Stacked M ns ws os → (c : Config) → Among c os → Seen M ns c
+among_seen {M = M} {ns = ns} {ws = ws} nothing_open c x3 = elim x3 [ ]
 among_seen (one_open {o} t w v l) c here = open_seen o.config o.pushed v
 among_seen (one_open t w v l) c (later a) = among_seen l c a
 

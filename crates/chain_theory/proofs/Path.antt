@@ -154,6 +154,7 @@ module _ {M : Machine} {P : Config → Type 0} where
       {os : List Open} {e c : Config} {f : Bool} (p : Path M P os e f) → ((c : Config) → Among c os → P c) → Among c os →
       Along M P c e (path_steps p)
   unfolding path_steps
+  path_along {c = c} begin h x8 = elim x8 [ ]
   path_along (on {c = d} p l) h here =
       record {
         before = path_steps p;

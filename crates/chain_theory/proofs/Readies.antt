@@ -24,7 +24,7 @@ use Rattle.chain.specs.Chain.{environment_of}
 use Rattle.chain.specs.Code.Ready.{OpenAt, OpenFor, Ready}
 use Rattle.chain_theory.proofs.Path.{Open, Among, here, later}
 use Rattle.chain_theory.proofs.Again.{DistinctOpen, one_more}
-use Rattle.chain_theory.proofs.Cells.{Seen, Stacked, one_open, Cell, unseen, still_open, closed}
+use Rattle.chain_theory.proofs.Cells.{Seen, Stacked, one_open, Cell, unseen, still_open, closed, nothing_open}
 use Rattle.chain_theory.proofs.Invariant.{Fitted, Shared, Phase, looking, unwinding, clearing, done, ChainInvariant}
 use Rattle.chain_theory.proofs.Shares.{number_agrees}
 use Rattle.chain_theory.proofs.StepNumber.{NumberBeside}
@@ -38,7 +38,8 @@ record Named (M : Machine) (os : List Open) (ns ws : List ℕ) (j : ℕ) : Type 
   number_is : get_or ws j 0 ≡ number M config
   note_is : get_or ns (number M config) 0 ≡ open_note config pushed
 
-named_at : {M : Machine} {os : List Open} {ns ws : List ℕ} → Stacked M ns ws os → (j : ℕ) → j < length os → Named M os ns ws j
+named_at : {M : Machine} {ns ws : List ℕ} {os : List Open} → Stacked M ns ws os → (j : ℕ) → j < length os → Named M os ns ws j
+named_at {M = M} {ns = ns} {ws = ws} nothing_open j h = elim h [ ]
 named_at {M} {ns = ns} {ws = ws} (one_open {o} {os} t w v l) j h = go (ℕ_discrete j (length os)) (λ i. named_at l j i)
   where
     go : Dec (j ≡ length os) → (j < length os → Named M os ns ws j) → Named M (o ∷ os) ns ws j
@@ -49,8 +50,9 @@ named_at {M} {ns = ns} {ws = ws} (one_open {o} {os} t w v l) j h = go (ℕ_discr
 
 -- no two cells name the same one
 named_once :
-    {M : Machine} {os : List Open} {ns ws : List ℕ} → Stacked M ns ws os → DistinctOpen os → (i j : ℕ) → i < j → j < length os →
+    {M : Machine} {ns ws : List ℕ} {os : List Open} → Stacked M ns ws os → DistinctOpen os → (i j : ℕ) → i < j → j < length os →
     get_or ws i 0 ≡ get_or ws j 0 → ⊥
+named_once {M = M} {ns = ns} {ws = ws} nothing_open _ i j less h e = elim h [ ]
 named_once {M} {ns = ns} {ws = ws} (one_open {o} {os} t w v l) (one_more fresh ds) i j less h e = go (ℕ_discrete j (length os)) (λ b. named_once l ds i j less b e)
   where
     go : Dec (j ≡ length os) → (j < length os → ⊥) → ⊥
@@ -60,7 +62,8 @@ named_once {M} {ns = ns} {ws = ws} (one_open {o} {os} t w v l) (one_more fresh d
         fresh (subst (λ (c : Config). Among c os) (number_injective n.there t same) n.among)
     go (no q) older = older (omega arith)
 
-among_open : {M : Machine} {os : List Open} {ns ws : List ℕ} {c : Config} → Stacked M ns ws os → Among c os → (b : Bool) × (get_or ns (number M c) 0 ≡ open_note c b)
+among_open : {M : Machine} {ns ws : List ℕ} {os : List Open} {c : Config} → Stacked M ns ws os → Among c os → (b : Bool) × (get_or ns (number M c) 0 ≡ open_note c b)
+among_open {M = M} {ns = ns} {ws = ws} {c = c} nothing_open x3 = elim x3 [ ]
 among_open (one_open {o} t w v l) here = (o.pushed, v)
 among_open (one_open t w v l) (later a) = among_open l a
 
