@@ -83,8 +83,8 @@ pub record Parted (L : ℕ) (ns : List (List ℕ)) (r : Spot) (ts us : List Toke
 
 pub parted : {L : ℕ} {ns os : List (List ℕ)} {r u : Spot} (ts us : List Token) → Run L ns r (ts ++ us) os u → Parted L ns r ts us os u
 parted [] us x = record { names = _; spot = _; before = stay; later = x }
-parted (t ∷ ts) us (move m x) =
-    let rest = parted ts us x in
+parted {ns = ns} {r = r} (t ∷ ts) us (move m x) =
+    let rest = parted {ns = defined_after ns r t} ts us x in
     record { names = rest.names; spot = rest.spot; before = move m rest.before; later = rest.later }
 
 -- a list of tokens leads to one place, whatever the limits
@@ -128,10 +128,10 @@ outcome_opens :
 outcome_opens ns c k true e = goes_on (opens (ltb-true k max_depth e))
 outcome_opens ns c k false e =
     let h : max_depth ≤ k = ltb-false k max_depth e in
-    deeper (suc k) (omega arith) (opens {k = k} (omega arith)) (no_move h)
+    deeper (suc k) (omega arith) (opens {k = k} (omega arith)) (no_move c k h)
   where
-    no_move : max_depth ≤ k → (v : Spot) → Moves max_depth ns (inside c k) (sign Opening) v → ⊥
-    no_move h v (opens l) = omega arith
+    no_move : (c : Bool) (k : ℕ) → max_depth ≤ k → (v : Spot) → Moves max_depth ns (inside c k) (sign Opening) v → ⊥
+    no_move c k h v (opens l) = omega arith
 
 outcome_sign : (ns : List (List ℕ)) (s : Sign) (c : Bool) (k : ℕ) → Outcome ns (inside c k) (sign s) (by_sign s c k)
 unfolding by_sign to_if
@@ -146,11 +146,16 @@ outcome_sign ns Closing true zero = never (λ d u m. elim m [ ])
 outcome_sign ns Closing true (suc k) =
     let one_less : suc k - 1 ≡ k = omega arith in
     rw (lt-ltb 0 (suc k) (omega arith), one_less) (goes_on closes)
-outcome_sign ns Closing false k = never (λ d u m. elim m [ ])
-outcome_sign ns Equals c k = never (λ d u m. elim m [ ])
+outcome_sign ns Closing false zero = never (λ d u m. elim m [ ])
+outcome_sign ns Closing false (suc k) = never (λ d u m. elim m [ ])
+outcome_sign ns Equals true zero = never (λ d u m. elim m [ ])
+outcome_sign ns Equals true (suc k) = never (λ d u m. elim m [ ])
+outcome_sign ns Equals false zero = never (λ d u m. elim m [ ])
+outcome_sign ns Equals false (suc k) = never (λ d u m. elim m [ ])
 outcome_sign ns Semicolon true zero = goes_on ends
 outcome_sign ns Semicolon true (suc k) = rw (ne_eqb (suc k) 0 (λ e. omega arith)) (never (λ d u m. elim m [ ]))
-outcome_sign ns Semicolon false k = never (λ d u m. elim m [ ])
+outcome_sign ns Semicolon false zero = never (λ d u m. elim m [ ])
+outcome_sign ns Semicolon false (suc k) = never (λ d u m. elim m [ ])
 
 pub outcome : (ns : List (List ℕ)) (s : Spot) (t : Token) → Outcome ns s t (next ns s t)
 unfolding next
@@ -165,4 +170,7 @@ outcome ns at_equals unknown = never (λ d u m. elim m [ ])
 outcome ns (inside c k) (name n) = goes_on by_name
 outcome ns (inside c k) (sign s) = outcome_sign ns s c k
 outcome ns (inside c k) (range l h) = goes_on by_range
-outcome ns (inside c k) unknown = never (λ d u m. elim m [ ])
+outcome ns (inside true zero) unknown = never (λ d u m. elim m [ ])
+outcome ns (inside true (suc k)) unknown = never (λ d u m. elim m [ ])
+outcome ns (inside false zero) unknown = never (λ d u m. elim m [ ])
+outcome ns (inside false (suc k)) unknown = never (λ d u m. elim m [ ])

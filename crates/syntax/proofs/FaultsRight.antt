@@ -57,7 +57,7 @@ along :
     first_wrong ns s (before ++ ls) n ≡ first_wrong ms u ls n
 unfolding tokens first_wrong
 along [] ls n stay = refl
-along (l ∷ before) ls n (move m x) = rw (moves_next m, first_wrong) (along before ls n x)
+along {ns = ns} {s = s} (l ∷ before) ls n (move m x) = rw (moves_next m, first_wrong) (along {ns = defined_after ns s l.token} before ls n x)
 
 -- the fault, where a run comes to a lexeme that makes no move
 fault_there :
