@@ -6,7 +6,7 @@ ghost use Rattle.image.specs.Format.{map_offset, rules_offset, rule_length};
 ghost use Rattle.image.specs.Encoding.{header};
 ghost use Rattle.builder.specs.Table.{state_count, finals, rows_at};
 ghost use Rattle.builder.specs.Image.{built};
-ghost use Rattle.builder.specs.Calls.{build_refusal, BuildSays, room_refusal as room-refusal-of};
+ghost use Rattle.builder.specs.Calls.{build_refusal, BuildSays, room_refusal as room_refusal_of};
 ghost use Rattle.builder.specs.Code.Building.{Planned, BufferReady};
 ghost use Rattle.builder.specs.Code.Writing.{class_between, inside_by, RowsReady, RuleReady, PairReady, Picks, MadePair, WriteReady, with_rule, with_rules};
 
@@ -166,7 +166,7 @@ pub fn build_checked(grammar: &[u8], plan: Plan, image: &mut [u8], matching: Mat
 
 // Refusal 13: a buffer of so many bytes, for an image that is so long.
 pub fn room_refusal(long: usize, room: usize) -> Refusal
-    ensures { result ≡ room-refusal-of long room }
+    ensures { result ≡ room_refusal_of long room }
 {
     if room < long {
         Refusal {

@@ -1,7 +1,7 @@
 // Byte classes: the cuts of all ranges are marked, then one pass over the byte values counts the marks so far.
 ghost use Rattle.std.specs.Prelude.{◌≡◌, ◌++◌, ◌+◌, ◌<◌, ◌≤◌, length, take, drop};
 ghost use Rattle.image.specs.Format.{map_offset, map_length, rules_offset};
-ghost use Rattle.builder.specs.Classes.{class_count as class-count-of};
+ghost use Rattle.builder.specs.Classes.{class_count as class_count_of};
 ghost use Rattle.builder.specs.Image.{map_made};
 ghost use Rattle.builder.specs.Code.Marking.{MarksRange, MarksCuts, Unmarked};
 
@@ -44,7 +44,7 @@ fn mark_cuts(grammar: &[u8], marks: &mut [u8])
 
 // K, the count of classes.
 pub fn class_count(grammar: &[u8]) -> u32
-    ensures { result ≡ class-count-of grammar.now }
+    ensures { result ≡ class_count_of grammar.now }
 {
     let mut marks = [0u8; MAP_LENGTH];
     mark_cuts(grammar, &mut marks);

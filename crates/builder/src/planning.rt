@@ -3,7 +3,7 @@ ghost use Rattle.std.specs.Prelude.{◌≡◌, ◌+◌, ◌*◌, ◌≤◌, leng
 ghost use Rattle.image.specs.Format.{rules_offset};
 ghost use Rattle.grammar.specs.Grammar.{max_rules, grammar_refusal};
 ghost use Rattle.builder.specs.Image.{symbols_of, built_rules};
-ghost use Rattle.builder.specs.Code.Building.{plan_of as plan-by, Counted, Short, CellsAre};
+ghost use Rattle.builder.specs.Code.Building.{plan_of as plan_by, Counted, Short, CellsAre};
 
 use crate::Plan;
 use crate::byte_classes::class_count;
@@ -40,7 +40,7 @@ fn image_length(count: u32) -> usize
 // The plan of an image: its classes are counted once.
 pub fn plan_of(grammar: &[u8]) -> Plan
     requires { (grammar_refusal grammar.now).number ≡ 0 }
-    ensures { result ≡ plan-by grammar.now }
+    ensures { result ≡ plan_by grammar.now }
 {
     let classes = class_count(grammar);
     let count = rule_count(grammar, classes);

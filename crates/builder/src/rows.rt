@@ -1,7 +1,7 @@
 // The table: the rule of a grammar rule's first or second symbol in a state, and the rules of symbol 0.
 ghost use Rattle.std.specs.Prelude.{◌≡◌, Bool, true, false, ◌&&◌, cond, ℕ, ◌+◌, ◌*◌, ◌<◌, eqb};
 ghost use Rattle.grammar.specs.Grammar.{max_rules, PartsBelow};
-ghost use Rattle.builder.specs.Table.{push_first, to_second, pass_byte, pop_fail, row, rows, by_state, unruled as unruled-of, select as select-of, on_byte as on-byte-of, row_zero};
+ghost use Rattle.builder.specs.Table.{push_first, to_second, pass_byte, pop_fail, row, rows, by_state, unruled as unruled_of, select as select_of, on_byte as on_byte_of, row_zero};
 ghost use Rattle.builder.specs.Code.Writing.{rule_of, Few, Picks};
 
 use crate::{Matching, RuleBytes, RulePair};
@@ -110,7 +110,7 @@ fn one_byte(k: u8, inside: bool) -> RuleBytes
 
 // Whether a grammar rule's symbols have no rule in a state: start and done.
 pub fn unruled(state: u32) -> bool
-    ensures { result ≡ unruled-of state }
+    ensures { result ≡ unruled_of state }
 {
     if state < WORK as u32 {
         return true;
@@ -137,7 +137,7 @@ fn by_state(state: u32, work: RuleBytes, ok: RuleBytes, fail: RuleBytes) -> Rule
 // The rule of rule k's first symbol in a state; inside says of a range whether the class is in it.
 fn first_rule(e: Expression, k: u8, inside: bool, state: u32) -> RuleBytes
     requires { Few k e }
-    ensures { rule_of result ≡ select-of (rows e k inside) false state }
+    ensures { rule_of result ≡ select_of (rows e k inside) false state }
 {
     match e {
         Expression::Sequence(b, _) => by_state(state, push(b), change(k), BACK_FAIL),
@@ -151,7 +151,7 @@ fn first_rule(e: Expression, k: u8, inside: bool, state: u32) -> RuleBytes
 // The rule of a rule's second symbol in a state: neither the rule's number nor the class matters.
 fn second_rule(e: Expression, state: u32) -> RuleBytes
     requires { PartsBelow max_rules e }
-    ensures { (k : ℕ) (inside : Bool) → rule_of result ≡ select-of (rows e k inside) true state }
+    ensures { (k : ℕ) (inside : Bool) → rule_of result ≡ select_of (rows e k inside) true state }
 {
     match e {
         Expression::Sequence(_, c) => by_state(state, push(c), POP_OK, BACK_FAIL), // back to before b
@@ -183,7 +183,7 @@ fn stands(state: u32, class: u32, at: u32, on: u32) -> bool
 
 // Ok on a byte, with symbol 0: the one rule that the choice decides.
 fn on_byte(matching: Matching) -> RuleBytes
-    ensures { rule_of result ≡ on-byte-of matching }
+    ensures { rule_of result ≡ on_byte_of matching }
 {
     match matching {
         Matching::Whole => NO_RULE,

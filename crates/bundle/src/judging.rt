@@ -1,6 +1,6 @@
 // The call `judge_bundle`: image and bundle are checked, then the captures judged in order, each on the cells that the one before left.
 ghost use Rattle.std.specs.Prelude.{◌≡◌};
-ghost use Rattle.bundle.specs.Format.{count as count_of, call_refusal as refusal-of-call};
+ghost use Rattle.bundle.specs.Format.{count as count_of, call_refusal as refusal_of_call};
 ghost use Rattle.bundle.specs.declared.Report.TheVariants.{Lines};
 ghost use Rattle.bundle.specs.Calls.{BundleJudged, BundleSays};
 ghost use Rattle.bundle.specs.Code.Judging.{CallChecked};
@@ -40,7 +40,7 @@ fn judge_captures(
 
 // The first refusal of the call: 1 to 6 of the image, then 18; or number 0.
 fn call_refusal(image: &[u8], bundle: &[u8]) -> Refusal
-    ensures { result ≡ refusal-of-call image.now bundle.now }
+    ensures { result ≡ refusal_of_call image.now bundle.now }
 {
     let refusal = first_refusal(image);
     if refusal.number != 0 {

@@ -4,7 +4,7 @@ ghost use Rattle.codec.specs.Bytes.{written};
 ghost use Rattle.simulator.specs.declared.Judged.TheVariants.{Answer};
 ghost use Rattle.bundle.specs.Format.{max_captures};
 ghost use Rattle.bundle.specs.Report.{line_width, line_cells, totals};
-ghost use Rattle.bundle.specs.Code.Judging.{RoomAfter, with_line as line-added};
+ghost use Rattle.bundle.specs.Code.Judging.{RoomAfter, with_line as line_added};
 
 use crate::Totals;
 use machine::{Reply, Verdict};
@@ -31,7 +31,7 @@ pub fn no_totals() -> Totals
 // One judgement more.
 fn with_judgement(t: Totals, j: Judgement) -> Totals
     requires { RoomAfter max_captures t }
-    ensures { result ≡ line-added t (Answer j) }
+    ensures { result ≡ line_added t (Answer j) }
 {
     let verdict = j.verdict;
     let mut next = t;
@@ -49,7 +49,7 @@ fn with_judgement(t: Totals, j: Judgement) -> Totals
 // One line more.
 pub fn with_line(t: Totals, line: Judged) -> Totals
     requires { RoomAfter max_captures t }
-    ensures { result ≡ line-added t line }
+    ensures { result ≡ line_added t line }
 {
     match line {
         Judged::Refused(_) => {

@@ -12,7 +12,7 @@ use lib.Seq.{get_or-set_same, get_or-set_other}
 use borrow.Author.Tests.{leb-false, lt-leb}
 use Rattle.machine.specs.declared.Config.{Config}
 use Rattle.machine.specs.declared.Note.{Note}
-use Rattle.machine.specs.declared.Note.TheVariants.{Unseen, Open as Noted-open, Closed}
+use Rattle.machine.specs.declared.Note.TheVariants.{Unseen, Open as NotedOpen, Closed}
 use Rattle.machine.specs.Run.{Machine, ValidConfig, number}
 use Rattle.machine.specs.Verdicts.{Entered, NoEnd, note_of, NoteRight, never, unended, ended}
 use Rattle.machine.proofs.RightNotes.{closed_cell}
@@ -28,7 +28,7 @@ pub low_told : {v : ℕ} → v < open_bit → cell_note v ≡ note_of v
 unfolding cell_note
 low_told {v} l = rw (lt-leb open_bit v l)
 
-pub open_told : {v : ℕ} (c : Config) (b : Bool) → v ≡ open_note c b → cell_note v ≡ Noted-open
+pub open_told : {v : ℕ} (c : Config) (b : Bool) → v ≡ open_note c b → cell_note v ≡ NotedOpen
 open_told {v} c b e = note_open v (omega arith)
 
 closed_told : (k : ℕ) → k + 2 < open_bit → cell_note (k + 2) ≡ Closed k
@@ -38,7 +38,7 @@ pub closed_low : {v j : ℕ} → cell_note v ≡ Closed j → v < open_bit
 unfolding cell_note
 closed_low {v} {j} e = go (leb open_bit v) refl e
   where
-    go : (x : Bool) → leb open_bit v ≡ x → cond x Noted-open (note_of v) ≡ Closed j → v < open_bit
+    go : (x : Bool) → leb open_bit v ≡ x → cond x NotedOpen (note_of v) ≡ Closed j → v < open_bit
     go true q h = absurd (let z : ◌≡◌ {A = ℕ} 0 1 = cc in omega arith)
     go false q h = leb-false open_bit v q
 
@@ -90,7 +90,7 @@ stacked_note {M} {ns} k v other (one_open {o} t w n l) =
 -- WHAT A NOTE SAYS of its configuration
 pub data Cell (M : Machine) (P : Config → Type 0) (os : List Open) (c : Config) : Note → Type 0 where
   unseen : (Among c os → ⊥) → Cell M P os c Unseen
-  still_open : Among c os → Cell M P os c Noted-open
+  still_open : Among c os → Cell M P os c NotedOpen
   closed : {d : Config} → (Among c os → ⊥) → ValidConfig M d → Ends M P c d → Cell M P os c (Closed (number M d))
 
 cell_map :
@@ -119,7 +119,7 @@ module _ {M : Machine} {os : List Open} {ns : List ℕ} (running : Running M os 
   told_by complete no_end c t v (still_open a) e =
       unended (running.entered c t (λ z. let f : cell_note (get_or ns (number M c) 0) ≡ Unseen = rw z refl in clash (sym f ∙ e))) (no_end c a)
     where
-      clash : Unseen ≡ Noted-open → ⊥
+      clash : Unseen ≡ NotedOpen → ⊥
       clash q = let z : ◌≡◌ {A = ℕ} 0 1 = cc in omega arith
   told_by complete no_end c t v (closed {d} n there x) e =
       ended (running.entered c t (λ z. let f : cell_note (get_or ns (number M c) 0) ≡ Unseen = rw z refl in clash (sym f ∙ e))) there (ends_at x 0)

@@ -8,7 +8,7 @@ use native.Mathlib.Decide.{dec_lt, ℕ_discrete}
 use lib.ListN.{length, get_or, get_or-eq_default}
 use Rattle.machine.specs.declared.Config.{Config}
 use Rattle.machine.specs.declared.Note.{Note}
-use Rattle.machine.specs.declared.Note.TheVariants.{Unseen, Open as Noted-open, Closed}
+use Rattle.machine.specs.declared.Note.TheVariants.{Unseen, Open as NotedOpen, Closed}
 use Rattle.machine.specs.Run.{Machine, ValidConfig, number, how_many}
 use Rattle.image.specs.Image.{machine}
 use Rattle.image.specs.Refusals.{Unrefused}
@@ -132,12 +132,12 @@ never_one :
     cell_note (get_or ns (number M c) 0) ≡ v → get_or ns (number M c) 0 ≡ 1 → ⊥
 unfolding cell_note note_of
 never_one {M} {ns = ns} {c = c} stacked v (unseen n) e z =
-    let f : Unseen ≡ Noted-open = sym e ∙ ap cell_note z in
+    let f : Unseen ≡ NotedOpen = sym e ∙ ap cell_note z in
     let w : ◌≡◌ {A = ℕ} 0 1 = cc in
     omega arith
 never_one stacked v (still_open a) e z = let (b, o) = among_open stacked a in omega arith
 never_one {M} stacked v (closed {d} n t x) e z =
-    let f : Closed (number M d) ≡ Noted-open = sym e ∙ ap cell_note z in
+    let f : Closed (number M d) ≡ NotedOpen = sym e ∙ ap cell_note z in
     let w : ◌≡◌ {A = ℕ} 0 1 = cc in
     omega arith
 

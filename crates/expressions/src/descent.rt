@@ -6,7 +6,7 @@ ghost use Rattle.syntax.specs.Compile.{compile_leaf};
 ghost use Rattle.expressions.specs.Code.Lookahead.{Looks};
 ghost use Rattle.expressions.specs.Code.Building.{rules_of};
 ghost use Rattle.expressions.specs.Code.Operators.{part_of, PartRoom};
-ghost use Rattle.expressions.specs.Code.Levels.{Room, NameRoom, leaf_made, name_made, Passes, LevelRead, SuffixesRead, Joined, level_of, follows as follows-at, rest_from, pair as pair_of};
+ghost use Rattle.expressions.specs.Code.Levels.{Room, NameRoom, leaf_made, name_made, Passes, LevelRead, SuffixesRead, Joined, level_of, follows as follows_at, rest_from, pair as pair_of};
 
 use crate::emitter::numbered;
 use crate::lookahead::{Ahead, Role, is_slash, peek, starts};
@@ -179,7 +179,7 @@ fn part(text: &[u8], at: usize, depth: usize, numbering: Numbering, rules: &mut 
 
 // Whether another part follows, at a level.
 fn follows(level: usize, role: Role) -> bool
-    ensures { result ≡ follows-at level role }
+    ensures { result ≡ follows_at level role }
 {
     if level == SEQUENCES {
         starts(role)

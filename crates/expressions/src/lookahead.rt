@@ -1,6 +1,6 @@
 // Looking ahead: what the token from a place on is to an expression.
 ghost use Rattle.std.specs.Prelude.{◌≡◌};
-ghost use Rattle.expressions.specs.Code.Lookahead.{role, Looks, starts as starts-part, parts_choice};
+ghost use Rattle.expressions.specs.Code.Lookahead.{role, Looks, starts as starts_part, parts_choice};
 
 use scanner::Scanned;
 use scanner::tokens::scan;
@@ -77,7 +77,7 @@ pub fn peek(text: &[u8], at: usize) -> Ahead
 
 // Whether a part of a sequence begins with it.
 pub fn starts(ahead: Role) -> bool
-    ensures { result ≡ starts-part ahead }
+    ensures { result ≡ starts_part ahead }
 {
     match ahead {
         Role::Name(_) => true,

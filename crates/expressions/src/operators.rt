@@ -2,9 +2,9 @@
 ghost use Rattle.std.specs.Prelude.{◌≡◌, List, [], ℕ, ◌+◌, ◌≤◌};
 ghost use Rattle.grammar.specs.Grammar.{max_rules};
 ghost use Rattle.syntax.specs.declared.Node.TheVariants.{Operator};
-ghost use Rattle.syntax.specs.Needs.{prefix_need as need-of-prefix, suffix_need as need-of-suffix};
+ghost use Rattle.syntax.specs.Needs.{prefix_need as need_of_prefix, suffix_need as need_of_suffix};
 ghost use Rattle.expressions.specs.Code.Building.{rules_of, advanced};
-ghost use Rattle.expressions.specs.Code.Operators.{part_of, begun_with, over as over-of, part, PartRoom, PrefixRoom, prefix_made, suffix_made, suffix_done, begun_of};
+ghost use Rattle.expressions.specs.Code.Operators.{part_of, begun_with, over as over_of, part, PartRoom, PrefixRoom, prefix_made, suffix_made, suffix_done, begun_of};
 
 use crate::emitter::{added, numbered, repeated};
 use crate::{Begun, Numbering, Part};
@@ -25,7 +25,7 @@ pub fn taken(numbering: Numbering, count: usize) -> Numbering
 
 // No expression, or one for which no rules are left.
 pub fn over(numbering: Numbering, at: usize) -> Part
-    ensures { (bytes : List ℕ) → part_of result bytes ≡ over-of (rules_of bytes numbering) at }
+    ensures { (bytes : List ℕ) → part_of result bytes ≡ over_of (rules_of bytes numbering) at }
 {
     Part {
         fits: false,
@@ -37,7 +37,7 @@ pub fn over(numbering: Numbering, at: usize) -> Part
 
 // The rules that a prefix needs.
 pub fn prefix_need(p: Prefix) -> usize
-    ensures { result ≡ need-of-prefix p }
+    ensures { result ≡ need_of_prefix p }
 {
     match p {
         Prefix::NotPredicate => 1,
@@ -47,7 +47,7 @@ pub fn prefix_need(p: Prefix) -> usize
 
 // The rules that a suffix needs.
 fn suffix_need(s: Suffix) -> usize
-    ensures { result ≡ need-of-suffix s }
+    ensures { result ≡ need_of_suffix s }
 {
     match s {
         Suffix::ZeroOrMore => 3,
@@ -94,7 +94,7 @@ fn suffix_over(
     numbering: Numbering,
     at: usize,
 ) -> Part
-    requires { numbering.next + need-of-suffix s ≤ max_rules + 1 }
+    requires { numbering.next + need_of_suffix s ≤ max_rules + 1 }
     ensures { part_of result rules.new ≡ suffix_done s number (rules_of rules.old numbering) at }
 {
     match s {

@@ -2,7 +2,7 @@
 ghost use Rattle.std.specs.Prelude.{◌≡◌, ◌+◌, ◌*◌, ◌<◌, ◌≤◌, length};
 ghost use Rattle.image.specs.Format;
 ghost use Rattle.machine.specs.Terminating.{accepts_by};
-ghost use Rattle.machine.specs.Run.{returned as returned-to};
+ghost use Rattle.machine.specs.Run.{returned as returned_to};
 ghost use Rattle.codec.specs.Numbers.{u32_at};
 ghost use Rattle.image.specs.Image.{sizes_of, class_under, rule_from, moved, led_to, stop_reason, action_by, action};
 ghost use Rattle.image.specs.Refusals.{Unrefused};
@@ -157,7 +157,7 @@ pub fn accepts(finals: u32, places: u32, state: u32, head: u32) -> bool
 
 // The head after a pop: back at the removed entry's pointer, or where it is.
 pub fn returned(returns: bool, pointer: u32, head: u32) -> u32
-    ensures { result ≡ returned-to returns pointer head }
+    ensures { result ≡ returned_to returns pointer head }
 {
     if returns { pointer } else { head }
 }

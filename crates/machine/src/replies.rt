@@ -1,13 +1,13 @@
 // An answer by numbers: a verdict's number, and the replies of refused and answered calls.
 ghost use Rattle.std.specs.Prelude.{◌≡◌};
-ghost use Rattle.machine.specs.Replies.{verdict_number as number_of_lem, refusal_reply as refusal_told, answer_reply as answer-told, count_reply as count-told};
+ghost use Rattle.machine.specs.Replies.{verdict_number as number_of, refusal_reply as refusal_told, answer_reply as answer_told, count_reply as count_told};
 
 use crate::{Config, Reply, Verdict};
 use refusal::Refusal;
 
 // A verdict's number.
 pub fn verdict_number(verdict: Verdict) -> u32
-    ensures { result ≡ number_of_lem verdict }
+    ensures { result ≡ number_of verdict }
 {
     match verdict {
         Verdict::Accepted => 1,
@@ -37,7 +37,7 @@ pub fn refusal_reply(refusal: Refusal) -> Reply
 
 // The reply of a call that was answered.
 pub fn answer_reply(verdict: u32, count: usize, end: Config) -> Reply
-    ensures { result ≡ answer-told verdict count end }
+    ensures { result ≡ answer_told verdict count end }
 {
     Reply {
         refusal: 0,
@@ -50,7 +50,7 @@ pub fn answer_reply(verdict: u32, count: usize, end: Config) -> Reply
 
 // A count alone.
 pub fn count_reply(count: usize) -> Reply
-    ensures { result ≡ count-told count }
+    ensures { result ≡ count_told count }
 {
     answer_reply(
         0,

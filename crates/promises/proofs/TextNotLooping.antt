@@ -118,13 +118,13 @@ named {text} {ds} {k} {o} says legal = go says refl
 pub recursion_named : RecursionNamed
 recursion_named text ds k o says legal below =
     let n = named says legal in
-    subst (λ (m : ℕ). NameAt text ds m o) (own_line n.of-rule below) n.at
+    subst (λ (m : ℕ). NameAt text ds m o) (own_line n.of_rule below) n.at
 
 pub recursion_line : RecursionLine
 recursion_line text ds k o says legal =
     let n = named says legal in
     let (helpers, are, exactly) = rules_of_lines text ds n.line n.at.name n.at.body legal n.unrefused n.at.defined in
-    (n.line, n.at, helpers, are, (exactly k).0 n.of-rule)
+    (n.line, n.at, helpers, are, (exactly k).0 n.of_rule)
 
 -- WHAT A C CALLER IS TOLD: 0, 19, or the text's own number, which is neither
 unread_so : {text : List ℕ} {r : TextRecursion} {f : Refusal} → TextRecursionSays text r → r ≡ Refused f → ReadSays text (Unread f)

@@ -3,7 +3,7 @@ ghost use Rattle.std.specs.Prelude.{◌≡◌, true, false, List, ℕ, ◌+◌, 
 ghost use Rattle.grammar.specs.Grammar.{max_rules};
 ghost use Rattle.expressions.specs.Code.Building.{rules_of, placed_at};
 ghost use Rattle.expressions.specs.Code.Operators.{part_of, PartRoom};
-ghost use Rattle.reader.specs.Code.Lines.{line_of, with_left, topped as topped-of, LineRoom, LineRead, LinesRoom, LinesRead};
+ghost use Rattle.reader.specs.Code.Lines.{line_of, with_left, topped as topped_of, LineRoom, LineRead, LinesRoom, LinesRead};
 
 use crate::cursor::body_at;
 use crate::{LineRead, Lines, MAX_RULES};
@@ -57,7 +57,7 @@ fn ruled(
 // A line's own rule at its number k, and the helper rules that it needs besides. A bare name is the named rule, then nothing.
 fn topped(x: Part, k: usize, at: usize, rules: &mut [u8; 124]) -> LineRead
     requires { (k < max_rules) × PartRoom (part_of x rules.old) }
-    ensures { line_of result rules.new ≡ topped-of (part_of x rules.old) k at }
+    ensures { line_of result rules.new ≡ topped_of (part_of x rules.old) k at }
 {
     let node = x.node;
     let numbering = x.numbering;

@@ -1,7 +1,7 @@
 // The rules that may match nothing, as a set.
 ghost use Rattle.std.specs.Prelude.{◌≡◌, ◌<◌};
 ghost use Rattle.grammar.specs.Grammar.{max_rules, rules, expression, PartsBelow, grammar_refusal};
-ghost use Rattle.recursion.specs.Computed.{nothing_by, nothing_of as nothing-in};
+ghost use Rattle.recursion.specs.Computed.{nothing_by, nothing_of as nothing_in};
 ghost use Rattle.recursion.specs.Code.Sets.{member, IsSet, LookedAt, Sweepable, Swept};
 
 use crate::sets::{added, contains};
@@ -73,7 +73,7 @@ fn sweep_up(grammar: &[u8], known: u32) -> u32
 // The rules that may match nothing. A sweep that finds no more is the last. Parts may stand after what they are parts of, or before it: so sweeps go both ways in turns.
 pub fn nothing_of(grammar: &[u8]) -> u32
     requires { (grammar_refusal grammar.now).number ≡ 0 }
-    ensures { IsSet (rules grammar.now) result (nothing-in grammar.now) }
+    ensures { IsSet (rules grammar.now) result (nothing_in grammar.now) }
 {
     let mut known = sweep_down(grammar, 0);
     loop {

@@ -20,14 +20,14 @@ use Rattle.image.specs.Refusals.{Unrefused, image_refusal, capture_refusal}
 use Rattle.image.proofs.CaptureRefused.{then_length}
 use Rattle.simulator.specs.declared.Judged.TheVariants.{Refused}
 use Rattle.simulator.specs.Calls.{judge_refusal, JudgeAs, JudgeSays}
-use Rattle.interpreter.specs.declared.Ran.TheVariants.{Refused as Not-run}
+use Rattle.interpreter.specs.declared.Ran.TheVariants.{Refused as NotRun}
 use Rattle.interpreter.specs.declared.Exit.TheVariants.{Terminated, Spent}
 use Rattle.interpreter.specs.PlainRun.{RunEnd, run_end, run_on}
 use Rattle.interpreter.specs.Calls.{run_refusal, answer, RunAs, RunSays}
 use Rattle.grammar.specs.Grammar as Grammar
 use Rattle.builder.specs.declared.Matching.{Matching}
 use Rattle.builder.specs.declared.Matching.TheVariants.{Whole, Leading}
-use Rattle.builder.specs.declared.Built.TheVariants.{Image, Refused as Not-built}
+use Rattle.builder.specs.declared.Built.TheVariants.{Image, Refused as NotBuilt}
 use Rattle.builder.specs.Classes.{cuts_at, cut_from, cut, class_of, class_count, class_in}
 use Rattle.builder.specs.Table.{rows, by_state, select, on_byte, row_zero, class_inside, rows_at, made}
 use Rattle.builder.specs.Image.{symbols_of, built_rules, rules_made, map_made, built, built_length, parts}
@@ -58,7 +58,7 @@ pub none_running : (cells : ℕ) → run_refusal [] [] cells ≡ refusal 1 0
 unfolding run_refusal capture_refusal image_refusal or_else
 none_running k = refl
 
-pub none_ran : (budget : ℕ) (a : List ℕ) → RunSays [] [] budget (Not-run (refusal 1 0)) a a
+pub none_ran : (budget : ℕ) (a : List ℕ) → RunSays [] [] budget (NotRun (refusal 1 0)) a a
 unfolding RunSays RunAs run_refusal capture_refusal image_refusal or_else
 none_ran n a = (refl, refl)
 
@@ -142,7 +142,7 @@ pub c1_first : byte (built Whole empty_grammar) 0 ≡ 24
 c1_first = c1_computed.2
 
 -- with one byte of room; and with enough, whatever stood there
-pub c1_unbuilt : (b : ℕ) → BuildSays Whole empty_grammar (Not-built (refusal 13 468)) (b ∷ []) (b ∷ [])
+pub c1_unbuilt : (b : ℕ) → BuildSays Whole empty_grammar (NotBuilt (refusal 13 468)) (b ∷ []) (b ∷ [])
 unfolding BuildSays BuildAs refuse_if
 c1_unbuilt b = rw (c1_building 1) (refl, refl)
 

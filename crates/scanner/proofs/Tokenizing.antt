@@ -12,7 +12,7 @@ use Rattle.codec.specs.Bytes.{byte, section}
 use Rattle.syntax.specs.Tokens.{Token, name, sign, range, unknown, Lexeme, letter, letters, same, empty_word, fail_word, word, sign_of, range_there, token_at, width_at, skipped}
 use Rattle.syntax.specs.declared.Token as Code
 use Rattle.syntax.specs.declared.Token.TheVariants.{Name, Sign, Range}
-use Rattle.syntax.specs.declared.Sign as Code-sign
+use Rattle.syntax.specs.declared.Sign as CodeSign
 use Rattle.syntax.specs.declared.Sign.TheVariants.{Operand}
 use Rattle.syntax.specs.declared.Leaf.TheVariants.{EmptyString, Failure}
 use Rattle.grammar.proofs.Bools.{both_true}
@@ -77,7 +77,7 @@ word_is ls = go (same ls empty_word) (same ls fail_word)
 
 -- NO SIGN AND NO RANGE IS A NAME
 pub data NoName : Token → Type 0 where
-  a_sign : {s : Code-sign.Sign} → NoName (sign s)
+  a_sign : {s : CodeSign.Sign} → NoName (sign s)
   a_range : {low high : ℕ} → NoName (range low high)
   no_token : NoName unknown
 

@@ -62,7 +62,7 @@ fn closes(complete: bool, opened: usize) -> Step
 
 // The end of a line.
 fn end_line(complete: bool, opened: usize) -> Step
-    ensures { next_of result ≡ faults.to_if (complete && eqb opened 0) faults.at-line }
+    ensures { next_of result ≡ faults.to_if (complete && eqb opened 0) faults.at_line }
 {
     if !complete {
         return Step::Wrong(UNGRAMMATICAL);
@@ -109,7 +109,7 @@ fn by_equals(sign: Sign) -> Step
 fn by_name(text: &[u8], lines: usize, name: usize, long: usize) -> Step
     requires { (lines ≤ length (heads text.now)) × (name + long ≤ length text.now) }
     ensures { next_of result ≡
-        faults.to_if (faults.not_in (section text.now name long) (take lines (heads text.now))) faults.at-equals }
+        faults.to_if (faults.not_in (section text.now name long) (take lines (heads text.now))) faults.at_equals }
 {
     let line = line_of(text, name, long);
     if line < lines {
@@ -121,7 +121,7 @@ fn by_name(text: &[u8], lines: usize, name: usize, long: usize) -> Step
 // A word where a line begins: it must be a name.
 fn from_line(text: &[u8], lines: usize, offset: usize, long: usize) -> Step
     requires { (lines ≤ length (heads text.now)) × (offset + long ≤ length text.now) }
-    ensures { next_of result ≡ faults.next (take lines (heads text.now)) faults.at-line (word (section text.now offset long)) }
+    ensures { next_of result ≡ faults.next (take lines (heads text.now)) faults.at_line (word (section text.now offset long)) }
 {
     if is_reserved(text, offset, long) {
         return Step::Wrong(UNGRAMMATICAL);
@@ -131,7 +131,7 @@ fn from_line(text: &[u8], lines: usize, offset: usize, long: usize) -> Step
 
 // What a token leads to where = must come.
 fn from_equals(token: Token) -> Step
-    ensures { (ns : List (List ℕ)) (text : List ℕ) (o : ℕ) → next_of result ≡ faults.next ns faults.at-equals (token_of text o token) }
+    ensures { (ns : List (List ℕ)) (text : List ℕ) (o : ℕ) → next_of result ≡ faults.next ns faults.at_equals (token_of text o token) }
 {
     match token {
         Token::Name(_) => Step::Wrong(UNGRAMMATICAL),

@@ -2,7 +2,7 @@
 ghost use Rattle.std.specs.Prelude.{◌≡◌};
 ghost use Rattle.machine.specs.Replies.{of_checked};
 ghost use Rattle.bundle.specs.Replies.{of_report, totals_left};
-ghost use Rattle.interpreter.specs.Replies.{exit_number as number-of-exit, of_ran};
+ghost use Rattle.interpreter.specs.Replies.{exit_number as number_of_exit, of_ran};
 ghost use Rattle.builder.specs.Replies.{of_built};
 ghost use Rattle.typed.specs.Replies.{of_read, of_text_recursion};
 ghost use Rattle.sejimakpu.specs.Cells.{ReplyWritten};
@@ -20,7 +20,7 @@ use typed::left_recursion::TextRecursion;
 
 // An exit's number: the verdict's where the run terminates, and two more.
 fn exit_number(exit: Exit) -> u32
-    ensures { result ≡ number-of-exit exit }
+    ensures { result ≡ number_of_exit exit }
 {
     match exit {
         Exit::Terminated(termination) => verdict_number(termination_verdict(termination)),

@@ -98,7 +98,7 @@ module _ (ds : List Definition) where
   ClosedLine d = Closed ds d.body
 
   pub read_closed : {deep : ℕ} {ts : List Token} {es : List Definition} → Reads deep ts es → Each Known ts → Each ClosedLine es
-  read_closed (Reads.last_Line p) k = an_element (derived p (each_rest (each_rest k))).0 no_element
+  read_closed (Reads.last_line p) k = an_element (derived p (each_rest (each_rest k))).0 no_element
   read_closed (Reads.more_lines p r) k =
       let a = derived p (each_rest (each_rest k)) in
       an_element a.0 (read_closed r (each_rest a.1))

@@ -63,19 +63,19 @@ module _ {m : ℕ} where
       let h = n + length c.helpers in
       let split = ends n c.helpers (own_rules c.node h) in
       let b = f (omega (arith, split)) in
-      let o = own_below c.node h b.node-below (omega (arith, split)) in
-      record { helpers_below = each_append b.helpers-below o.0; number_below = o.1 }
+      let o = own_below c.node h b.node_below (omega (arith, split)) in
+      record { helpers_below = each_append b.helpers_below o.0; number_below = o.1 }
 
   prefix_below :
       (p : Prefix) (q : Placed) (n : ℕ) → (n + length q.helpers ≤ m → PlacedBelow m q) → n + length (compile_prefix p q n).helpers ≤ m →
       Below m (compile_prefix p q n)
   unfolding compile_prefix NodeBelow PartsBelow
-  prefix_below NotPredicate q n f l = let b = f l in record { helpers_below = b.helpers-below; node_below = b.number_below }
+  prefix_below NotPredicate q n f l = let b = f l in record { helpers_below = b.helpers_below; node_below = b.number_below }
   prefix_below AndPredicate q n f l =
       let split = ends n q.helpers (Not q.number ∷ []) in
       let b = f (omega (arith, split)) in
       record {
-        helpers_below = each_append b.helpers-below (an_element {a = Not q.number} b.number_below no_element);
+        helpers_below = each_append b.helpers_below (an_element {a = Not q.number} b.number_below no_element);
         node_below = omega (arith, split);
       }
 
@@ -83,20 +83,20 @@ module _ {m : ℕ} where
       (s : Suffix) (q : Placed) (n : ℕ) → (n + length q.helpers ≤ m → PlacedBelow m q) → n + length (compile_suffix s q n).helpers ≤ m →
       Below m (compile_suffix s q n)
   unfolding compile_suffix NodeBelow PartsBelow
-  suffix_below ZeroOrMore q n f l = let b = f l in record { helpers_below = b.helpers-below; node_below = b.number_below }
+  suffix_below ZeroOrMore q n f l = let b = f l in record { helpers_below = b.helpers_below; node_below = b.number_below }
   suffix_below OneOrMore q n f l =
       let h = n + length q.helpers in
       let split = ends n q.helpers (repetition_rules q.number h) in
       let b = f (omega (arith, split)) in
       record {
-        helpers_below = each_append b.helpers-below (repetition_below q.number h b.number_below (omega (arith, split)));
+        helpers_below = each_append b.helpers_below (repetition_below q.number h b.number_below (omega (arith, split)));
         node_below = (b.number_below, omega (arith, split));
       }
   suffix_below Optional q n f l =
       let split = ends n q.helpers (Empty ∷ []) in
       let b = f (omega (arith, split)) in
       record {
-        helpers_below = each_append b.helpers-below (an_element {a = Empty} (record {}) no_element);
+        helpers_below = each_append b.helpers_below (an_element {a = Empty} (record {}) no_element);
         node_below = (b.number_below, omega (arith, split));
       }
 
@@ -115,7 +115,7 @@ module _ {m : ℕ} where
       let split = ends n p.helpers q.helpers in
       let one = placed_below c n f (omega (arith, split)) in
       let other = placed_below (d h) h (g h) (omega (arith, split)) in
-      (each_append one.helpers-below other.helpers-below, (one.number_below, other.number_below))
+      (each_append one.helpers_below other.helpers_below, (one.number_below, other.number_below))
 
 module _ (ds : List Definition) (m : ℕ) (lines_fit : length ds ≤ m) where
   -- ANY TREE
@@ -152,8 +152,8 @@ module _ (ds : List Definition) (m : ℕ) (lines_fit : length ds ≤ m) where
       let d = compile (names ds) e n in
       let split = ends n d.helpers (top_helpers d.node k) in
       let b = compiled_below e n c (omega (arith, split)) in
-      let t = top_below d.node k (n + length d.helpers) f b.node-below (omega (arith, split)) in
-      (t.0, each_append b.helpers-below t.1)
+      let t = top_below d.node k (n + length d.helpers) f b.node_below (omega (arith, split)) in
+      (t.0, each_append b.helpers_below t.1)
 
   -- ALL LINES
   pub lines_below :

@@ -167,7 +167,7 @@ module _ {E : Rules} {ds : List Definition} where
       suffix_stands s (place (compile (names ds) e n) n) n (placed_stands e (compile (names ds) e n) n (compiled_stands e n c)) h
   compiled_stands (sequence e f) n c h =
       let t = two_stand (compile (names ds) e n) (compile (names ds) f) n (compiled_stands e n c.0) (λ m. compiled_stands f m c.1) h in
-      by_operator t.block (λ k r. RuleOf.both r t.first-rule t.second-rule)
+      by_operator t.block (λ k r. RuleOf.both r t.first_rule t.second_rule)
   compiled_stands (choice e f) n c h =
       let t = two_stand (compile (names ds) e n) (compile (names ds) f) n (compiled_stands e n c.0) (λ m. compiled_stands f m c.1) h in
-      by_operator t.block (λ k r. RuleOf.either r t.first-rule t.second-rule)
+      by_operator t.block (λ k r. RuleOf.either r t.first_rule t.second_rule)

@@ -56,7 +56,7 @@ few_rules text ds h = go (ltb max_rules (needs ds)) refl (neither _ _ h).1
     go false f g = ltb-false max_rules (needs ds) f
 
 some_line : {deep : ℕ} {ts : List Token} {ds : List Definition} → Reads deep ts ds → 0 < length ds
-some_line (Reads.last_Line p) = omega arith
+some_line (Reads.last_line p) = omega arith
 some_line (Reads.more_lines p r) = omega arith
 
 module _ (ds : List Definition) where

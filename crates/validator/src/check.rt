@@ -3,7 +3,7 @@ ghost use Rattle.std.specs.Prelude.{◌≡◌, cond, ◌+◌, ◌*◌, ◌^◌, 
 ghost use Rattle.codec.specs.Numbers.{pair_width};
 ghost use Rattle.image.specs.Format.{map_offset, map_length, rules_offset, max_states, max_capture};
 ghost use Rattle.refusal.specs.First.{refusal, no_refusal, refuse_if};
-ghost use Rattle.image.specs.Refusals.{pair_is, directory as directory-of, count_wrong, counts as counts_of, map_from, rule_count, body_refusal, image_refusal, capture_refusal};
+ghost use Rattle.image.specs.Refusals.{pair_is, directory as directory_of, count_wrong, counts as counts_of, map_from, rule_count, body_refusal, image_refusal, capture_refusal};
 ghost use Rattle.refusal.specs.Checking.{checked};
 ghost use Rattle.validator.specs.Code.Checking.{CountsChecked};
 
@@ -44,7 +44,7 @@ fn refuse_unless(right: bool, number: u32, place: usize) -> Refusal
 // Refusal 2: a pair of the directory.
 fn directory(image: &[u8]) -> Refusal
     requires { map_offset ≤ length image.now }
-    ensures { result ≡ directory-of image.now }
+    ensures { result ≡ directory_of image.now }
 {
     if !pair_is(image, COUNTS_PAIR, COUNTS_OFFSET, COUNTS_LENGTH) {
         return Refusal {

@@ -65,7 +65,7 @@ last_dot = Derives.last_part (Derives.no_prefix (Derives.no_suffix Derives.a_lea
 
 one_line : {n : List ℕ} {ts : List Token} {e : Tree} → Derives choices max_depth ts e (sign Semicolon ∷ []) →
     Legal max_depth (name n ∷ sign Equals ∷ ts) (record { letters = n; body = e } ∷ [])
-one_line x = record { reads = Reads.last_Line x; distinct = Distinct.cons Memᴰ.not-nil Distinct.nil }
+one_line x = record { reads = Reads.last_line x; distinct = Distinct.cons Memᴰ.not-nil Distinct.nil }
 
 two_lines :
     {n m : List ℕ} {ts us : List Token} {e f : Tree} → Derives choices max_depth ts e (sign Semicolon ∷ name m ∷ sign Equals ∷ us) →
@@ -73,7 +73,7 @@ two_lines :
     Legal max_depth (name n ∷ sign Equals ∷ ts) (record { letters = n; body = e } ∷ record { letters = m; body = f } ∷ [])
 two_lines x y other =
     record {
-      reads = Reads.more_lines x (Reads.last_Line y);
+      reads = Reads.more_lines x (Reads.last_line y);
       distinct = Distinct.cons (λ m. other (Memᴰ.eq_of_singleton m)) (Distinct.cons Memᴰ.not-nil Distinct.nil);
     }
 

@@ -19,7 +19,7 @@ use Rattle.expressions.proofs.descent.follows.Reads as follows_reads
 use Rattle.expressions.proofs.descent.leaf.Reads as leaf_reads
 use Rattle.expressions.proofs.descent.leaf_rule.Reads as leaf_rule_reads
 use Rattle.expressions.proofs.descent.named.Reads as named_reads
-use Rattle.expressions.proofs.descent.pair.Reads as Pair-reads
+use Rattle.expressions.proofs.descent.pair.Reads as PairReads
 use Rattle.expressions.proofs.descent.rest_at.Reads as rest_at_reads
 use Rattle.expressions.proofs.descent.suffixes.Reads as suffixes_reads
 use Rattle.expressions.proofs.emitter.numbered.Reads as numbered_reads
@@ -85,8 +85,8 @@ expression_claims t = (
   expression.Post,
   numbered_reads.Asked,
   numbered_reads.Learnt,
-  Pair-reads.Asked,
-  Pair-reads.Learnt,
+  PairReads.Asked,
+  PairReads.Learnt,
 )
 
 abbrev pub first_part_claims : ℕ → first_part_lts.Claims
