@@ -19,7 +19,7 @@ use Rattle.syntax.specs.Compile.{compile, line_helpers, named_from, helpers_from
 use Rattle.syntax.specs.RuleLines.{first_helper, LineOfRule, own, helper}
 use Rattle.syntax.proofs.Counting.{line_counted, lines_needed}
 use Rattle.syntax_theory.specs.RuleOf.{RuleOf, LineRules, own_line, bare_line}
-use Rattle.syntax_theory.proofs.Numbering.{Each, an_element, Holds, holds_first, holds_rest, holds_front, holds_after, Block}
+use Rattle.syntax_theory.proofs.Numbering.{Each, an_element, Holds, holds_first, holds_rest, holds_front, holds_after, Block, no_element}
 use Rattle.syntax_theory.proofs.Named.{ClosedLine, defines_below}
 use Rattle.syntax_theory.proofs.Lines.{LineAt, line_stands}
 use Rattle.syntax_theory.proofs.TypedRight.{rules_held, legal_closed}
@@ -93,6 +93,7 @@ module _ {E : Rules} {ds : List Definition} where
       Holds E n (helpers_from (names ds) k n es) → {j : ℕ} {m : List ℕ} {e : Tree} → Defines es j m e →
       LineAt E ds e (k + j) (n + (needs (take j es) - j)) (n + (needs (take (suc j) es) - suc j))
   unfolding named_from helpers_from needs
+  line_there k n no_element h g {j = j} {m = m} {e = e} x7 = elim x7 [ ]
   line_there k n (an_element {a = d} {rest = rest} c cs) h g Defines.here =
       let hs = line_helpers (compile (names ds) d.body n) k in
       let others = helpers_from (names ds) (suc k) (n + length hs) rest in

@@ -37,14 +37,14 @@ step-r-requires c = ready c.loop-verdict.invariant
 
 pub overflow_add-steps : goal.overflow_add-steps
 overflow_add-steps c =
-    let room = steps_room c.loop-verdict.invariant (not_done _ c.in_default.keys2) in
+    let room = steps_room c.loop-verdict.invariant (not_done _ c.in_default.not-Done) in
     omega arith
 
 pub loop-verdict-smaller : goal.loop-verdict-smaller
 loop-verdict-smaller c =
-    let few = few_steps c.loop-verdict.invariant (not_done _ c.in_default.keys2) in
+    let few = few_steps c.loop-verdict.invariant (not_done _ c.in_default.not-Done) in
     omega arith
 
 pub loop-verdict-preserved : goal.loop-verdict-preserved
 loop-verdict-preserved c =
-    next c.loop-verdict.invariant (not_done _ c.in_default.keys2) c.step-r.ensures
+    next c.loop-verdict.invariant (not_done _ c.in_default.not-Done) c.step-r.ensures
