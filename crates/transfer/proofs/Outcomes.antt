@@ -1,65 +1,13 @@
--- A call's answer and errno, by cases, give its outcome; and an outcome that moved bytes moved some that were there. Assumes nothing.
-use mathlib.Core.Path.{◌≡◌, refl, sym, ap, subst, subst⁻¹, ◌∙◌}
-use mathlib.Core.Bool.{Bool, true, false, cond}
-use Prim.Native.Nat.{ℕ, zero, suc, ◌+◌, ◌≤◌, ◌<◌}
-use native.Mathlib.Nat.{le_of_eq}
-use native.Mathlib.Omega.{arith}
-use borrow.Author.Tests.{ltb-true, ne_eqb}
-use lib.Dec.{eqb}
-use lib.IntN.{ℤ, pos, negsuc}
-use lib.Signed.{lt_z}
-use mir.Syntax.{w32}
-use mir.Val.{to_z, of_z, SFits}
-use mir.ValLaws.{to_z-of_z}
-use Rattle.libc.specs.Io.{Moved}
+-- What holds between two calls of a loop that reads or writes, and what a call that moved bytes adds to it. Assumes nothing.
+use Rattle.std.proofs.Common.{◌≡◌, Bool, true, false, cond, eqb, ℤ, pos, negsuc, ℕ, zero, suc, ◌+◌, ◌≤◌, ◌<◌, List, ◌++◌, take, drop, None, Some, Ok, Err, sym, ap, subst, ◌∙◌, append_assoc}
+use Rattle.std.proofs.Math.Seq.{take-add}
+use Rattle.std.specs.Io.KnownBytes.{Appends, Consumes, ReadConsumes, WriteAppends}
+use Rattle.std.specs.declared.io.Error.{Error}
+use Rattle.std.specs.declared.option.Option.{Option}
+use Rattle.std.specs.declared.result.Result.{Result}
 use Rattle.transfer.specs.declared.Outcome.{Outcome}
-use Rattle.transfer.specs.declared.Stop.{Stop}
 use Rattle.transfer.specs.declared.Outcome.TheVariants.{Bytes, Nothing, Interrupted, Failed}
-use Rattle.transfer.specs.Transfers.{failure_of, outcome_of, has_failed, whole_of, Within, Stopped, WholeInput}
-
--- errno is 4 where its bits are
-pub is_interrupted : (e : ℤ) → SFits w32 e → of_z w32 e ≡ 4 → Interrupted ≡ failure_of e
-is_interrupted e f z = subst (λ (v : ℤ). Interrupted ≡ failure_of v) (sym (ap (to_z w32) z) ∙ to_z-of_z w32 e f) refl
-
-pub is_failed : (e : ℤ) → (of_z w32 e ≡ 4 → ⊥) → Failed ≡ failure_of e
-is_failed (pos n) h = sym (ap (λ (b : Bool). cond b Interrupted Failed) (ne_eqb n 4 h))
-is_failed (negsuc n) h = refl
-
-pub is_negative : (a e : ℤ) → lt_z a (pos 0) ≡ true → failure_of e ≡ outcome_of a e
-is_negative (pos n) e h = absurd (omega (arith, ltb-true n 0 h))
-is_negative (negsuc n) e h = refl
-
-pub is_nothing : (a e : ℤ) (n : ℕ) → pos n ≡ a → n ≡ 0 → Nothing ≡ outcome_of a e
-is_nothing a e n p z = subst (λ (v : ℤ). Nothing ≡ outcome_of v e) (sym (ap pos z) ∙ p) refl
-
-is_some : (e : ℤ) (n : ℕ) → (n ≡ 0 → ⊥) → Bytes n ≡ outcome_of (pos n) e
-is_some e zero h = absurd (h refl)
-is_some e (suc n) h = refl
-
-pub is_bytes : (a e : ℤ) (n : ℕ) → pos n ≡ a → (n ≡ 0 → ⊥) → Bytes n ≡ outcome_of a e
-is_bytes a e n p h = subst (λ (v : ℤ). Bytes n ≡ outcome_of v e) p (is_some e n h)
-
--- a call that is handed what is left of a buffer moves bytes within it
-fails_within : (e : ℤ) (count long : ℕ) → Within (failure_of e) count long
-fails_within (pos n) count long = by_cond (eqb n 4)
-  where
-    by_cond : (b : Bool) → Within (cond b Interrupted Failed) count long
-    by_cond true = tt
-    by_cond false = tt
-fails_within (negsuc n) count long = tt
-
-within : (a e : ℤ) (count room long : ℕ) → Moved room a → count + room ≡ long → Within (outcome_of a e) count long
-within (pos zero) e count room long m q = tt
-within (pos (suc n)) e count room long m q = (omega arith, omega (arith, m, q))
-within (negsuc n) e count room long m q = fails_within e count long
-
-pub moves_within :
-    (a b e : ℤ) (r : Outcome) (count room long : ℕ) → Moved room a → b ≡ a → r ≡ outcome_of b e → count + room ≡ long → Within r count long
-moves_within a b e r count room long m p h q =
-    subst⁻¹ (λ (o : Outcome). Within o count long) h (within b e count room long (subst⁻¹ (λ (v : ℤ). Moved room v) p m) q)
-
-pub moved_within : (r : Outcome) (n count long : ℕ) → r ≡ Bytes n → Within r count long → Within (Bytes n) count long
-moved_within r n count long h w = subst (λ (o : Outcome). Within o count long) h w
+use Rattle.transfer.specs.Transfers.{errno_of, failure_of, outcome_of}
 
 -- between two calls: where the last one moved nothing, bytes are left
 abbrev pub Going : Outcome → (count long : ℕ) → Type 0
@@ -68,47 +16,49 @@ Going Nothing count long = count < long
 Going Interrupted count long = count < long
 Going Failed count long = count < long
 
-pub goes_on : (r o : Outcome) (count long : ℕ) → r ≡ o → Going o count long → Going r count long
-goes_on r o count long h g = subst⁻¹ (λ (o : Outcome). Going o count long) h g
+-- what a reader gives twice it gives in all, and what a writer takes twice it takes in all
+Consumes-trans : (a b c : Option (List ℕ)) (xs ys : List ℕ) → Consumes a b xs → Consumes b c ys → Consumes a c (xs ++ ys)
+Consumes-trans None b c xs ys p q = tt
+Consumes-trans (Some u) None c xs ys p q = absurd p
+Consumes-trans (Some u) (Some v) None xs ys p q = absurd q
+Consumes-trans (Some u) (Some v) (Some w) xs ys p q = p ∙ ap (λ l. xs ++ l) q ∙ sym (append_assoc xs ys w)
 
--- a loop stops at a call that moved nothing, or with all the bytes moved
-pub stops_at : (r o : Outcome) (count long : ℕ) → r ≡ o → Stopped o count long → Stopped r count long
-stops_at r o count long h s = subst⁻¹ (λ (o : Outcome). Stopped o count long) h s
+Appends-trans : (a b c : Option (List ℕ)) (xs ys : List ℕ) → Appends a b xs → Appends b c ys → Appends a c (xs ++ ys)
+Appends-trans None b c xs ys p q = tt
+Appends-trans (Some u) None c xs ys p q = absurd p
+Appends-trans (Some u) (Some v) None xs ys p q = absurd q
+Appends-trans (Some u) (Some v) (Some w) xs ys p q = q ∙ ap (λ l. l ++ ys) p ∙ append_assoc u xs ys
 
-pub stops_full : (o : Outcome) (count long : ℕ) → Going o count long → long ≤ count → Stopped o count long
-stops_full (Bytes n) count long (m, g) q = (m, omega (arith, g, q))
-stops_full Nothing count long g q = absurd (omega (arith, g, q))
-stops_full Interrupted count long g q = absurd (omega (arith, g, q))
-stops_full Failed count long g q = absurd (omega (arith, g, q))
+-- a call that failed moved none
+no_bytes : (b : Bool) (n : ℕ) → Bytes n ≡ cond b Interrupted Failed → ⊥
+no_bytes true n h = cc
+no_bytes false n h = cc
 
-pub stops_within : (o : Outcome) (count long : ℕ) → Stopped o count long → count ≤ long
-stops_within (Bytes n) count long (m, s) = le_of_eq s
-stops_within Nothing count long s = omega (arith, s)
-stops_within Interrupted count long s = omega (arith, s)
-stops_within Failed count long s = omega (arith, s)
+failed_moves_none : (e : ℤ) (n : ℕ) → Bytes n ≡ failure_of e → ⊥
+failed_moves_none (pos k) n h = no_bytes (eqb k 4) n h
+failed_moves_none (negsuc k) n h = cc
 
--- nothing is an input where a read failed, and all that was read elsewhere
-pub none_failed : (o : Outcome) (count : ℕ) → has_failed o ≡ true → 0 ≡ whole_of o count
-none_failed (Bytes n) count h = absurd (let z : ◌≡◌ {A = ℕ} 0 1 = cc in omega arith)
-none_failed Nothing count h = absurd (let z : ◌≡◌ {A = ℕ} 0 1 = cc in omega arith)
-none_failed Interrupted count h = refl
-none_failed Failed count h = refl
+-- a call that moved n bytes answered so many
+moved_read : (r : Result ℕ Error) (n : ℕ) (a b : Option (List ℕ)) (xs : List ℕ) → Bytes n ≡ outcome_of r → ReadConsumes a b r xs → Consumes a b (take n xs)
+moved_read (Ok zero) n a b xs h m = absurd cc
+moved_read (Ok (suc k)) n a b xs h m = let same : n ≡ suc k = cc in subst (λ i. Consumes a b (take i xs)) (sym same) m.0
+moved_read (Err e) n a b xs h m = absurd (failed_moves_none (errno_of e) n h)
 
-pub all_read : (o : Outcome) (count : ℕ) → has_failed o ≡ false → count ≡ whole_of o count
-all_read (Bytes n) count h = refl
-all_read Nothing count h = refl
-all_read Interrupted count h = absurd (let z : ◌≡◌ {A = ℕ} 0 1 = cc in omega arith)
-all_read Failed count h = absurd (let z : ◌≡◌ {A = ℕ} 0 1 = cc in omega arith)
+moved_written : (r : Result ℕ Error) (n : ℕ) (a b : Option (List ℕ)) (xs : List ℕ) → Bytes n ≡ outcome_of r → WriteAppends a b r xs → Appends a b (take n xs)
+moved_written (Ok zero) n a b xs h m = absurd cc
+moved_written (Ok (suc k)) n a b xs h m = let same : n ≡ suc k = cc in subst (λ i. Appends a b (take i xs)) (sym same) m
+moved_written (Err e) n a b xs h m = absurd (failed_moves_none (errno_of e) n h)
 
--- what counts as an input lies within the buffer
-whole_within : (o : Outcome) (count long : ℕ) → Stopped o count long → whole_of o count ≤ long
-whole_within (Bytes n) count long s = stops_within (Bytes n) count long s
-whole_within Nothing count long s = stops_within Nothing count long s
-whole_within Interrupted count long s = omega arith
-whole_within Failed count long s = omega arith
+-- the bytes that one more call moved stand behind those that were moved before
+pub read_more :
+    (r : Result ℕ Error) (n count : ℕ) (old new : List ℕ) (a b c : Option (List ℕ)) → Bytes n ≡ outcome_of r → take count new ≡ take count old →
+    Consumes a b (take count old) → ReadConsumes b c r (drop count new) → Consumes a c (take (count + n) new)
+read_more r n count old new a b c h same before m =
+    subst (λ l. Consumes a c l) (ap (λ l. l ++ take n (drop count new)) (sym same) ∙ sym (take-add count n new))
+    (Consumes-trans a b c _ _ before (moved_read r n b c _ h m))
 
-pub whole_input :
-    {stop : Stop} {n long : ℕ} → Stopped stop.last stop.count long → n ≡ whole_of stop.last stop.count →
-    WholeInput (record { count = n; stop = stop }) long
-whole_input {stop} {n} {long} s e =
-    record { stopped = s; whole = e; within = subst⁻¹ (λ (m : ℕ). m ≤ long) e (whole_within stop.last stop.count long s) }
+pub write_more :
+    (r : Result ℕ Error) (n count : ℕ) (line : List ℕ) (a b c : Option (List ℕ)) → Bytes n ≡ outcome_of r →
+    Appends a b (take count line) → WriteAppends b c r (drop count line) → Appends a c (take (count + n) line)
+write_more r n count line a b c h before m =
+    subst (λ l. Appends a c l) (sym (take-add count n line)) (Appends-trans a b c _ _ before (moved_written r n b c _ h m))

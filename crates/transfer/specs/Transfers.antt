@@ -1,5 +1,10 @@
 -- What a call that moves bytes came to, where reading and writing stop, and what counts as an input. Assumes nothing: these are definitions.
-use Rattle.std.specs.Prelude.{◌≡◌, ℕ, zero, suc, ◌+◌, ◌≤◌, ◌<◌, Bool, true, false, cond, eqb, ℤ, pos, negsuc}
+use Rattle.std.specs.Prelude.{◌≡◌, ℕ, zero, suc, ◌+◌, ◌≤◌, ◌<◌, Bool, true, false, cond, eqb, ℤ, pos, negsuc, None, Some, Ok, Err}
+use Rattle.std.specs.declared.option.Option.{Option}
+use Rattle.std.specs.declared.result.Result.{Result}
+use Rattle.std.specs.Option.{unwrap_or}
+use Rattle.std.specs.IoError.{raw_os_error}
+use Rattle.std.specs.declared.io.Error.{Error}
 use Rattle.transfer.specs.declared.Outcome.{Outcome}
 use Rattle.transfer.specs.declared.Input.{Input}
 use Rattle.transfer.specs.declared.Outcome.TheVariants.{Bytes, Nothing, Interrupted, Failed}
@@ -9,11 +14,15 @@ abbrev pub failure_of : (error : ℤ) → Outcome
 failure_of (pos n) = cond (eqb n 4) Interrupted Failed
 failure_of (negsuc n) = Failed
 
--- a call answers how many bytes it moved, or a negative number where it failed
-abbrev pub outcome_of : (answer error : ℤ) → Outcome
-outcome_of (pos zero) e = Nothing
-outcome_of (pos (suc k)) e = Bytes (suc k)
-outcome_of (negsuc k) e = failure_of e
+-- the number of an error that is the system's, and 0 of another, which is no error's
+abbrev pub errno_of : Error → ℤ
+errno_of e = unwrap_or (raw_os_error e) (pos 0)
+
+-- a call answers how many bytes it moved, or an error where it failed
+abbrev pub outcome_of : (answer : Result ℕ Error) → Outcome
+outcome_of (Ok zero) = Nothing
+outcome_of (Ok (suc k)) = Bytes (suc k)
+outcome_of (Err e) = failure_of (errno_of e)
 
 -- bytes that were moved are at least one, and lie within the buffer
 abbrev pub Within : Outcome → (count long : ℕ) → Type 0
@@ -35,6 +44,11 @@ has_failed (Bytes n) = false
 has_failed Nothing = false
 has_failed Interrupted = true
 has_failed Failed = true
+
+-- an error is kept where the last call failed, and is that call's
+abbrev pub Explained : Outcome → (error : Option Error) → Type 0
+Explained last None = has_failed last ≡ false
+Explained last (Some e) = last ≡ failure_of (errno_of e)
 
 -- what was read is an input where reading came to the end of it or filled the buffer; where a read failed, nothing is
 abbrev pub whole_of : Outcome → (count : ℕ) → ℕ

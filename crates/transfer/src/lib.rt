@@ -1,16 +1,22 @@
-// Reading all of standard input and writing all of a line or of other bytes, over the C library's read and write. The end of the input and a read that failed are told apart, and a call that a signal interrupted is made again.
+// Reading all of an input and writing all of a line or of other bytes, over the library's read and write. The end of the input and a read that failed are told apart, and a call that a signal interrupted is made again.
 #![tactic(auto)]
 
-ghost use Rattle.std.specs.Prelude.{◌≡◌, ◌≤◌, ltb, length, take, pos, ◌≤ℤ◌};
-ghost use Rattle.transfer.specs.Transfers.{outcome_of, failure_of, has_failed, whole_of, Within, Stopped, WholeInput};
+ghost use Rattle.std.specs.Prelude.{◌≡◌, ◌≤◌, ltb, length, take, drop};
+ghost use Rattle.std.specs.Io.KnownBytes.{Appends, Consumes, IsAtEnd, ReadConsumes, WriteAppends};
+ghost use Rattle.transfer.specs.declared.Outcome.TheVariants.{Nothing};
+ghost use Rattle.transfer.specs.Transfers.{outcome_of, failure_of, has_failed, whole_of, Explained, Within, Stopped, WholeInput};
 
-use libc::{EINTR, STDIN_FILENO, STDOUT_FILENO};
+use std::io;
+use std::io::{Cursor, Read, Write};
+
+// errno's number for a call that a signal interrupted.
+const EINTR: i32 = 4;
 
 // How often interrupted calls are made again, in all: so the loops are known to end. After that an interruption is a failure.
 const MOST_TRIES: u32 = 1000000;
 
 // What one call moved: so many bytes; none, which a read says at the end of the input; none because a signal came first; none because it failed.
-#[derive(Drop)]
+#[derive(Clone, Copy)]
 pub enum Outcome {
     Bytes(usize),
     Nothing,
@@ -18,15 +24,16 @@ pub enum Outcome {
     Failed,
 }
 
-// How many bytes were moved in all, and how the last call came out: Bytes(0) where no call was made.
-#[derive(Drop)]
+// How many bytes were moved in all, how the last call came out (Bytes(0) where no call was made), and its error where it moved none.
+#[derive(Clone, Copy)]
 pub struct Stop {
     pub count: usize,
     pub last: Outcome,
+    pub error: Option<io::Error>,
 }
 
 // How many bytes are an input, and how reading stopped.
-#[derive(Drop)]
+#[derive(Clone, Copy)]
 pub struct Input {
     pub count: usize,
     pub stop: Stop,
@@ -43,62 +50,55 @@ fn why_not(error: i32) -> Outcome
     }
 }
 
-// An answer that is not negative, as a number of bytes.
-fn bytes(answer: isize) -> usize
-    requires { pos 0 ≤ℤ answer }
-    ensures { pos result ≡ answer }
+// What a call's answer says.
+fn came_to(answer: io::Result<usize>) -> Outcome
+    ensures { result ≡ outcome_of answer }
 {
-    answer as usize
-}
-
-// What a call's answer says; error is errno just after it.
-fn came_to(answer: isize, error: i32) -> Outcome
-    ensures { result ≡ outcome_of answer error }
-{
-    if answer < 0 {
-        return why_not(error);
-    }
-    let moved = bytes(answer);
-    if moved == 0 {
-        Outcome::Nothing
-    } else {
-        Outcome::Bytes(moved)
+    match answer {
+        Ok(0) => Outcome::Nothing,
+        Ok(moved) => Outcome::Bytes(moved),
+        Err(error) => why_not(error.raw_os_error().unwrap_or(0)),
     }
 }
 
 // One read into the part of the buffer that is still free. The bytes before it stay as they are.
-fn read_once(input: &mut [u8], count: usize) -> Outcome
+fn read_once<R: Read>(reader: &mut R, input: &mut [u8], count: usize) -> io::Result<usize>
     requires { count ≤ length input.old }
-    ensures within { Within result count (length input.new) }
+    ensures within { Within (outcome_of result) count (length input.new) }
     ensures input_unchanged { take count input.new ≡ take count input.old }
+    ensures bytes { ReadConsumes (R.remaining reader.old) (R.remaining reader.new) result (drop count input.new) }
 {
-    let answer = libc::read(STDIN_FILENO, &mut input[count..]);
-    let error = os::errno();
-    came_to(answer, error)
+    reader.read(&mut input[count..])
 }
 
 // Reads until the buffer is full or a read gives no more bytes.
-pub fn read_on(input: &mut [u8]) -> Stop
-    ensures { Stopped result.last result.count (length input.new) }
+pub fn read_on<R: Read>(reader: &mut R, input: &mut [u8]) -> Stop
+    ensures stopped { Stopped result.last result.count (length input.new) }
+    ensures explained { Explained result.last result.error }
+    ensures bytes { Consumes (R.remaining reader.old) (R.remaining reader.new) (take result.count input.new) }
+    ensures end { result.last ≡ Nothing → IsAtEnd (R.remaining reader.new) }
 {
     let mut count = 0;
     let mut tries = MOST_TRIES;
     let mut last = Outcome::Bytes(0);
+    let mut error = None;
     while count < input.len() {
-        last = read_once(input, count);
+        let answer = read_once(reader, input, count);
+        last = came_to(answer);
+        error = answer.err();
         match last {
             Outcome::Bytes(moved) => count += moved,
             Outcome::Interrupted => {
                 if tries == 0 {
-                    return Stop { count, last };
+                    return Stop { count, last, error };
                 }
                 tries -= 1;
             }
-            Outcome::Nothing => return Stop { count, last },
-            Outcome::Failed => return Stop { count, last },
+            Outcome::Nothing => return Stop { count, last, error },
+            Outcome::Failed => return Stop { count, last, error },
         }
     }
-    Stop { count, last }
+    Stop { count, last, error }
 }
 
 // Whether the last call failed, or was interrupted once more than calls are made again.
@@ -115,57 +115,67 @@ pub fn failed(stop: Stop) -> bool
 }
 
 // How many bytes are an input: those read where reading came to the end or filled the buffer, and none where a read failed, which is said on standard error.
-fn whole(stop: Stop, complaint: &[u8]) -> usize
+fn whole<E: Write>(errors: &mut E, stop: Stop, complaint: &[u8]) -> usize
     ensures { result ≡ whole_of stop.last stop.count }
 {
     if failed(stop) {
-        os::fail(complaint);
+        complain(errors, complaint, stop);
         return 0;
     }
     stop.count
 }
 
-// Reads the whole of standard input, and answers how long it is: 0, as for an empty input, where a read failed.
-pub fn read_whole(input: &mut [u8], complaint: &[u8]) -> Input
-    ensures { WholeInput result (length input.new) }
+// Reads the whole of an input, and answers how long it is: 0, as for an empty input, where a read failed.
+pub fn read_whole<R: Read, E: Write>(
+    reader: &mut R,
+    input: &mut [u8],
+    errors: &mut E,
+    complaint: &[u8],
+) -> Input
+    ensures whole { WholeInput result (length input.new) }
+    ensures bytes { Consumes (R.remaining reader.old) (R.remaining reader.new) (take result.stop.count input.new) }
 {
-    let stop = read_on(input);
-    let count = whole(stop, complaint);
+    let stop = read_on(reader, input);
+    let count = whole(errors, stop, complaint);
     Input { count, stop }
 }
 
 // One write of the part of the line that is not written yet.
-fn write_once(line: &[u8], count: usize) -> Outcome
+fn write_once<W: Write>(writer: &mut W, line: &[u8], count: usize) -> io::Result<usize>
     requires { count ≤ length line.now }
-    ensures { Within result count (length line.now) }
+    ensures within { Within (outcome_of result) count (length line.now) }
+    ensures bytes { WriteAppends (W.contents writer.old) (W.contents writer.new) result (drop count line.now) }
 {
-    let answer = libc::write(STDOUT_FILENO, &line[count..]);
-    let error = os::errno();
-    came_to(answer, error)
+    writer.write(&line[count..])
 }
 
 // Writes until the line is written or a write takes no more bytes.
-pub fn write_on(line: &[u8]) -> Stop
-    ensures { Stopped result.last result.count (length line.now) }
+pub fn write_on<W: Write>(writer: &mut W, line: &[u8]) -> Stop
+    ensures stopped { Stopped result.last result.count (length line.now) }
+    ensures explained { Explained result.last result.error }
+    ensures bytes { Appends (W.contents writer.old) (W.contents writer.new) (take result.count line.now) }
 {
     let mut count = 0;
     let mut tries = MOST_TRIES;
     let mut last = Outcome::Bytes(0);
+    let mut error = None;
     while count < line.len() {
-        last = write_once(line, count);
+        let answer = write_once(writer, line, count);
+        last = came_to(answer);
+        error = answer.err();
         match last {
             Outcome::Bytes(moved) => count += moved,
             Outcome::Interrupted => {
                 if tries == 0 {
-                    return Stop { count, last };
+                    return Stop { count, last, error };
                 }
                 tries -= 1;
             }
-            Outcome::Nothing => return Stop { count, last },
-            Outcome::Failed => return Stop { count, last },
+            Outcome::Nothing => return Stop { count, last, error },
+            Outcome::Failed => return Stop { count, last, error },
         }
     }
-    Stop { count, last }
+    Stop { count, last, error }
 }
 
 // Whether writing stopped before all of a line of so many bytes was written.
@@ -174,3 +184,28 @@ pub fn cut_short(stop: Stop, long: usize) -> bool
 {
     stop.count < long
 }
+
+// The words of an error's text: what stands before its number, which the library writes after them in brackets.
+fn words(text: &str) -> &str {
+    match text.rsplit_once(" (os error ") {
+        Some((words, _)) => words,
+        None => text,
+    }
+}
+
+// Writes a line to standard error: what failed, as the caller names it, a colon and why. What cannot be written is left out.
+pub fn complain<E: Write>(errors: &mut E, what: &[u8], stop: Stop) {
+    let error = stop.error.unwrap_or(io::Error::from_raw_os_error(0));
+    let mut text = Cursor::new([0u8; 256]);
+    let _ = write!(text, "{error}");
+    let long = text.position().min(256) as usize;
+    let bytes = text.into_inner();
+    let why = words(str::from_utf8(&bytes[..long]).unwrap_or(""));
+    let _ = errors.write_all(what);
+    let _ = errors.write_all(b": ");
+    let _ = errors.write_all(why.as_bytes());
+    let _ = errors.write_all(b"\n");
+}
+
+#[cfg(test)]
+mod tests;
