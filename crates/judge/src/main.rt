@@ -6,7 +6,7 @@ ghost use Rattle.grammar_judge.specs.Calls.{lent};
 ghost use Rattle.judge.specs.Program.{Buffers, Prints};
 
 use answer::answer;
-use transfer::{cut_short, read_whole, write_on};
+use transfer::{complain, cut_short, read_whole, write_on};
 
 // The line for the input that stands at the start of its buffer, in buffers of the sizes that the program has.
 fn line_of(
@@ -27,17 +27,19 @@ fn line_of(
 }
 
 // One byte more than an input may have is asked for, so that a longer input is noticed.
-fn main() {
+fn main(rt: HostRuntime) {
     let mut input = [0u8; 65537];
     let mut image = [0u8; 65536];
     let mut notes = [0u32; 16384];
     let mut work = [0u32; 16384];
     let mut line = [0u8; 64];
-    let read = read_whole(&mut input, b"judge: standard input cannot be read");
+    let mut errors = rt.stderr();
+    let complaint = b"judge: standard input cannot be read";
+    let read = read_whole(&mut rt.stdin(), &mut input, &mut errors, complaint);
     let count = read.count;
     let long = line_of(&input, count, &mut image, &mut notes, &mut work, &mut line);
-    let stop = write_on(&line[..long]);
+    let stop = write_on(&mut rt.stdout(), &line[..long]);
     if cut_short(stop, long) {
-        os::fail(b"judge: the line cannot be written");
+        complain(&mut errors, b"judge: the line cannot be written", stop);
     }
 }

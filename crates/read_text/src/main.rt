@@ -9,7 +9,10 @@ ghost use Rattle.read_text.specs.Program.{check_line, Holds, Buffer, TextSays, W
 use answer_line::{put_passes, put_recursion, put_refusal};
 use reader::reading::read;
 use refusal::Refusal;
-use transfer::{Stop, cut_short, failed, read_on, write_on};
+use std::env::FillError;
+use std::io::Write;
+use std::rt::Env;
+use transfer::{Stop, complain, cut_short, failed, read_on, write_on};
 use typed::left_recursion::{TextRecursion, check_text_recursion};
 
 // The longest text, in bytes.
@@ -42,10 +45,10 @@ fn no_text() -> Output
 }
 
 // The line for an input that could not be read; why not is said on standard error.
-fn unread() -> Output
+fn unread<E: Write>(errors: &mut E, stop: Stop) -> Output
     ensures { Holds result (refusal_line (refusal 14 0)) }
 {
-    os::fail(b"read_text: standard input cannot be read");
+    complain(errors, b"read_text: standard input cannot be read", stop);
     no_text()
 }
 
@@ -95,12 +98,12 @@ fn output_by(text: &[u8], checks: bool) -> Output
 }
 
 // What is written for the input that stands at the start of its buffer, by how reading it stopped.
-fn output_of(input: &[u8], stop: Stop, checks: bool) -> Output
+fn output_of<E: Write>(input: &[u8], stop: Stop, checks: bool, errors: &mut E) -> Output
     requires { Buffer input.now stop }
     ensures { Writes checks stop.last (take stop.count input.now) result }
 {
     if failed(stop) {
-        return unread();
+        return unread(errors, stop);
     }
     let count = stop.count;
     if MAX_TEXT < count {
@@ -109,16 +112,23 @@ fn output_of(input: &[u8], stop: Stop, checks: bool) -> Output
     output_by(&input[..count], checks)
 }
 
+// Whether the program was started with an argument beside its own name.
+fn has_argument(rt: &impl Env) -> bool {
+    let mut word = [0u8; 1];
+    !matches!(rt.arg(1, &mut word), Err(FillError::NotPresent))
+}
+
 // One byte more than a text may have is asked for, so that a longer input is noticed.
-fn main() {
+fn main(rt: HostRuntime) {
     let mut input = [0u8; 65537];
-    let stop = read_on(&mut input);
-    let checks = 1 < os::arg_count();
-    let output = output_of(&input, stop, checks);
+    let mut errors = rt.stderr();
+    let stop = read_on(&mut rt.stdin(), &mut input);
+    let checks = has_argument(&rt);
+    let output = output_of(&input, stop, checks, &mut errors);
     let bytes = output.bytes;
     let long = output.length;
-    let end = write_on(&bytes[..long]);
+    let end = write_on(&mut rt.stdout(), &bytes[..long]);
     if cut_short(end, long) {
-        os::fail(b"read_text: the output cannot be written");
+        complain(&mut errors, b"read_text: the output cannot be written", end);
     }
 }
