@@ -1,6 +1,5 @@
 -- What was read is as long as reading says, and what is held at the start of the program's buffer is what is to be written. Assumes nothing.
-use mathlib.Core.Path.{◌≡◌, sym, ap, subst, ◌∙◌}
-use mathlib.Core.Bool.{Bool}
+use mathlib.Core.Path.{◌≡◌, sym, ap, ◌∙◌}
 use mathlib.Core.List.{List}
 use Prim.Native.Nat.{ℕ, ◌≤◌}
 use native.Mathlib.Nat.{le_trans}
@@ -12,7 +11,7 @@ use Rattle.answer_line.proofs.Writing.{written_whole, count_within}
 use Rattle.transfer.specs.declared.Stop.{Stop}
 use Rattle.transfer.proofs.Outcomes.{stops_within}
 use Rattle.read_text.specs.declared.Output.{Output}
-use Rattle.read_text.specs.Program.{Holds, Buffer, TextSays}
+use Rattle.read_text.specs.Program.{Holds, Buffer}
 
 -- what was read is as long as reading says
 pub read_long : (input : List ℕ) (stop : Stop) → Buffer input stop → length (take stop.count input) ≡ stop.count
@@ -28,7 +27,3 @@ line_held line buffer r h room same =
       is = ap (take r.length) w.bytes ∙ take_at line _ r.length (sym w.counted);
       within = omega (arith, count_within h.holds, same);
     }
-
--- what is said of a text, by what is asked for
-pub asked_for : (checks t : Bool) (xs : List ℕ) (r : Output) → checks ≡ t → TextSays t xs r → TextSays checks xs r
-asked_for checks t xs r is s = subst (λ (b : Bool). TextSays b xs r) (sym is) s

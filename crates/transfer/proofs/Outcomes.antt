@@ -1,5 +1,5 @@
 -- What holds between two calls of a loop that reads or writes, and what a call that moved bytes adds to it. Assumes nothing.
-use Rattle.std.proofs.Common.{◌≡◌, Bool, true, false, cond, eqb, ℤ, pos, negsuc, ℕ, zero, suc, ◌+◌, ◌≤◌, ◌<◌, List, ◌++◌, take, drop, None, Some, Ok, Err, sym, ap, subst, ◌∙◌, append_assoc}
+use Rattle.std.proofs.Common.{◌≡◌, Bool, true, false, cond, eqb, ℤ, pos, negsuc, ℕ, zero, suc, ◌+◌, ◌≤◌, ◌<◌, List, ◌++◌, take, drop, None, Some, Ok, Err, sym, ap, subst, ◌∙◌, append_assoc, arith}
 use Rattle.std.proofs.Math.Seq.{take-add}
 use Rattle.std.specs.Io.KnownBytes.{Appends, Consumes, ReadConsumes, WriteAppends}
 use Rattle.std.specs.declared.io.Error.{Error}
@@ -7,7 +7,7 @@ use Rattle.std.specs.declared.option.Option.{Option}
 use Rattle.std.specs.declared.result.Result.{Result}
 use Rattle.transfer.specs.declared.Outcome.{Outcome}
 use Rattle.transfer.specs.declared.Outcome.TheVariants.{Bytes, Nothing, Interrupted, Failed}
-use Rattle.transfer.specs.Transfers.{errno_of, failure_of, outcome_of}
+use Rattle.transfer.specs.Transfers.{Stopped, errno_of, failure_of, outcome_of}
 
 -- between two calls: where the last one moved nothing, bytes are left
 abbrev pub Going : Outcome → (count long : ℕ) → Type 0
@@ -15,6 +15,13 @@ Going (Bytes n) count long = (n ≤ count) × (count ≤ long)
 Going Nothing count long = count < long
 Going Interrupted count long = count < long
 Going Failed count long = count < long
+
+-- a loop stops within the bytes that it has
+pub stops_within : (o : Outcome) (count long : ℕ) → Stopped o count long → count ≤ long
+stops_within (Bytes n) count long s = omega (arith, s.1)
+stops_within Nothing count long s = omega (arith, s)
+stops_within Interrupted count long s = omega (arith, s)
+stops_within Failed count long s = omega (arith, s)
 
 -- what a reader gives twice it gives in all, and what a writer takes twice it takes in all
 Consumes-trans : (a b c : Option (List ℕ)) (xs ys : List ℕ) → Consumes a b xs → Consumes b c ys → Consumes a c (xs ++ ys)
