@@ -38,22 +38,22 @@ module _ {E : Rules} {t : ℕ} (back : TriesOn E t t) where
   next e w = subst (FirstTries E t) e (goes_round back w)
 
   -- a derivation has in it one for what the rule tries first, at its place, and so on without end
-  pub no_result_into : {k : ℕ} → TriesOn E k t → (cs : List ℕ) (i : ℕ) (o : Option ℕ) → Parses E cs k i o → ⊥
-  no_result_into w cs i o (sequence {j = j} e p q) = no_result_into (next e w) cs i (some j) p
-  no_result_into w cs i o (sequence_fails e p) = no_result_into (next e w) cs i none p
-  no_result_into w cs i o (choice {j = j} e p) = no_result_into (next e w) cs i (some j) p
-  no_result_into w cs i o (choice_other e p q) = no_result_into (next e w) cs i none p
-  no_result_into w cs i o (not_there e p) = no_result_into (next e w) cs i none p
-  no_result_into w cs i o (not_fails {j = j} e p) = no_result_into (next e w) cs i (some j) p
-  no_result_into w cs i o (empty e) = next e w
-  no_result_into w cs i o (range e l r) = next e w
-  no_result_into w cs i o (range_fails e r) = next e w
+  pub no_result_into : (cs : List ℕ) {k : ℕ} → TriesOn E k t → (i : ℕ) (o : Option ℕ) → Parses E cs k i o → ⊥
+  no_result_into cs w i o (sequence {j = j} e p q) = no_result_into cs (next e w) i (some j) p
+  no_result_into cs w i o (sequence_fails e p) = no_result_into cs (next e w) i none p
+  no_result_into cs w i o (choice {j = j} e p) = no_result_into cs (next e w) i (some j) p
+  no_result_into cs w i o (choice_other e p q) = no_result_into cs (next e w) i none p
+  no_result_into cs w i o (not_there e p) = no_result_into cs (next e w) i none p
+  no_result_into cs w i o (not_fails {j = j} e p) = no_result_into cs (next e w) i (some j) p
+  no_result_into cs w i o (empty e) = next e w
+  no_result_into cs w i o (range e l r) = next e w
+  no_result_into cs w i o (range_fails e r) = next e w
 
 pub no_result : {E : Rules} {k : ℕ} → TriesOn E k k → (cs : List ℕ) (i : ℕ) (o : Option ℕ) → Parses E cs k i o → ⊥
-no_result back = no_result_into back back
+no_result back cs = no_result_into back cs back
 
 -- THE MACHINE loops on every capture if rule 0 tries first, in one step or more, a rule that comes back to itself; rule 0 may be that rule
 pub met_loops :
     (how : Matching) (gs cs : List ℕ) (k : ℕ) → (grammar_refusal gs).number ≡ 0 → Bytes cs →
     TriesOn (expression gs) 0 k → TriesOn (expression gs) k k → GoesOn (machine (built how gs) cs)
-met_loops how gs cs k good bytes met back = (built_parses how gs cs good bytes).no_parse_goes_on (no_result_into back met cs 0)
+met_loops how gs cs k good bytes met back = (built_parses how gs cs good bytes).no_parse_goes_on (no_result_into back cs met 0)
