@@ -1,4 +1,4 @@
-// Numbers in bytes, as images and the program's input have them: little_endian numbers, and pairs of offset and length.
+// Numbers in bytes, as images and the program's input have them: little-endian numbers, and pairs of offset and length.
 #![tactic(auto)]
 
 ghost use Rattle.std.specs.Prelude.{◌≡◌, ◌∷◌, [], ◌+◌, ◌*◌, ◌≤◌, length};

@@ -1,4 +1,4 @@
--- What the lookups' functions ask and answer, over lists and numbers: from Lookup-ready to the rule's offset and to the action. Assumes nothing.
+-- What the lookups' functions ask and answer, over lists and numbers: from LookupReady to the rule's offset and to the action. Assumes nothing.
 use mathlib.Core.Path.{◌≡◌, refl, sym, ap, ◌∙◌}
 use mathlib.Core.List.{List}
 use Prim.Native.Nat.{ℕ, ◌+◌, ◌*◌, ◌≤◌}

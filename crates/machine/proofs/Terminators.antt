@@ -105,7 +105,7 @@ no_later {M} {c} {d} x i w base reached high = go (dec_lt (count x) w)
     go (no l) = omega arith
     go (yes l) = absurd (past l)
 
--- over-base is one-to-one
+-- over_base is one-to-one
 over_same : (c d : Config) (i : ℕ) (base : List Entry) → over_base c i base ≡ over_base d i base → c ≡ d
 over_same c d i base e = sym (config_over c i base) ∙ ap config_of e ∙ config_over d i base
 

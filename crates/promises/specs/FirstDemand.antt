@@ -1,5 +1,5 @@
 -- THE FIRST DEMAND: every call on every input returns; a bad image, grammar, capture or lent slice is refused by a number and a place; a refused call changes no lent cell. Assumes nothing: each claim is a type, and proofs/ has its proof.
--- That every call returns is part of every function's proof, and no public call has a `requires`. A claim about a call is about all that its contract (Judge-says, Run-says, Build-says, Answer-says) lets it answer and leave.
+-- That every call returns is part of every function's proof, and no public call has a `requires`. A claim about a call is about all that its contract (JudgeSays, RunSays, BuildSays, AnswerSays) lets it answer and leave.
 use Rattle.std.specs.Prelude.{◌≡◌, List, ◌↔◌, ℕ, ◌*◌, length, take, drop}
 use Rattle.refusal.specs.First.{refusal}
 use Rattle.image.specs.Refusals.{image_refusal, capture_refusal}
