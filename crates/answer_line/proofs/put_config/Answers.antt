@@ -6,8 +6,7 @@ use Rattle.answer_line.proofs.put_config.Goals as goal
 
 pub returns : goal.returns
 returns c =
-    let known = c.struct_known-1 in
     record {
       adds = add_both (add_both c.put_field-state.ensures c.put_field-head.ensures) c.put_field.ensures;
-      short = config_short _ (omega (arith, known)) (omega (arith, known)) (omega (arith, known));
+      short = config_short _ (omega arith) (omega arith) (omega arith);
     }

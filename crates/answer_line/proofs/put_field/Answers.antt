@@ -5,5 +5,4 @@ use Rattle.answer_line.proofs.put_field.Goals as goal
 
 pub returns : goal.returns
 unfolding field
-returns c =
-    add_both c.put-next.ensures c.put_number.ensures
+returns c = add_both c.put-next.ensures c.put_number.ensures

@@ -8,9 +8,8 @@ use Rattle.answer_line.proofs.put_refusal.Goals as goal
 pub returns : goal.returns
 unfolding refused_word refusal_line
 returns c =
-    let known = c.struct_known-1 in
     let parts = add_both (add_both c.put_word-word.ensures c.put_field-number.ensures) c.put_field-place.ensures in
     record {
       holds = holds_first (add_both parts c.put.ensures);
-      short = refusal_short _ (omega (arith, known)) (omega (arith, known));
+      short = refusal_short _ (omega arith) (omega arith);
     }

@@ -1,6 +1,5 @@
 -- `answer_line::put_word` meets its contract. Assumes nothing.
 use mathlib.Core.Path.{refl, ◌∙◌}
-use Prim.Native.Nat.{◌-◌}
 use native.Mathlib.Omega.{arith}
 use Rattle.answer_line.proofs.Writing.{add_nothing, word_more, word_whole}
 use Rattle.answer_line.proofs.put_word.Goals as goal
