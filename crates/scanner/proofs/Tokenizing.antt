@@ -9,7 +9,7 @@ use lib.ListN.{length, drop, length-drop}
 use lib.Seq.{get_or-drop}
 use borrow.Author.Tests.{leb-true, eq-eqb, ne_eqb}
 use Rattle.codec.specs.Bytes.{byte, section}
-use Rattle.syntax.specs.Tokens.{Token, name, sign, range, unknown, Lexeme, letter, letters, same, empty_word, fail_word, word, sign_of, range_there, token_at, width_at, skipped}
+use Rattle.syntax.specs.Tokens.{Token, name, sign, range, unknown, letter, letters, same, empty_word, fail_word, word, sign_of, range_there, token_at, width_at, skipped}
 use Rattle.syntax.specs.declared.Token as Code
 use Rattle.syntax.specs.declared.Token.TheVariants.{Name, Sign, Range}
 use Rattle.syntax.specs.declared.Sign as CodeSign

@@ -1,6 +1,5 @@
 -- `scanner::faults::check_text` meets its contract: the loop's invariant says that the tokens left decide. Assumes nothing.
 use mathlib.Core.Path.{◌∙◌}
-use Prim.Native.Nat.{◌-◌}
 use native.Mathlib.Omega.{arith}
 use Rattle.scanner.specs.Code.Stepping.{spot_of}
 use Rattle.scanner.proofs.Lexing.{lexemes_end}

@@ -16,7 +16,7 @@ overflow_add-result c =
 pub returns-then-is_letter : goal.returns-then-is_letter
 returns-then-is_letter c =
     move_word c.args.text.now c.args.lines _ c.args.offset _ (sym c.if-is_letter.true ∙ c.is_letter.ensures) _
-    c.letters_from-long.ensures c.by_word_lem.ensures
+    c.letters_from-long.ensures c.by_word-step.ensures
 
 pub overflow_add-result-then-range_at : goal.overflow_add-result-then-range_at
 overflow_add-result-then-range_at c =

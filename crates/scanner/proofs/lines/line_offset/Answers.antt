@@ -1,5 +1,4 @@
 -- `scanner::lines::line_offset` meets its contract: line after line, until none is left before the one sought. Assumes nothing.
-use Prim.Native.Nat.{◌-◌}
 use native.Mathlib.Omega.{arith}
 use Rattle.scanner.proofs.Lexing.{lexemes_end}
 use Rattle.scanner.proofs.LineStarts.{scanned_to, scanned_end, offset_start, offset_none, offset_found, offset_next}

@@ -1,6 +1,5 @@
 -- `scanner::lines::next_line` meets its contract: token after token, until one ends the line. Assumes nothing.
 use mathlib.Core.Path.{refl, sym, ◌∙◌}
-use Prim.Native.Nat.{◌-◌}
 use native.Mathlib.Omega.{arith}
 use Rattle.scanner.proofs.LineStarts.{scanned_to, scanned_end, line_over, line_ended, line_passed, line_goes_on, token_further}
 use Rattle.scanner.proofs.lines.next_line.Goals as goal

@@ -1,6 +1,4 @@
 -- `scanner::names::after_line` meets its contract: the loop's invariant says that no line's head was passed. Assumes nothing.
-use mathlib.Core.Bool.{false}
-use Prim.Native.Nat.{◌-◌}
 use native.Mathlib.Omega.{arith}
 use Rattle.scanner.proofs.Passing.{pass_none, pass_on, pass_end, pass_semicolon, pass_quote, pass_less, pass_byte}
 use Rattle.scanner.proofs.names.after_line.Goals as goal

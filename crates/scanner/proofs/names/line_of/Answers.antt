@@ -1,6 +1,4 @@
 -- `scanner::names::line_of` meets its contract: the loop's invariant says that the lines passed are other ones. Assumes nothing.
-use mathlib.Core.Logic.{⊎_elim}
-use Prim.Native.Nat.{◌-◌}
 use native.Mathlib.Omega.{arith}
 use Rattle.scanner.proofs.Lexing.{lexemes_end}
 use Rattle.scanner.proofs.Tokenizing.{letters_room}
@@ -21,22 +19,22 @@ returns-in-Sought c =
 
 pub overflow_add-offset : goal.overflow_add-offset
 overflow_add-offset c =
-    omega (arith, letters_room c.args.text.now c.skip-offset.result _ c.letters_from-wide.ensures, c.skip-offset.type-inv)
+    omega (arith, letters_room c.args.text.now c.skip-offset.result _ c.letters_from-wide.ensures, c.skip-offset.type_inv)
 
 pub loop-at-smaller : goal.loop-at-smaller
 loop-at-smaller c =
-    omega (arith, c.loop-at-test.true, line_further _ _ _ _ _ c.loop-at-test.true c.skip-offset.ensures c.after_Line.ensures)
+    omega (arith, c.loop-at-test.true, line_further _ _ _ _ _ c.loop-at-test.true c.skip-offset.ensures c.after_line-at.ensures)
 
 pub loop-at-preserved : goal.loop-at-preserved
 loop-at-preserved c =
     let s = c.skip-offset.ensures in
     let letters = c.letters_from-wide.ensures in
-    let after = c.after_Line.ensures in
+    let after = c.after_line-at.ensures in
     let further = line_further _ _ _ _ _ c.loop-at-test.true s after in
-    ⊎_elim
-    (λ w. search_other _ _ _ _ c.loop-at.invariant _ s _ letters _ c.head_of-head.ensures _ after.0 further w.1.given.1 _ w.2)
-    (λ w. search_nothing _ _ _ _ c.loop-at.invariant _ s _ letters _ c.head_of-head.ensures _ after.0 further w.1.given.1 _ w.2)
-    c.match-head.branch
+    elim c.match-head.branch [
+      | goal.in-Other w ↦ search_other _ _ _ _ c.loop-at.invariant _ s _ letters _ c.head_of-head.ensures _ after.0 further w.in-Other.is _ w.line-is
+      | goal.in-Nothing w ↦ search_nothing _ _ _ _ c.loop-at.invariant _ s _ letters _ c.head_of-head.ensures _ after.0 further w.in-Nothing.is _ w.line-is
+    ]
 
 pub returns : goal.returns
 returns c = search_end _ _ _ _ c.loop-at.invariant (lexemes_end _ _ c.loop-at-test.false)

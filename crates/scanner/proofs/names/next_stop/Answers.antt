@@ -1,7 +1,5 @@
 -- `scanner::names::next_stop` meets its contract: the loop's invariant says that no stop, and so no line's head, was passed. Assumes nothing.
 use mathlib.Core.Path.{sym, ◌∙◌}
-use mathlib.Core.Bool.{false}
-use Prim.Native.Nat.{◌-◌}
 use native.Mathlib.Omega.{arith}
 use Rattle.scanner.proofs.Passing.{pass_none, pass_one, pass_two, pass_three, pass_four}
 use Rattle.scanner.proofs.names.next_stop.Goals as goal

@@ -1,6 +1,5 @@
 -- `scanner::names::next_word` meets its contract: the loop's invariant says that no name was passed. Assumes nothing.
 use mathlib.Core.Path.{sym, ◌∙◌}
-use Prim.Native.Nat.{◌-◌}
 use native.Mathlib.Omega.{arith}
 use Rattle.scanner.proofs.Defining.{names_none, names_quote, names_less, names_byte}
 use Rattle.scanner.proofs.names.next_word.Goals as goal

@@ -1,6 +1,5 @@
 -- `scanner::tokens::letters_from` meets its contract: what was passed are letters. Assumes nothing.
 use mathlib.Core.Path.{sym, ◌∙◌}
-use Prim.Native.Nat.{◌-◌}
 use Rattle.scanner.proofs.Lexing.{count_start, count_end, count_stop, count_next}
 use Rattle.scanner.proofs.tokens.letters_from.Goals as goal
 

@@ -1,5 +1,4 @@
 -- `scanner::tokens::same_at` meets its contract: the loop's invariant says that the bytes left decide. Assumes nothing.
-use Prim.Native.Nat.{◌-◌}
 use Rattle.scanner.proofs.Comparing.{same_never, same_start, same_end, same_stop, same_next}
 use Rattle.scanner.proofs.tokens.same_at.Goals as goal
 

@@ -1,6 +1,5 @@
 -- `scanner::tokens::skip` meets its contract: what was passed is skipped. Assumes nothing.
 use mathlib.Core.Path.{refl, sym, ◌∙◌}
-use Prim.Native.Nat.{◌-◌}
 use native.Mathlib.Omega.{arith}
 use Rattle.scanner.proofs.Lexing.{skip_end, skip_stop, skip_next}
 use Rattle.scanner.proofs.tokens.skip.Goals as goal

@@ -1,6 +1,5 @@
 -- `scanner::undefined::undefined_of` meets its contract: the loop's invariant says that the words left decide. Assumes nothing.
 use mathlib.Core.Path.{sym, ◌∙◌}
-use Prim.Native.Nat.{◌-◌}
 use native.Mathlib.Omega.{arith}
 use Rattle.scanner.proofs.Tokenizing.{letters_room}
 use Rattle.scanner.proofs.Defining.{undefined_start, undefined_end, undefined_here, undefined_next, word_some}
