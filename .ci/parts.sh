@@ -9,7 +9,7 @@ clean_environment() {
     local name
     for name in "${!SEJIMAKPU_@}" "${!CARGO_BUILD_@}" "${!CARGO_PROFILE_@}" "${!CARGO_TARGET_@}" "${!CLIPPY_@}" "${!RUST_TEST_@}"; do unset "$name"; done
     unset TRANSCRIPTS READS WRITES LD_PRELOAD RUSTFLAGS CARGO_ENCODED_RUSTFLAGS RUSTDOCFLAGS RUSTC RUSTDOC RUSTC_WRAPPER RUSTC_WORKSPACE_WRAPPER
-    unset BASH_ENV CDPATH GLOBIGNORE RT_CUT RT_STATUS
+    unset BASH_ENV CDPATH GLOBIGNORE RT_ALLOW_C RT_BACKEND RT_SECONDS RT_STATUS
     # git's own, which a hook sets: a test that commits in a copy would do so here
     # shellcheck disable=SC2046
     unset $(git rev-parse --local-env-vars)

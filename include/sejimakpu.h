@@ -1,8 +1,8 @@
 /*
  * Sejimakpu: judges console captures by two-way pointer pushdown machines. For C99 and C++11.
  *
- * Link libsejimakpu.a (made by `rt staticlib sejimakpu`). Its thirteen functions are proved against their contracts in
- * crates/sejimakpu: each returns on every input, and what it answers is what the definitions in crates/NAME/specs say.
+ * Link libsejimakpu.a (made by `./make_proved library`). Its thirteen functions are proved against their contracts in
+ * crates/sejimakpu_c: each returns on every input, and what it answers is what the definitions in crates/NAME/specs say.
  * Call them by the inline functions below, which only replace null pointers; sejimakpu_version, which takes no pointer, has
  * none.
  *

@@ -68,4 +68,4 @@ tool_built 'by sudo' 0 "$installing" "sudo${feed}apt-get install noninteractive$
 rm "$bench/bin/cargo"
 tool_built 'no cargo' 1 'build_tool: cargo is not here' ''
 rm "$library"
-tool_built 'no archive' 1 "build_tool: the archive is missing, $library: rt staticlib sejimakpu makes it" ''
+tool_built 'no archive' 1 "build_tool: the archive is missing, $library: ./make_proved library makes it" ''

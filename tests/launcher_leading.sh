@@ -146,18 +146,18 @@ library=$stand/target/staticlib/libsejimakpu.a
 tool() { { printf '#!/bin/sh\n' && cat; } >"$stand/bin/$1" && chmod +x "$stand/bin/$1"; }
 # builds NAME STATUS LINE LAST-ERROR [CAPTURE]: with the tools that are there now, of the capture a, and of another too
 builds() { says "building: $1" "$2" "$3" "$4" env PATH="$stand/bin:$stand/tools" "$stand/launcher/program" --leading "$work/a.grammar" "$a" "${@:5}"; }
-unbuilt='judge: the program accept could not be built; where the library is older than include/sejimakpu.h, build it again: rt staticlib sejimakpu'
+unbuilt='judge: the program accept could not be built; where the library is older than include/sejimakpu.h, build it again: ./make_proved library'
 no_library='judge: the library could not be built'
 no_compiler='judge: the program accept is not built, and no C compiler (cc or gcc) is here to build it'
 builds 'no rt' 2 '' "judge: the library is not built, and the toolchain's rt is not here to build it"
 tool rt <<<'echo rt built nothing'
 builds 'rt builds nothing' 2 '' "$no_library"
-tool rt <<<'mkdir target/staticlib; echo library >target/staticlib/libsejimakpu.a; exit 1'
+tool rt <<<'mkdir -p out; echo library >out/libsejimakpu_c.a; exit 1'
 builds 'rt fails' 2 '' "$no_library"
-rm "$library"
-tool rt <<<'echo library >target/staticlib/libsejimakpu.a; echo "rt $*"'
+same 'building: no library is left' 1 '' test -e "$library"
+tool rt <<<'mkdir -p out; echo library >out/libsejimakpu_c.a; echo "rt $* in ${PWD##*/}"'
 builds 'no compiler' 2 '' "$no_compiler"
-same 'building: the library first, and said' 0 "judge: the library is not built yet: it is now proved and built, which takes some minutes${feed}rt staticlib sejimakpu$feed$no_compiler" cat "$work/err"
+same 'building: the library first, and said' 0 "judge: the library is not built yet: it is now proved and built, which takes some minutes${feed}rt lib in sejimakpu_c$feed$no_compiler" cat "$work/err"
 builds 'no compiler, and the library is there' 2 '' "$no_compiler"
 same 'building: the library is built once' 0 "$no_compiler" cat "$work/err"
 tool cc <<<'echo compiled >&2; exit 1'

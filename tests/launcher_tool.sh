@@ -43,8 +43,9 @@ cd "$here" || exit 1
 # a stand with a cargo that makes a tool which tells its words; both leave with what a file says
 bench=$work/bench
 calls=$bench/bin/calls
-mkdir -p "$bench"/{bin,tools,launcher,target/staticlib,tool/src,rust/sejimakpu/src}
+mkdir -p "$bench"/{bin,tools,launcher,target/staticlib,tool/src,rust/sejimakpu/src,crates/sejimakpu_c}
 cp "$launcher" "$bench/judge"
+cp "$here/make_proved" "$bench"
 cp "$here/launcher/program" "$bench/launcher"
 cp "$here/tool/build_tool" "$bench/tool"
 cp -r "$here/examples" "$bench/examples"
@@ -53,7 +54,7 @@ cp "$here"/target/bin/{judge,read_text} "$bench/target/bin"
 library=$bench/target/staticlib/libsejimakpu.a
 sources=("$bench"/tool/{src/main.rs,Cargo.toml,build.rs} "$bench"/rust/sejimakpu/{src/lib.rs,Cargo.toml,build.rs} "$library")
 touch "${sources[@]}"
-for word in bash sh env dirname readlink mktemp head tail tr od wc cat cmp cp mv mkdir chmod rm find touch date id grep; do
+for word in bash sh env dirname readlink mktemp head tail tr od wc cat cmp cp mv mkdir chmod rm tee find touch date id grep; do
     ln -s "$(command -v "$word")" "$bench/tools/$word"
 done
 # fake NAME: standard input is the script of a command
@@ -195,12 +196,12 @@ rm -f "$library" "$bench_tool"
 on 'no library, and no rt' 2 '' "judge: the library is not built, and the toolchain's rt is not here to build it" g c
 fake rt <<<'echo rt built nothing'
 on 'rt builds nothing' 2 '' 'judge: the library could not be built' g c
-fake rt <<<'echo part >target/staticlib/libsejimakpu.a; exit 1'
+fake rt <<<'mkdir -p out; echo part >out/libsejimakpu_c.a; exit 1'
 on 'rt fails' 2 '' 'judge: the library could not be built' g c
-rm "$library"
-fake rt <<<'echo library >target/staticlib/libsejimakpu.a; echo "rt $*"'
+same 'stand: no library is left' 1 '' test -e "$library"
+fake rt <<<'mkdir -p out; echo library >out/libsejimakpu_c.a; echo "rt $* in ${PWD##*/}"'
 on 'both built first' 0 "$plain" built g c
-same 'stand: the library first, and said' 0 "judge: the library is not built yet: it is now proved and built, which takes some minutes${feed}rt staticlib sejimakpu$feed$built${feed}built" cat "$work/err"
+same 'stand: the library first, and said' 0 "judge: the library is not built yet: it is now proved and built, which takes some minutes${feed}rt lib in sejimakpu_c$feed$built${feed}built" cat "$work/err"
 fake rt <<<'exit 1'
 on 'the library is there' 0 "$plain" '' g c
 

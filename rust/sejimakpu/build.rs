@@ -1,4 +1,4 @@
-//! Finds the proved archive: in SEJIMAKPU_LIB_DIR where that is set, else where `rt staticlib sejimakpu` writes it.
+//! Finds the proved archive: in SEJIMAKPU_LIB_DIR where that is set, else where `./make_proved library` puts it.
 use std::{env, path::PathBuf};
 
 fn main() {
@@ -10,7 +10,7 @@ fn main() {
     let archive = folder.join("libsejimakpu.a");
     println!("cargo:rerun-if-changed={}", archive.display());
     if !archive.is_file() {
-        panic!("no {}: run `rt staticlib sejimakpu` first, or set SEJIMAKPU_LIB_DIR", archive.display());
+        panic!("no {}: run `./make_proved library` first, or set SEJIMAKPU_LIB_DIR", archive.display());
     }
     println!("cargo:rustc-link-search=native={}", folder.display());
     println!("cargo:rustc-link-lib=static=sejimakpu");

@@ -1,4 +1,4 @@
-// The library for C and Rust: each call on numbers and slices, its answer in six cells. include/sejimakpu.h declares these functions.
+// The library for C and Rust: each call on numbers and slices, its answer in six cells. The crate sejimakpu_c exports these functions, which include/sejimakpu.h declares.
 // A slice is never null, not even an empty one: hence the names. The header's inline functions let C pass null with length 0.
 #![tactic(auto)]
 
@@ -28,24 +28,21 @@ use typed::{build_text, judge_text};
 use validator::check::check_image;
 
 // Whether an image is good.
-#[unsafe(no_mangle)]
-pub extern "C" fn sejimakpu_check_nonnull(image: &[u8], answer: &mut [u64; 6]) -> u32
+pub fn sejimakpu_check_nonnull(image: &[u8], answer: &mut [u64; 6]) -> u32
     ensures { CheckTells image.now result answer.new }
 {
     write_reply(answer, check_reply(check_image(image)))
 }
 
 // How many cells the judging of a capture of n bytes needs.
-#[unsafe(no_mangle)]
-pub extern "C" fn sejimakpu_cells_nonnull(image: &[u8], n: usize, answer: &mut [u64; 6]) -> u32
+pub fn sejimakpu_cells_nonnull(image: &[u8], n: usize, answer: &mut [u64; 6]) -> u32
     ensures { CellsTells image.now n result answer.new }
 {
     write_reply(answer, cells_reply(cells(image, n)))
 }
 
 // Judging.
-#[unsafe(no_mangle)]
-pub extern "C" fn sejimakpu_judge_nonnull(
+pub fn sejimakpu_judge_nonnull(
     image: &[u8],
     capture: &[u8],
     notes: &mut [u32],
@@ -61,8 +58,7 @@ pub extern "C" fn sejimakpu_judge_nonnull(
 }
 
 // The plain run.
-#[unsafe(no_mangle)]
-pub extern "C" fn sejimakpu_plain_run_nonnull(
+pub fn sejimakpu_plain_run_nonnull(
     image: &[u8],
     capture: &[u8],
     budget: u32,
@@ -77,12 +73,7 @@ pub extern "C" fn sejimakpu_plain_run_nonnull(
 }
 
 // Building, with no choice given.
-#[unsafe(no_mangle)]
-pub extern "C" fn sejimakpu_build_nonnull(
-    grammar: &[u8],
-    image: &mut [u8],
-    answer: &mut [u64; 6],
-) -> u32
+pub fn sejimakpu_build_nonnull(grammar: &[u8], image: &mut [u8], answer: &mut [u64; 6]) -> u32
     ensures { BuildTells default_matching grammar.now image.old image.new result answer.new }
 {
     let built = build_image(grammar, image, default_matching());
@@ -90,12 +81,7 @@ pub extern "C" fn sejimakpu_build_nonnull(
 }
 
 // Building of an image that matches whole captures.
-#[unsafe(no_mangle)]
-pub extern "C" fn sejimakpu_build_whole_nonnull(
-    grammar: &[u8],
-    image: &mut [u8],
-    answer: &mut [u64; 6],
-) -> u32
+pub fn sejimakpu_build_whole_nonnull(grammar: &[u8], image: &mut [u8], answer: &mut [u64; 6]) -> u32
     ensures { BuildTells Whole grammar.now image.old image.new result answer.new }
 {
     let built = build_image(grammar, image, Matching::Whole);
@@ -103,8 +89,7 @@ pub extern "C" fn sejimakpu_build_whole_nonnull(
 }
 
 // Whether a grammar is right, and no rule of it leads back to itself.
-#[unsafe(no_mangle)]
-pub extern "C" fn sejimakpu_check_recursion_nonnull(grammar: &[u8], answer: &mut [u64; 6]) -> u32
+pub fn sejimakpu_check_recursion_nonnull(grammar: &[u8], answer: &mut [u64; 6]) -> u32
     ensures { CheckRecursionTells grammar.now result answer.new }
 {
     write_reply(answer, check_reply(check_recursion(grammar)))
@@ -123,8 +108,7 @@ fn put_front(buffer: &mut [u8], bytes: &[u8])
 }
 
 // Reading a text: the bytes of its grammar, of which there are 124 at most.
-#[unsafe(no_mangle)]
-pub extern "C" fn sejimakpu_read_grammar_nonnull(
+pub fn sejimakpu_read_grammar_nonnull(
     text: &[u8],
     grammar: &mut [u8; 124],
     answer: &mut [u64; 6],
@@ -139,12 +123,7 @@ pub extern "C" fn sejimakpu_read_grammar_nonnull(
 }
 
 // Building, from a text.
-#[unsafe(no_mangle)]
-pub extern "C" fn sejimakpu_build_text_nonnull(
-    text: &[u8],
-    image: &mut [u8],
-    answer: &mut [u64; 6],
-) -> u32
+pub fn sejimakpu_build_text_nonnull(text: &[u8], image: &mut [u8], answer: &mut [u64; 6]) -> u32
     ensures { BuildTextTells text.now image.old image.new result answer.new }
 {
     let built = build_text(text, image);
@@ -152,8 +131,7 @@ pub extern "C" fn sejimakpu_build_text_nonnull(
 }
 
 // Judging, by a text.
-#[unsafe(no_mangle)]
-pub extern "C" fn sejimakpu_judge_text_nonnull(
+pub fn sejimakpu_judge_text_nonnull(
     text: &[u8],
     capture: &[u8],
     image: &mut [u8],
@@ -169,8 +147,7 @@ pub extern "C" fn sejimakpu_judge_text_nonnull(
 }
 
 // Whether a typed grammar is read, and no rule of it leads back to itself.
-#[unsafe(no_mangle)]
-pub extern "C" fn sejimakpu_check_text_recursion_nonnull(text: &[u8], answer: &mut [u64; 6]) -> u32
+pub fn sejimakpu_check_text_recursion_nonnull(text: &[u8], answer: &mut [u64; 6]) -> u32
     ensures { CheckTextRecursionTells text.now result answer.new }
 {
     let checked = check_text_recursion(text);
@@ -178,8 +155,7 @@ pub extern "C" fn sejimakpu_check_text_recursion_nonnull(text: &[u8], answer: &m
 }
 
 // Judging the captures of a bundle: 64 lines of seven cells are lent, and ten cells for their totals.
-#[unsafe(no_mangle)]
-pub extern "C" fn sejimakpu_judge_bundle_nonnull(
+pub fn sejimakpu_judge_bundle_nonnull(
     image: &[u8],
     bundle: &[u8],
     notes: &mut [u32],

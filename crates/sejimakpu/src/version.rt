@@ -3,8 +3,7 @@ ghost use Rattle.std.specs.Prelude.{◌≡◌};
 ghost use Rattle.sejimakpu.specs.Version.{version_number};
 
 // 0.1.0, as one number. It takes no slice, and so its name does not say nonnull.
-#[unsafe(no_mangle)]
-pub extern "C" fn sejimakpu_version() -> u32
+pub fn sejimakpu_version() -> u32
     ensures { result ≡ version_number }
 {
     1_000
