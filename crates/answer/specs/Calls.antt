@@ -48,9 +48,9 @@ unfoldable pub InputSays : (input : List ℕ) → (before after : Lent) → (lin
 InputSays xs x y l = InputAs (input_refusal xs).number (input_refusal xs) xs x y l
 
 -- a line that is right is written into the out buffer, and counted; where the buffer is shorter than the line, as far as there is room
-pub record Told (Line-right : List ℕ → Type 0) (out out_now : List ℕ) (count : ℕ) : Type 0 where
+pub record Told (LineRight : List ℕ → Type 0) (out out_now : List ℕ) (count : ℕ) : Type 0 where
   pub line : List ℕ
-  pub right : Line-right line
+  pub right : LineRight line
   pub lined : Lined line out out_now count
 
 -- the line for a grammar and a capture
