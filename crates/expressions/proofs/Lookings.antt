@@ -6,9 +6,9 @@ use mathlib.Core.Logic.{◌⊎◌, inl, inr, ⊎_elim}
 use Prim.Native.Nat.{ℕ, ◌+◌, ◌≤◌}
 use native.Mathlib.Omega.{arith}
 use lib.ListN.{length}
-use types.Run.{OneOf, miss}
-use denote.Enum.Declared.{tag_of}
 use Rattle.codec.specs.Bytes.{section}
+use Rattle.syntax.specs.declared.Ends.{Ends}
+use Rattle.syntax.specs.declared.Leaf.{Leaf}
 use Rattle.syntax.specs.declared.Prefix.{Prefix}
 use Rattle.syntax.specs.declared.Suffix.{Suffix}
 use Rattle.syntax.specs.declared.Sign.TheVariants.{Operand, Before, After, Slash, Opening, Closing, Equals, Semicolon}
@@ -25,7 +25,6 @@ use Rattle.expressions.specs.declared.lookahead.Role.TheVariants as Roles
 use Rattle.expressions.specs.declared.lookahead.Ahead.{Ahead}
 use Rattle.expressions.specs.Code.Lookahead.{role, Looks, starts, parts_choice}
 use Rattle.expressions.specs.Code.Levels.{suffix_sign, start_sign, slash_sign, by_sign, is_suffix, is_start, is_slash}
-use Rattle.expressions.specs.contracts.lookahead.Role.{the_type}
 
 -- two constructors that are equal
 pub clash : {A : Type 0} → ◌≡◌ {A = ℕ} 0 1 → A
@@ -160,16 +159,29 @@ module _ (text : List ℕ) (at : ℕ) (a : Ahead) (l : Looks text at a) where
       subst (λ (b : Ahead). tokens_at text b.next ≡ us) (sym l.is)
       (⊎_elim (λ g. cc) (λ n. clash (cc n.0)) (peeked text at at_lexeme l.peeks))
 
--- NONE OF SOME ROLES
-pub no_suffix_role : (r : Role) → OneOf (0 ∷ 1 ∷ 2 ∷ 3 ∷ 4 ∷ 6 ∷ 7 ∷ []) (tag_of the_type r) → suffix_role r ≡ false
-no_suffix_role (Roles.Name k) h = refl
-no_suffix_role (Roles.Range x) h = refl
-no_suffix_role (Roles.Leaf a) h = refl
-no_suffix_role Roles.Opening h = refl
-no_suffix_role (Roles.Prefix p) h = refl
-no_suffix_role (Roles.Suffix s) h = absurd (miss (0 ∷ 1 ∷ 2 ∷ 3 ∷ 4 ∷ 6 ∷ 7 ∷ []) 5 tt h)
-no_suffix_role Roles.Slash h = refl
-no_suffix_role Roles.Other h = refl
+-- NONE OF SOME ROLES: the arms that are left name all others
+abbrev pub NoSuffix : Role → Type 0
+NoSuffix r =
+    ((k : ℕ) × (r ≡ Roles.Name k)) ⊎
+    (((e : Ends) × (r ≡ Roles.Range e)) ⊎
+    (((z : Leaf) × (r ≡ Roles.Leaf z)) ⊎
+    ((r ≡ Roles.Opening) ⊎ (((p : Prefix) × (r ≡ Roles.Prefix p)) ⊎ ((r ≡ Roles.Slash) ⊎ (r ≡ Roles.Other))))))
+
+abbrev pub NoPrefix : Role → Type 0
+NoPrefix r =
+    ((k : ℕ) × (r ≡ Roles.Name k)) ⊎
+    (((e : Ends) × (r ≡ Roles.Range e)) ⊎
+    (((z : Leaf) × (r ≡ Roles.Leaf z)) ⊎
+    ((r ≡ Roles.Opening) ⊎ (((s : Suffix) × (r ≡ Roles.Suffix s)) ⊎ ((r ≡ Roles.Slash) ⊎ (r ≡ Roles.Other))))))
+
+no_suffix_role : (r : Role) → NoSuffix r → suffix_role r ≡ false
+no_suffix_role r (inl (k, e)) = ap suffix_role e
+no_suffix_role r (inr (inl (x, e))) = ap suffix_role e
+no_suffix_role r (inr (inr (inl (z, e)))) = ap suffix_role e
+no_suffix_role r (inr (inr (inr (inl e)))) = ap suffix_role e
+no_suffix_role r (inr (inr (inr (inr (inl (p, e)))))) = ap suffix_role e
+no_suffix_role r (inr (inr (inr (inr (inr (inl e)))))) = ap suffix_role e
+no_suffix_role r (inr (inr (inr (inr (inr (inr e)))))) = ap suffix_role e
 
 module _ (text : List ℕ) (at : ℕ) (a : Ahead) (l : Looks text at a) where
   pub suffix_here : (s : Suffix) → a.role ≡ Roles.Suffix s → tokens_at text at ≡ sign (After s) ∷ tokens_at text a.next
@@ -178,24 +190,21 @@ module _ (text : List ℕ) (at : ℕ) (a : Ahead) (l : Looks text at a) where
   pub prefix_here : (p : Prefix) → a.role ≡ Roles.Prefix p → tokens_at text at ≡ sign (Before p) ∷ tokens_at text a.next
   prefix_here p e = role_there text at a l (Roles.Prefix p) e (λ o. clash (cc))
 
-  pub suffix_not_here :
-      OneOf (0 ∷ 1 ∷ 2 ∷ 3 ∷ 4 ∷ 6 ∷ 7 ∷ []) (tag_of the_type a.role) → (t : Token) (us : List Token) → tokens_at text at ≡ t ∷ us → is_suffix t ≡ false
+  pub suffix_not_here : NoSuffix a.role → (t : Token) (us : List Token) → tokens_at text at ≡ t ∷ us → is_suffix t ≡ false
   suffix_not_here h t us f = (role_tells text at a l t us f).suffix ∙ no_suffix_role a.role h
 
-  pub prefix_not_here :
-      OneOf (0 ∷ 1 ∷ 2 ∷ 3 ∷ 5 ∷ 6 ∷ 7 ∷ []) (tag_of the_type a.role) → (q : Prefix) (us : List Token) → tokens_at text at ≡ sign (Before q) ∷ us → ⊥
+  pub prefix_not_here : NoPrefix a.role → (q : Prefix) (us : List Token) → tokens_at text at ≡ sign (Before q) ∷ us → ⊥
   unfolding by_sign start_sign
-  prefix_not_here h q us f = go a.role refl h
+  prefix_not_here h q us f = go h
     where
       first : (r : Role) → a.role ≡ r → (r ≡ Roles.Other → ⊥) → role_token text a.offset r ≡ sign (Before q)
       first r e some = let g = role_there text at a l r e some in cc
 
-      go : (r : Role) → a.role ≡ r → OneOf (0 ∷ 1 ∷ 2 ∷ 3 ∷ 5 ∷ 6 ∷ 7 ∷ []) (tag_of the_type r) → ⊥
-      go (Roles.Name k) e g = clash (cc (first _ e (λ o. clash (cc))))
-      go (Roles.Range x) e g = clash (cc (first _ e (λ o. clash (cc))))
-      go (Roles.Leaf x) e g = clash (cc (first _ e (λ o. clash (cc))))
-      go Roles.Opening e g = clash (cc (first _ e (λ o. clash (cc))))
-      go (Roles.Prefix p) e g = miss (0 ∷ 1 ∷ 2 ∷ 3 ∷ 5 ∷ 6 ∷ 7 ∷ []) 4 tt g
-      go (Roles.Suffix s) e g = clash (cc (first _ e (λ o. clash (cc))))
-      go Roles.Slash e g = clash (cc (first _ e (λ o. clash (cc))))
-      go Roles.Other e g = clash (cc ((role_tells text at a l _ us f).start, ap starts e))
+      go : NoPrefix a.role → ⊥
+      go (inl (k, e)) = clash (cc (first _ e (λ o. clash (cc))))
+      go (inr (inl (x, e))) = clash (cc (first _ e (λ o. clash (cc))))
+      go (inr (inr (inl (z, e)))) = clash (cc (first _ e (λ o. clash (cc))))
+      go (inr (inr (inr (inl e)))) = clash (cc (first _ e (λ o. clash (cc))))
+      go (inr (inr (inr (inr (inl (s, e)))))) = clash (cc (first _ e (λ o. clash (cc))))
+      go (inr (inr (inr (inr (inr (inl e)))))) = clash (cc (first _ e (λ o. clash (cc))))
+      go (inr (inr (inr (inr (inr (inr e)))))) = clash (cc ((role_tells text at a l _ us f).start, ap starts e))

@@ -2,14 +2,14 @@
 use mathlib.Core.Path.{◌≡◌, refl, sym, ap, subst, ◌∙◌}
 use mathlib.Core.Bool.{true, false}
 use mathlib.Core.List.{List, [], ◌∷◌}
+use mathlib.Core.Logic.{◌⊎◌, inl, inr}
 use Prim.Native.Nat.{ℕ, ◌-◌, ◌<◌, ◌≤◌}
 use native.Mathlib.Omega.{arith}
-use types.Run.{OneOf, miss}
-use denote.Enum.Declared.{tag_of}
 use Rattle.grammar.specs.declared.Expression.{Expression}
 use Rattle.grammar.specs.declared.Expression.TheVariants.{Range}
 use Rattle.syntax.specs.declared.Leaf.{Leaf}
 use Rattle.syntax.specs.declared.Prefix.{Prefix}
+use Rattle.syntax.specs.declared.Suffix.{Suffix}
 use Rattle.syntax.specs.declared.Sign.TheVariants.{Before, Opening}
 use Rattle.syntax.specs.declared.Ends.{Ends}
 use Rattle.syntax.specs.Tokens.{Token, sign}
@@ -25,7 +25,6 @@ use Rattle.expressions.specs.Code.Lookahead.{Looks, starts}
 use Rattle.expressions.specs.Code.Building.{advanced}
 use Rattle.expressions.specs.Code.Operators.{Part, over, PrefixRoom, prefix_made}
 use Rattle.expressions.specs.Code.Levels.{level_of, leaf_made, name_made, Room, PartRight, LevelRight, Spent, Passes, LevelRead}
-use Rattle.expressions.specs.contracts.lookahead.Role.{the_type}
 use Rattle.expressions.proofs.Lookings.{clash, role_token, role_there, role_tells}
 use Rattle.expressions.proofs.Deriving.{begins, suffixes_prefix}
 use Rattle.expressions.proofs.Operating.{prefix_some}
@@ -87,23 +86,23 @@ module _ (text : List ℕ) (at d : ℕ) (before : Rules) (a : Ahead) (l : Looks 
       go a_range k f = clash (cc)
       go (brackets y) k f = omega arith
 
-  pub no_operand : (i : ℕ) (r : Part) → OneOf (4 ∷ 5 ∷ 6 ∷ 7 ∷ []) (tag_of the_type a.role) → r ≡ over before i → LevelRead operand text at d before r
-  no_operand i r h is = nothing i r is (λ e us x. go x a.role refl h)
+  pub no_operand :
+      (i : ℕ) (r : Part) → ((p : Prefix) × (a.role ≡ Roles.Prefix p)) ⊎ (((s : Suffix) × (a.role ≡ Roles.Suffix s)) ⊎ ((a.role ≡ Roles.Slash) ⊎ (a.role ≡ Roles.Other))) →
+      r ≡ over before i → LevelRead operand text at d before r
+  no_operand i r h is = nothing i r is (λ e us x. go x h)
     where
       unstarted : {e : Tree} {us : List Token} → Derives operand d (tokens_at text at) e us → starts a.role ≡ false → ⊥
       unstarted x f =
           let b = begins x in
           clash (cc ((role_tells text at a l b.token b.later b.is).start, b.starts))
 
-      go : {e : Tree} {us : List Token} → Derives operand d (tokens_at text at) e us → (q : Role) → a.role ≡ q → OneOf (4 ∷ 5 ∷ 6 ∷ 7 ∷ []) (tag_of the_type q) → ⊥
-      go x (Roles.Name k) e g = miss (4 ∷ 5 ∷ 6 ∷ 7 ∷ []) 0 tt g
-      go x (Roles.Range b) e g = miss (4 ∷ 5 ∷ 6 ∷ 7 ∷ []) 1 tt g
-      go x (Roles.Leaf z) e g = miss (4 ∷ 5 ∷ 6 ∷ 7 ∷ []) 2 tt g
-      go x Roles.Opening e g = miss (4 ∷ 5 ∷ 6 ∷ 7 ∷ []) 3 tt g
-      go x (Roles.Prefix p) e g = suffixes_prefix (no_suffix x) p (tokens_at text a.next) (role_there text at a l _ e (λ o. clash (cc)))
-      go x (Roles.Suffix s) e g = unstarted x (ap starts e)
-      go x Roles.Slash e g = unstarted x (ap starts e)
-      go x Roles.Other e g = unstarted x (ap starts e)
+      go :
+          {e : Tree} {us : List Token} → Derives operand d (tokens_at text at) e us →
+          ((p : Prefix) × (a.role ≡ Roles.Prefix p)) ⊎ (((s : Suffix) × (a.role ≡ Roles.Suffix s)) ⊎ ((a.role ≡ Roles.Slash) ⊎ (a.role ≡ Roles.Other))) → ⊥
+      go x (inl (p, e)) = suffixes_prefix (no_suffix x) p (tokens_at text a.next) (role_there text at a l _ e (λ o. clash (cc)))
+      go x (inr (inl (s, e))) = unstarted x (ap starts e)
+      go x (inr (inr (inl e))) = unstarted x (ap starts e)
+      go x (inr (inr (inr e))) = unstarted x (ap starts e)
 
 -- A PREFIX, whose cost is known
 module _ (text : List ℕ) (at d : ℕ) (before : Rules) (q : Prefix) (next : ℕ) (here : tokens_at text at ≡ sign (Before q) ∷ tokens_at text next) (k : ℕ) (cost : k ≡ prefix_need q) where

@@ -97,7 +97,7 @@ pub fn after(text: &[u8], at: usize) -> usize
 }
 
 // An operand, of which the first token is known: a name, a range, a leaf, or an expression in brackets.
-#[cycle(expression_first_part_operand_part)]
+#[cycle(descent)]
 fn operand(
     text: &[u8],
     at: usize,
@@ -133,7 +133,7 @@ fn operand(
 }
 
 // A part of a sequence: prefixes, an operand, suffixes.
-#[cycle(expression_first_part_operand_part)]
+#[cycle(descent)]
 fn part(text: &[u8], at: usize, depth: usize, numbering: Numbering, rules: &mut [u8; 124]) -> Part
     requires { Room text.now (rules_of rules.old numbering) }
     ensures { LevelRead prefixes text.now at depth (rules_of rules.old numbering) (part_of result rules.new) }
@@ -206,7 +206,7 @@ fn pair(level: usize, first: u8, rest: u8) -> Expression
 }
 
 // What an expression at a level begins with: a choice with a sequence, a sequence with a part.
-#[cycle(expression_first_part_operand_part)]
+#[cycle(descent)]
 fn first_part(
     text: &[u8],
     at: usize,
@@ -226,7 +226,7 @@ fn first_part(
 }
 
 // An expression at a level. Sequences and choices go on to the right.
-#[cycle(expression_first_part_operand_part)]
+#[cycle(descent)]
 pub fn expression(
     text: &[u8],
     at: usize,

@@ -23,7 +23,7 @@ use Rattle.expressions.specs.declared.Rules.{Rules}
 use Rattle.reader.specs.Calls.{padded}
 use Rattle.expressions.specs.Code.Building.{rule_put, put_rules}
 use Rattle.scanner.specs.Code.Scanning.{tokens_at}
-use Rattle.reader.specs.Code.Lines.{LineRead, LineRoom, LineRead, LinesRoom, EndsKept, LinesRight, LinesRead}
+use Rattle.reader.specs.Code.Lines.{LineRead, LineRoom, LineIsRead, LinesRoom, EndsKept, LinesRight, LinesRead}
 use Rattle.reader.proofs.Tables.{table, named_written, helpers_written, table_first, table_last}
 use Rattle.expressions.proofs.Lookings.{clash}
 
@@ -102,7 +102,7 @@ line_needs text at lines place k rules ends room left h =
 -- ONE LINE MORE, or one that needs too many rules
 line_step :
     (text : List ℕ) (lines : ℕ) (ds : List Definition) (place k : ℕ) (rules : Rules) (left : LinesLeft text lines ds place k rules) → length ds ≡ lines →
-    rules.next ≤ max_rules → k < lines → (r : LineRead) → LineRead text place k rules r → (d : Definition) (es : List Definition) →
+    rules.next ≤ max_rules → k < lines → (r : LineRead) → LineIsRead text place k rules r → (d : Definition) (es : List Definition) →
     FirstLine (tokens_at text place) d es → d ∷ es ≡ drop k ds → k + suc (length es) ≡ lines →
     named_from (heads text) 0 lines ds ≡ left.named ++ named_from (heads text) k rules.next (d ∷ es) →
     helpers_from (heads text) 0 lines ds ≡ left.helpers ++ helpers_from (heads text) k rules.next (d ∷ es) →
@@ -160,7 +160,7 @@ line_step text lines ds place k rules left size fit more r read d es f is count 
     )
 
 module _ (text : List ℕ) (lines : ℕ) (ds : List Definition) (place k : ℕ) (rules : Rules) (left : LinesLeft text lines ds place k rules) (size : length ds ≡ lines)
-    (fit : rules.next ≤ max_rules) (more : k < lines) (r : LineRead) (read : LineRead text place k rules r) where
+    (fit : rules.next ≤ max_rules) (more : k < lines) (r : LineRead) (read : LineIsRead text place k rules r) where
   abbrev Result : Type 0
   Result = (r.fits ≡ false → max_rules < needs ds) × (r.fits ≡ true → LinesLeft text lines ds r.at (k + 1) r.rules)
 
@@ -206,7 +206,7 @@ ends_next ds k ends n kept room is j h = go (ℕ_discrete j k)
 -- WHAT THE LOOP ANSWERS
 pub lines_over :
     (text : List ℕ) (at lines place k : ℕ) (rules : Rules) (ends : List ℕ) → ReadingLines text at lines place k rules ends → k < lines → (l : LineRead) →
-    LineRead text place k rules l → l.fits ≡ false → (made : Rules) → LinesRead text at lines (record { fits = false; rules = made; ends = ends })
+    LineIsRead text place k rules l → l.fits ≡ false → (made : Rules) → LinesRead text at lines (record { fits = false; rules = made; ends = ends })
 lines_over text at lines place k rules ends (le, fit, long, left) more l read over made ds r size =
     let many : max_rules < needs ds = (next_line text lines ds place k rules (left ds r size).0 size fit more l read).0 over in
     record {
@@ -218,7 +218,7 @@ lines_over text at lines place k rules ends (le, fit, long, left) more l read ov
 
 pub lines_next :
     (text : List ℕ) (at lines place k : ℕ) (rules : Rules) (ends : List ℕ) → ReadingLines text at lines place k rules ends → lines ≤ max_rules → k < lines → (l : LineRead) →
-    LineRead text place k rules l → l.fits ≡ true → ReadingLines text at lines l.at (k + 1) l.rules (set ends k l.rules.next)
+    LineIsRead text place k rules l → l.fits ≡ true → ReadingLines text at lines l.at (k + 1) l.rules (set ends k l.rules.next)
 lines_next text at lines place k rules ends (le, fit, long, left) few more l read ok = (
   omega arith,
   read.room ok,

@@ -24,7 +24,7 @@ use Rattle.expressions.specs.Code.Building.{rule_put, put_rules, advanced, place
 use Rattle.expressions.specs.Code.Operators.{Part, PartRoom}
 use Rattle.scanner.specs.Code.Scanning.{tokens_at}
 use Rattle.expressions.specs.Code.Levels.{Room, Passes, PartRight, Spent, LevelRead, ReadsTo}
-use Rattle.reader.specs.Code.Lines.{PassesTwo, LineRead, with_left, line_with, topped_by, topped, LineRoom, LineDone, LineRead}
+use Rattle.reader.specs.Code.Lines.{PassesTwo, LineRead, with_left, line_with, topped_by, topped, LineRoom, LineDone, LineIsRead}
 use Rattle.expressions.proofs.Emitting.{advanced_on, advanced_none, advanced_next}
 use Rattle.expressions.proofs.Deriving.{semicolon_stops}
 use Rattle.expressions.proofs.Descending.{unfit, fit}
@@ -179,7 +179,7 @@ module _ (text : List ℕ) (at k from : ℕ) (before : Rules) (room : LineRoom t
       subst (λ (r : Rules). PartRight text r e (sign Semicolon ∷ us) x) filled
       (read.right e (sign Semicolon ∷ us) (subst (λ (vs : List Token). Derives choices max_depth vs e (sign Semicolon ∷ us)) (from_body n ts t) d) (semicolon_stops us))
 
-  pub line_over : x.fits ≡ false → (r : LineRead) → r.fits ≡ false → LineRead text at k before r
+  pub line_over : x.fits ≡ false → (r : LineRead) → r.fits ≡ false → LineIsRead text at k before r
   line_over f r gone =
       record {
         fits = λ n ts us e t d.
@@ -189,11 +189,11 @@ module _ (text : List ℕ) (at k from : ℕ) (before : Rules) (room : LineRoom t
         room = λ g. clash (cc);
       }
 
-  pub line_read : x.fits ≡ true → (to : ℕ) → Passes text x.at to → (r : LineRead) → r ≡ topped x k to → LineRead text at k before r
+  pub line_read : x.fits ≡ true → (to : ℕ) → Passes text x.at to → (r : LineRead) → r ≡ topped x k to → LineIsRead text at k before r
   line_read f to last r is =
       let spent = read.spent f in
       let part_room : PartRoom x = omega (arith, spent.room, ready_room) in
-      subst (λ (y : LineRead). LineRead text at k before y) (sym is)
+      subst (λ (y : LineRead). LineIsRead text at k before y) (sym is)
       (record {
         fits = λ n ts us e t d.
             let p = body_read n ts us e t d in

@@ -3,7 +3,7 @@ ghost use Rattle.std.specs.Prelude.{◌≡◌, true, false, List, ℕ, ◌+◌, 
 ghost use Rattle.grammar.specs.Grammar.{max_rules};
 ghost use Rattle.expressions.specs.Code.Building.{rules_of, placed_at};
 ghost use Rattle.expressions.specs.Code.Operators.{part_of, PartRoom};
-ghost use Rattle.reader.specs.Code.Lines.{line_of, with_left, topped as topped_of, LineRoom, LineRead, LinesRoom, LinesRead};
+ghost use Rattle.reader.specs.Code.Lines.{line_of, with_left, topped as topped_of, LineRoom, LineIsRead, LinesRoom, LinesRead};
 
 use crate::cursor::body_at;
 use crate::{LineRead, Lines, MAX_RULES};
@@ -89,7 +89,7 @@ fn topped(x: Part, k: usize, at: usize, rules: &mut [u8; 124]) -> LineRead
 // Line k, from its name on.
 fn line(text: &[u8], at: usize, k: usize, numbering: Numbering, rules: &mut [u8; 124]) -> LineRead
     requires { LineRoom text.now k (rules_of rules.old numbering) }
-    ensures { LineRead text.now at k (rules_of rules.old numbering) (line_of result rules.new) }
+    ensures { LineIsRead text.now at k (rules_of rules.old numbering) (line_of result rules.new) }
 {
     let body = body_at(text, at);
     let x = expression(text, body, CHOICES, MAX_DEPTH, refilled(numbering), rules);

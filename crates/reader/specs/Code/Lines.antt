@@ -69,7 +69,7 @@ pub record LineDone (text : List ℕ) (before : Rules) (k : ℕ) (e : Tree) (us 
   pub rest : tokens_at text r.at ≡ us
 
 -- whatever line the tokens from the place on are; and whatever they are, the rules have room
-pub record LineRead (text : List ℕ) (at k : ℕ) (before : Rules) (r : LineRead) : Type 0 where
+pub record LineIsRead (text : List ℕ) (at k : ℕ) (before : Rules) (r : LineRead) : Type 0 where
   pub fits :
       (n : List ℕ) (ts us : List Token) (e : Tree) → tokens_at text at ≡ name n ∷ sign Equals ∷ ts → Derives choices max_depth ts e (sign Semicolon ∷ us) →
       r.fits ≡ leb (line_need e) (suc max_rules - before.next)
