@@ -1,0 +1,8 @@
+-- `sejimakpu::reply::write_reply` meets its contract. Assumes nothing.
+use Rattle.sejimakpu.specs.Cells.{cells}
+use mathlib.Core.Path.{refl}
+use Rattle.sejimakpu.proofs.reply.write_reply.Goals as goal
+
+pub returns : goal.returns
+unfolding cells
+returns c = record { number = refl; written = refl }

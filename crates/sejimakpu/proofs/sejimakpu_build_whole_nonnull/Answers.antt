@@ -1,0 +1,11 @@
+-- `sejimakpu::sejimakpu_build_whole_nonnull` meets its contract. Assumes nothing.
+use Rattle.sejimakpu.proofs.Told.{told_as}
+use Rattle.sejimakpu.proofs.sejimakpu_build_whole_nonnull.Goals as goal
+
+pub returns : goal.returns
+returns c =
+    record {
+      built = _;
+      says = c.build_image-built.ensures;
+      tells = told_as c.build_reply.ensures c.write_reply.ensures;
+    }
