@@ -202,6 +202,7 @@ unfolding RecursionSo or_else rules kind_of b_of c_of expression_by expression r
 recursion_examples wrong = omega (arith, ap (λ (f : Refusal). f.number) (first wrong))
 
 only_line : {d : Definition} {k : ℕ} {n : List ℕ} {e : Tree} → Defines (d ∷ []) k n e → k ≡ 0
+only_line {d = d} {n = n} {e = e} (there {k = k} x6) = elim x6 [ ]
 only_line here = refl
 
 -- the one line begins at 1, its rule is 0

@@ -36,7 +36,7 @@ use Rattle.syntax_theory.specs.Meaning.{byte_out, nothing}
 use Rattle.syntax.specs.Compile.{grammar_of}
 use Rattle.syntax.specs.Compile as Compile
 use Rattle.syntax.specs.RuleLines.{own}
-use Rattle.syntax_theory.specs.RuleOf.{RuleOf, LineRules, own_line}
+use Rattle.syntax_theory.specs.RuleOf.{RuleOf, LineRules, own_line, bare_line}
 use Rattle.syntax.specs.Reading.{Refused, Grammar, ReadSays, at_fault}
 use Rattle.reader.specs.declared.ReadGrammar.{ReadGrammar}
 use Rattle.reader.specs.Calls.{grammar_answer, ReadTells}
@@ -226,8 +226,12 @@ read_right wrong =
     omega (arith, (promises.faults_right []).1.1 (ds, legal), ap (λ (f : Refusal). f.number) faults.1)
 
 -- the rule of a=empty; has no helper
+no_others : {E : Rules} {ds : List Definition} {k : ℕ} {own : List ℕ} → RuleOf E ds (leaf EmptyString) k own → own ≡ k ∷ []
+no_others (RuleOf.nothing e) = refl
+
 no_helper : {E : Rules} {ds : List Definition} {k : ℕ} {hs : List ℕ} → LineRules E ds (leaf EmptyString) k hs → hs ≡ []
-no_helper (own_line (RuleOf.nothing e)) = refl
+no_helper (own_line r) = let f = no_others r in cc
+no_helper (bare_line r s e) = let f = no_others r in cc
 
 pub rules_of_lines : Wrong.RulesOfLines → ⊥
 rules_of_lines wrong =
