@@ -36,6 +36,7 @@ fn to_if(holds: bool, spot: Spot) -> Step
 }
 
 // One bracket more.
+#[tactic(auto, using(std::proofs::lemmas::Bool::Decides::nat_tests), unfolding(crate::specs::Code::Stepping::next_of, crate::specs::Code::Stepping::spot_of))]
 fn opens(opened: usize) -> Step
     ensures { next_of result ≡ cond (ltb opened max_depth) (faults.to (faults.inside false (suc opened))) (faults.wrong 17) }
 {

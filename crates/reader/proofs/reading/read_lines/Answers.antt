@@ -18,12 +18,12 @@ returns-then-undefined-ne0 c =
 pub returns-then-check-gt-MAX_RULES : goal.returns-then-check-gt-MAX_RULES
 returns-then-check-gt-MAX_RULES c =
     read_many_lines _ _ c.check_text-check.ensures c.if-fault-ne0.false _ c.undefined_of-undefined.ensures
-    c.if-undefined-ne0.false c.if-check-gt-MAX_RULES.true _ c.refused-then-check-gt-MAX_RULES.ensures
+    c.if-undefined-ne0.false (omega arith) _ c.refused-then-check-gt-MAX_RULES.ensures
 
 pub lines_at-lines-requires : goal.lines_at-lines-requires
 lines_at-lines-requires c =
     read_room _ _ c.check_text-check.ensures c.if-fault-ne0.false _ c.undefined_of-undefined.ensures
-    c.if-undefined-ne0.false c.if-check-gt-MAX_RULES.false
+    c.if-undefined-ne0.false (omega arith)
 
 pub returns-then-not-lines : goal.returns-then-not-lines
 returns-then-not-lines c =
