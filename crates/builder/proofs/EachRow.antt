@@ -3,7 +3,7 @@ use mathlib.Core.Bool.{Bool, true, false, cond}
 use Prim.Native.Nat.{ℕ}
 use lib.Dec.{eqb}
 use Rattle.image.specs.Image.{Rule}
-use Rattle.builder.specs.Table.{state_work, state_ok, state_fail, first, second, no_rule, Row, Rows, six, by_state, select}
+use Rattle.builder.specs.Table.{state_work, state_ok, state_fail, no_rule, Row, Rows, six, by_state, select}
 
 -- A PROPERTY OF EACH of the six rules holds of the one that is selected
 pub record EachOf (P : Rule → Type 0) (r : Row) : Type 0 where

@@ -30,7 +30,7 @@ use Rattle.syntax.specs.declared.Leaf.TheVariants.{EmptyString}
 use Rattle.syntax.specs.declared.Sign.TheVariants.{Operand, Opening, Closing, Equals, Semicolon}
 use Rattle.syntax.specs.Tokens as Tokens
 use Rattle.syntax.specs.Tokens.{Token, name, sign}
-use Rattle.syntax.specs.Trees.{leaf, bytes, last_choice, last_part, no_prefix, no_suffix, a_leaf, brackets, Definition, here, Reads, last_line}
+use Rattle.syntax.specs.Trees.{leaf, last_choice, last_part, no_prefix, no_suffix, a_leaf, brackets, Definition, here, Reads, last_line}
 use Rattle.syntax.specs.Faults.{fault, first_wrong, next, to_if, not_in, is_equals, by_sign, defined_after, name_of, at_end}
 use Rattle.syntax_theory.specs.Meaning.{byte_out, nothing}
 use Rattle.syntax.specs.Compile.{grammar_of}

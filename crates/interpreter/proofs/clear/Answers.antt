@@ -1,5 +1,4 @@
 -- `clear` meets its contract. The invariant: the cells so far are 0. The measure is the cells that are left. Assumes nothing.
-use Prim.Native.Nat.{◌-◌}
 use native.Mathlib.Omega.{arith}
 use Rattle.interpreter.proofs.ClearLaws.{clear_starts, clear_more, clear_ends}
 use Rattle.interpreter.proofs.clear.Goals as goal

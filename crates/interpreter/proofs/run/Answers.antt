@@ -1,6 +1,5 @@
 -- `run` meets its contract. The invariant: the plain run of the call is the one that goes on from the here. The measure is what is left of the budget. Assumes nothing.
 use mathlib.Core.Path.{◌∙◌}
-use Prim.Native.Nat.{◌-◌}
 use Rattle.interpreter.proofs.MachineLaws.{image_long}
 use Rattle.interpreter.proofs.WalkLaws.{walk_starts, goes_on, walks_on, walks_less, answers}
 use Rattle.interpreter.proofs.run.Goals as goal

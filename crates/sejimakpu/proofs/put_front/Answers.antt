@@ -1,8 +1,7 @@
 -- `sejimakpu::put_front` meets its contract: after i turns the first i bytes are copied. Assumes nothing.
 use mathlib.Core.Path.{refl}
-use Prim.Native.Nat.{◌-◌}
 use native.Mathlib.Omega.{arith}
-use lib.ListN.{length, length-set}
+use lib.ListN.{length-set}
 use Rattle.sejimakpu.proofs.Reading.{copy_more, copy_whole}
 use Rattle.sejimakpu.proofs.put_front.Goals as goal
 

@@ -1,6 +1,6 @@
 -- `builder::build::write_rules` meets its contract: a turn writes the rule of symbol 0, or the two of a grammar rule. Assumes nothing.
 use mathlib.Core.Path.{◌≡◌, sym, ap, ◌∙◌}
-use Prim.Native.Nat.{ℕ, ◌-◌, ◌+◌, ◌<◌, ◌%◌}
+use Prim.Native.Nat.{ℕ, ◌+◌, ◌<◌, ◌%◌}
 use native.Mathlib.Omega.{arith}
 use Rattle.image.specs.declared.Selector.{Selector}
 use Rattle.image.proofs.CountingOn.{selects_first, selects_next, counts_on, selects_as}

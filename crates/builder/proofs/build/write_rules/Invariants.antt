@@ -1,5 +1,4 @@
 -- The invariants and measures of `builder::build::write_rules`.
-use mathlib.Core.Path.{sym}
 use Prim.Native.Nat.{◌-◌}
 use Rattle.image.specs.Code.Counting.{Selects}
 use Rattle.builder.proofs.CodePairs.{Begins}

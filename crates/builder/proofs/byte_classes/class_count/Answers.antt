@@ -1,6 +1,5 @@
 -- `builder::byte_classes::class_count` meets its contract: the loop's invariant says that the count is the class of the last value passed. Assumes nothing.
 use mathlib.Core.Path.{sym}
-use Prim.Native.Nat.{◌-◌}
 use native.Mathlib.Omega.{arith}
 use Rattle.builder.proofs.CodeClasses.{class_zero, class_next, class_within, next_fits, classes_are}
 use Rattle.builder.proofs.CodeMarks.{unmarked}

@@ -1,6 +1,5 @@
 -- `builder::byte_classes::mark_cuts` meets its contract: the loop's invariant says that the marks, with the cuts of the rules left, are those of all cuts. Assumes nothing.
 use mathlib.Core.Path.{sym, ap, ◌∙◌}
-use Prim.Native.Nat.{◌-◌}
 use native.Mathlib.Omega.{arith}
 use Rattle.grammar.specs.Grammar.{rules, range_of}
 use Rattle.builder.proofs.CodeMarks.{marking_start, marking_next, marking_end}

@@ -1,5 +1,4 @@
 -- `builder::byte_classes::write_map` meets its contract: the loop's invariant says that what is written, with the classes left, is the whole map. Assumes nothing.
-use Prim.Native.Nat.{◌-◌}
 use native.Mathlib.Omega.{arith}
 use Rattle.builder.proofs.CodeWriting.{map_start, map_room, map_next, map_end}
 use Rattle.builder.proofs.CodeClasses.{class_next, next_fits}

@@ -1,5 +1,4 @@
 -- `bundle::format::pairs_refusal` meets its contract. Assumes nothing.
-use Prim.Native.Nat.{◌-◌}
 use native.Mathlib.Omega.{arith}
 use Rattle.bundle.proofs.PairsRead.{pair_room}
 use Rattle.bundle.proofs.PairsChecked.{at_first, starts_early, ends_late, next_left, none_left}

@@ -1,5 +1,4 @@
 -- `bundle::judging::judge_captures` meets its contract. Assumes nothing.
-use Prim.Native.Nat.{◌-◌}
 use native.Mathlib.Omega.{arith}
 use Rattle.bundle.proofs.SoFar.{none_yet, one_left, listed, few_enough, totals_room, line_room, lines_long, one_more, all_done}
 use Rattle.bundle.proofs.judging.judge_captures.Goals as goal

@@ -1,6 +1,5 @@
 -- `grammar::check::refusal_of` meets its contract: the length first, then the rules. Assumes nothing.
 use mathlib.Core.Path.{sym, ◌∙◌}
-use borrow.Author.Rules.{rules}
 use Rattle.grammar.specs.Grammar.{grammar_refusal}
 use Rattle.grammar.proofs.CodeGrammar.{length_passes}
 use Rattle.grammar.proofs.check.refusal_of.Goals as goal

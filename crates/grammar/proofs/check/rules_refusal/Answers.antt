@@ -1,6 +1,5 @@
 -- `grammar::check::rules_refusal` meets its contract: the loop's invariant says that the rules left decide. Assumes nothing.
 use mathlib.Core.Path.{sym, ◌∙◌}
-use Prim.Native.Nat.{◌-◌}
 use Rattle.grammar.specs.Grammar.{rules, kind_of, b_of, c_of}
 use Rattle.grammar.proofs.CodeGrammar.{check_start, check_stop, check_next, check_end}
 use Rattle.grammar.proofs.check.rules_refusal.Goals as goal

@@ -1,6 +1,5 @@
 -- `image::lookup::sizes_of` meets its contract: an image that is not refused has its counts. Assumes nothing.
 use native.Mathlib.Omega.{arith}
-use borrow.Author.Rules.{rules}
 use Rattle.image.specs.Image.{sizes_of, classes, symbols}
 use Rattle.image.proofs.Rules.{good}
 use Rattle.image.proofs.Lookups.{rules_few}

@@ -1,6 +1,5 @@
 -- `recursion::check::lowest_of` meets its contract: the first row that has its own rule ends the loop. Assumes nothing.
 use mathlib.Core.Path.{sym, ◌∙◌}
-use Prim.Native.Nat.{◌-◌}
 use native.Mathlib.Omega.{arith}
 use Rattle.recursion.proofs.Lowest.{lowest_start, lowest_found, lowest_next, lowest_none}
 use Rattle.recursion.proofs.check.lowest_of.Goals as goal

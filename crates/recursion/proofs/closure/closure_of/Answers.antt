@@ -1,5 +1,4 @@
 -- `recursion::closure::closure_of` meets its contract: each turn of the loop passes through one rule more. Assumes nothing.
-use Prim.Native.Nat.{◌-◌}
 use native.Mathlib.Omega.{arith}
 use Rattle.recursion.proofs.Rows.{closing_start, closing_next, closing_end}
 use Rattle.recursion.proofs.Parts.{count_few, count_is}

@@ -1,6 +1,5 @@
 -- `recursion::closure::pass_through` meets its contract: each turn of the loop changes one row. Assumes nothing.
 use mathlib.Core.Path.{refl}
-use Prim.Native.Nat.{◌-◌}
 use native.Mathlib.Omega.{arith}
 use Rattle.recursion.proofs.Rows.{passing_start, passing_next, passing_end, passing_none}
 use Rattle.recursion.proofs.closure.pass_through.Goals as goal

@@ -1,10 +1,8 @@
 -- `recursion::closure::rows_of` meets its contract: each turn of the loop makes one row. Assumes nothing.
 use mathlib.Core.Path.{refl}
-use Prim.Native.Nat.{◌-◌}
 use native.Mathlib.Omega.{arith}
 use Rattle.recursion.proofs.Rows.{rows_start, rows_next, row_of}
 use Rattle.recursion.proofs.Parts.{count_few, count_is, below_count, parts_few}
-use Rattle.grammar.specs.Grammar.{expression}
 use Rattle.recursion.proofs.closure.rows_of.Goals as goal
 
 pub loop-k-init : goal.loop-k-init

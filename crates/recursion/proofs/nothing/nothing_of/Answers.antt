@@ -1,5 +1,4 @@
 -- `recursion::nothing::nothing_of` meets its contract: the set is a larger number after each turn of the loop, or a sweep has found no more. Assumes nothing.
-use Prim.Native.Nat.{◌-◌}
 use native.Mathlib.Omega.{arith}
 use Rattle.recursion.proofs.Sweeps.{sweep_from_none}
 use Rattle.recursion.proofs.nothing.nothing_of.Goals as goal

@@ -1,5 +1,4 @@
 -- `recursion::nothing::sweep_up` meets its contract: each turn of the loop looks at one rule. Assumes nothing.
-use Prim.Native.Nat.{◌-◌}
 use native.Mathlib.Omega.{arith}
 use Rattle.recursion.proofs.Sweeps.{before_or_at, sweep_starts, sweep_looks, sweep_ends}
 use Rattle.recursion.proofs.Parts.{below_count, count_is}

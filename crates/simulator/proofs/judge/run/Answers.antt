@@ -1,5 +1,4 @@
 -- `simulator::judge::run` meets its contract. Assumes nothing.
-use Prim.Native.Nat.{◌-◌}
 use native.Mathlib.Omega.{arith}
 use Rattle.simulator.proofs.Starting.{few_enough}
 use Rattle.simulator.proofs.JudgeMode.{not_done}

@@ -1,8 +1,7 @@
 -- `simulator::judge::zero` meets its contract. Assumes nothing.
 use mathlib.Core.Path.{refl}
-use Prim.Native.Nat.{◌-◌}
 use native.Mathlib.Omega.{arith}
-use lib.ListN.{length, length-set}
+use lib.ListN.{length-set}
 use borrow.Author.Fill.{fill_more}
 use Rattle.simulator.proofs.JudgeCells.{all_filled}
 use Rattle.simulator.proofs.judge.zero.Goals as goal

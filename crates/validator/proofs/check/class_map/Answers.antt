@@ -1,8 +1,6 @@
 -- `validator::check::class_map` meets its contract: the loop's invariant says that what is left of the map decides. Assumes nothing.
 use mathlib.Core.Path.{refl}
-use Prim.Native.Nat.{◌-◌}
 use native.Mathlib.Omega.{arith}
-use Rattle.image.specs.Format
 use Rattle.image.specs.Image.{classes}
 use Rattle.validator.proofs.CheckLoops.{map_stop, map_next, map_end}
 use Rattle.validator.proofs.check.class_map.Goals as goal

@@ -4,11 +4,8 @@ use Rattle.validator.proofs.CheckLoops.{rules_start, whole_rule, rules_count, ru
 use Rattle.validator.proofs.CheckParts.{three_counts}
 use Rattle.image.specs.Refusals.{rule_count}
 use Rattle.image.specs.Image.{states, classes, symbols}
-use lib.ListN.{length}
 use native.Mathlib.Omega.{arith}
-use Prim.Native.Nat.{◌-◌}
 use mathlib.Core.Path.{sym, ◌∙◌}
-use borrow.Author.Rules.{rules}
 use Rattle.validator.proofs.rule_check.rules.Goals as goal
 
 pub overflow_cast-columns : goal.overflow_cast-columns

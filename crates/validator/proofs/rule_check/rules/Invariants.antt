@@ -1,5 +1,4 @@
 -- The invariants and measures of `validator::rule_check::rules`.
-use Rattle.image.specs.Format
 use Rattle.validator.proofs.CheckLoops.{RulesLeft}
 use lib.ListN.{length}
 use Prim.Native.Nat.{◌-◌}
