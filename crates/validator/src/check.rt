@@ -185,6 +185,7 @@ fn body_refusal(image: &[u8]) -> Refusal
 }
 
 // The first refusal of an image, or number 0.
+#[tactic(auto, unfolding(image::specs::Refusals::image_refusal, refusal::specs::First::or_else))]
 pub fn first_refusal(image: &[u8]) -> Refusal
     ensures { result ≡ image_refusal image.now }
 {
@@ -219,6 +220,7 @@ pub fn check_image(image: &[u8]) -> Checked
 }
 
 // Refusal 7, of a capture of n bytes, or number 0.
+#[tactic(auto, unfolding(refusal::specs::First::refuse_if))]
 pub fn length_refusal(n: usize) -> Refusal
     ensures { result ≡ refuse_if (ltb max_capture n) (refusal 7 n) }
 {

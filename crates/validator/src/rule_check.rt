@@ -62,6 +62,7 @@ fn move_off(image: &[u8], class: u32, direction: u8) -> bool
 }
 
 // Whether the rule at a place is bad; class is the one that it stands for.
+#[tactic(auto, unfolding(image::specs::Refusals::rule_bad, image::specs::Image::rule_from, image::specs::Image::states, image::specs::Image::symbols))]
 fn rule_bad(image: &[u8], at: usize, class: u32) -> bool
     requires { RuleInside image.now at }
     ensures { result ≡ rule_bad image.now class (rule_from image.now at) }
