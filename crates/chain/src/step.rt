@@ -124,6 +124,7 @@ fn closed(
 }
 
 // Look at a configuration: new, open, or closed. One rule is read at most: its own where it is new, its terminator's where it is closed.
+#[tactic(auto, using(crate::proofs::LookBy::note_open, crate::proofs::LookBy::look_open))]
 fn look(
     image: &[u8],
     capture: &[u8],
