@@ -50,6 +50,7 @@ fn write_header(image: &mut [u8], classes: u8, symbols: u8, count: u32)
 }
 
 // Whether a byte class, and no marker, is between two bytes, by their classes. None is where the low byte is above the high byte, though both may be of one class.
+#[tactic(auto, unfolding(crate::specs::Code::Writing::class_between))]
 fn range_has(image: &[u8], classes: u32, low: u8, high: u8, class: u32) -> bool
     requires { rules_offset ≤ length image.now }
     ensures { result ≡ (ltb class classes && class_between image.now low high class) }
