@@ -95,6 +95,7 @@ fn clear(stack: &mut [u32])
 }
 
 // Refusals 1 to 7 and 10.
+#[tactic(auto, using(crate::proofs::RefusalLaws::refused_capture, crate::proofs::RefusalLaws::refused_cells, crate::proofs::RefusalLaws::refused_not))]
 fn refusal_of(image: &[u8], capture: &[u8], cells: usize) -> Refusal
     ensures { result ≡ run_refusal image.now capture.now cells }
 {
