@@ -1,5 +1,5 @@
 -- What a tree means, its rule parses; where each line has its rule, and names are distinct. Assumes nothing.
-use mathlib.Core.Path.{◌≡◌, refl, sym, subst}
+use mathlib.Core.Path.{◌≡◌, subst}
 use mathlib.Core.List.{List}
 use mathlib.Core.Option.{Option, none, some}
 use Prim.Native.Nat.{ℕ, ◌<◌}
@@ -8,8 +8,7 @@ use Rattle.grammar.specs.declared.Expression.TheVariants.{Sequence, Empty, Range
 use Rattle.grammar.specs.Parsing.{Rules, Parses}
 use Rattle.grammar.proofs.Inverted.{matches_nowhere}
 use Rattle.syntax.specs.declared.Leaf.TheVariants.{EmptyString}
-use Rattle.syntax.specs.declared.Prefix.TheVariants.{NotPredicate}
-use Rattle.syntax.specs.Trees.{Tree, leaf, prefixed, Definition, names, Defines}
+use Rattle.syntax.specs.Trees.{Tree, leaf, Definition, names, Defines}
 use Rattle.syntax_theory.specs.Meaning.{Means}
 use Rattle.syntax_theory.specs.RuleOf.{RuleOf, LineRules, own_line, bare_line}
 use Rattle.syntax_theory.proofs.Named.{one_number}
@@ -22,10 +21,6 @@ EachLine E ds = (k : ℕ) (n : List ℕ) (e : Tree) → Defines ds k n e → (hs
 never_fails : {ds : List Definition} {cs : List ℕ} {i : ℕ} → Means ds cs (leaf EmptyString) i none → ⊥
 never_fails m = elim m [ ]
 
-always_fails : {ds : List Definition} {cs : List ℕ} {i : ℕ} {o : Option ℕ} → Means ds cs (prefixed NotPredicate (leaf EmptyString)) i o → o ≡ none
-always_fails (Means.absent m) = absurd (never_fails m)
-always_fails (Means.present m) = refl
-
 -- a rule, then nothing
 module _ {E : Rules} {cs : List ℕ} {k : ℕ} where
   then_nothing : {h j i : ℕ} (o : Option ℕ) → E k ≡ Sequence j h → E h ≡ Empty → Parses E cs j i o → Parses E cs k i o
@@ -33,8 +28,8 @@ module _ {E : Rules} {cs : List ℕ} {k : ℕ} where
   then_nothing (some j) s t p = Parses.sequence s p (Parses.empty t)
 
   -- a range that no byte is in
-  fails_there : {i b c : ℕ} {o : Option ℕ} → E k ≡ Range b c → c < b → o ≡ none → Parses E cs k i o
-  fails_there {i} {b} {c} e l n = subst (Parses E cs k i) (sym n) (Parses.range_fails e (matches_nowhere cs b c i l))
+  fails_there : {i b c : ℕ} → E k ≡ Range b c → c < b → Parses E cs k i none
+  fails_there {i} {b} {c} e l = Parses.range_fails e (matches_nowhere cs b c i l)
 
 module _ {E : Rules} {ds : List Definition} {cs : List ℕ} where
   by_line :
@@ -58,7 +53,8 @@ module _ {E : Rules} {ds : List Definition} {cs : List ℕ} where
   means_parses l u (Means.absent m) k own (RuleOf.not_rule r s) = Parses.not_there r (means_parses l u m _ _ s)
   means_parses l u (Means.present m) k own (RuleOf.not_rule r s) = Parses.not_fails r (means_parses l u m _ _ s)
   means_parses l u (Means.any_byte m) k own (RuleOf.any_byte r) = means_parses l u m _ _ (RuleOf.byte_range r)
-  means_parses l u (Means.failure m) k own (RuleOf.failure r f) = fails_there r f (always_fails m)
+  means_parses l u (Means.failure (Means.absent m)) k own (RuleOf.failure r f) = absurd (never_fails m)
+  means_parses l u (Means.failure (Means.present m)) k own (RuleOf.failure r f) = fails_there r f
   means_parses l u (Means.predicate m) k own (RuleOf.and_rule r s t) = means_parses l u m _ _ (RuleOf.not_rule r (RuleOf.not_rule s t))
   means_parses l u (Means.iteration m) k own (RuleOf.iteration a b c r) =
       means_parses l u m _ _ (RuleOf.either a (RuleOf.both b r (RuleOf.iteration a b c r)) (RuleOf.nothing c))
