@@ -40,6 +40,7 @@ fn refused(place: usize) -> Refusal
 }
 
 // The pairs one by one, of a bundle with room for them: each starts no earlier than the one before ends, and ends inside the bundle.
+#[tactic(auto, using(crate::proofs::PairsChecked::starts_early, crate::proofs::PairsChecked::ends_late, crate::proofs::PairsChecked::next_left, crate::proofs::PairsChecked::none_left))]
 fn pairs_refusal(bundle: &[u8], count: usize) -> Refusal
     requires { (count ≤ max_captures) × (pair_place count ≤ length bundle.now) }
     ensures { result ≡ pairs_from count 0 (pair_place count) bundle.now }

@@ -1,7 +1,7 @@
 -- `bundle::format::pairs_refusal` meets its contract. Assumes nothing.
 use native.Mathlib.Omega.{arith}
 use Rattle.bundle.proofs.PairsRead.{pair_room}
-use Rattle.bundle.proofs.PairsChecked.{at_first, starts_early, ends_late, next_left, none_left}
+use Rattle.bundle.proofs.PairsChecked.{at_first}
 use Rattle.bundle.proofs.format.pairs_refusal.Goals as goal
 
 pub place_of-floor-requires : goal.place_of-floor-requires
@@ -17,16 +17,6 @@ pub read_pair-pair-requires : goal.read_pair-pair-requires
 read_pair-pair-requires c =
     pair_room c.requires.1 c.loop-i-test.true c.place_of-at.ensures
 
-pub returns-then-offset-floor : goal.returns-then-offset-floor
-returns-then-offset-floor c =
-    starts_early c.loop-i.invariant c.loop-i-test.true
-    c.place_of-at.ensures c.read_pair-pair.ensures c.if-offset-floor.true c.refused.ensures
-
-pub returns-then-bundle-end : goal.returns-then-bundle-end
-returns-then-bundle-end c =
-    ends_late c.loop-i.invariant c.loop-i-test.true c.place_of-at.ensures
-    c.read_pair-pair.ensures c.if-offset-floor.false c.if-bundle-end.true c.refused-then-bundle-end.ensures
-
 pub overflow_add-i : goal.overflow_add-i
 overflow_add-i c =
     omega (arith, c.loop-i-test.true, c.requires.0)
@@ -34,11 +24,3 @@ overflow_add-i c =
 pub loop-i-smaller : goal.loop-i-smaller
 loop-i-smaller c =
     omega (arith, c.loop-i-test.true)
-
-pub loop-i-preserved : goal.loop-i-preserved
-loop-i-preserved c =
-    next_left c.loop-i.invariant c.loop-i-test.true
-    c.place_of-at.ensures c.read_pair-pair.ensures c.if-offset-floor.false c.if-bundle-end.false
-
-pub returns : goal.returns
-returns c = none_left c.loop-i.invariant c.loop-i-test.false

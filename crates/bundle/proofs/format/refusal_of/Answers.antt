@@ -10,7 +10,7 @@ pub returns-then-captures-eq0 : goal.returns-then-captures-eq0
 returns-then-captures-eq0 c = no_capture _ c.count-captures.ensures c.if-captures-eq0.true c.refused-then-captures-eq0.ensures
 
 pub returns-then-captures-gt-MAX_CAPTURES : goal.returns-then-captures-gt-MAX_CAPTURES
-returns-then-captures-gt-MAX_CAPTURES c = many_captures _ c.count-captures.ensures c.if-captures-gt-MAX_CAPTURES.true c.refused-then-captures-gt-MAX_CAPTURES.ensures
+returns-then-captures-gt-MAX_CAPTURES c = many_captures _ c.count-captures.ensures (omega arith) c.refused-then-captures-gt-MAX_CAPTURES.ensures
 
 pub place_of-requires : goal.place_of-requires
 place_of-requires c = omega (arith, c.if-captures-gt-MAX_CAPTURES.false)
