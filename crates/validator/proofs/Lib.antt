@@ -1,4 +1,3 @@
 -- Laws that the proofs of the checks cite.
 pub mod CheckParts
 pub mod CheckLoops
-pub mod RuleCases

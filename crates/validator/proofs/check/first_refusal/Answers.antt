@@ -1,10 +1,7 @@
 -- `validator::check::first_refusal` meets its contract: each return is the first refusal in the order of the table. Assumes nothing.
 use mathlib.Core.Path.{sym, ◌∙◌, ap}
 use native.Mathlib.Omega.{arith}
-use borrow.Author.Tests.{eq-eqb, ne_eqb, lt-ltb, le-ltb}
 use Rattle.refusal.specs.declared.Refusal.{Refusal}
-use Rattle.refusal.specs.First.{or_else}
-use Rattle.image.specs.Refusals.{image_refusal}
 use Rattle.image.proofs.CheckGood.{some_symbol}
 use Rattle.validator.proofs.check.first_refusal.Goals as goal
 
