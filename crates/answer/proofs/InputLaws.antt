@@ -118,3 +118,6 @@ module _ (xs : List ℕ) (p : Pair) where
     second_offset_right e =
         ap (λ (k : ℕ). eqb (k + p.long) (length xs)) m ∙ ap (λ (q : Pair). eqb (capture_offset xs + q.long) (length xs)) read
         ∙ simp (eq-eqb (pair_at xs capture_pair).offset (capture_offset xs) (ap (λ (q : Pair). q.offset) (sym read) ∙ e ∙ m))
+
+-- what input_refusal answers, case by case
+pub ruleset input_laws = (short_refused, long_refused, first_refused, second_refused, not_refused)

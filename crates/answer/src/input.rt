@@ -62,7 +62,7 @@ fn refused(place: usize) -> Refusal
 }
 
 // Refusal 14, or number 0.
-#[tactic(auto, using(crate::proofs::InputLaws::short_refused, crate::proofs::InputLaws::long_refused, crate::proofs::InputLaws::first_refused, crate::proofs::InputLaws::second_refused, crate::proofs::InputLaws::not_refused))]
+#[tactic(auto, using(crate::proofs::InputLaws::input_laws))]
 pub fn input_refusal(input: &[u8]) -> Refusal
     ensures { result ≡ input_refusal input.now }
 {

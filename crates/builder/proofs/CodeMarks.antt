@@ -104,3 +104,6 @@ module _ (gs ms : List ℕ) (k : ℕ) (w : Marking gs ms k) where
 -- a new array has no mark
 pub unmarked : Unmarked (replicate Format.map_length 0)
 unmarked = record { long = length-replicate {A = ℕ} Format.map_length 0; unset = λ v h. get_or-replicate {A = ℕ} Format.map_length v 0 0 h }
+
+-- what mark_range leaves, case by case
+pub ruleset mark_laws = (marks_none, marks_inverted, marks_both, marks_first)

@@ -10,7 +10,7 @@ use grammar::check::{RULE_BYTES, expression_of, range_of};
 use image::format::{MAP_LENGTH, MAP_OFFSET};
 
 // Marks where a range begins, and the value after its last byte if there is one. A range with its low byte above its high byte has no mark.
-#[tactic(auto, using(crate::proofs::CodeMarks::marks_none, crate::proofs::CodeMarks::marks_inverted, crate::proofs::CodeMarks::marks_both, crate::proofs::CodeMarks::marks_first), unfolding(crate::specs::Classes::cuts_at))]
+#[tactic(auto, using(crate::proofs::CodeMarks::mark_laws), unfolding(crate::specs::Classes::cuts_at))]
 fn mark_range(marks: &mut [u8], r: ByteRange)
     requires { length marks.old ≡ map_length }
     ensures { MarksRange r marks.old marks.new }

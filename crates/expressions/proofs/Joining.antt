@@ -18,16 +18,13 @@ use Rattle.expressions.specs.declared.lookahead.Role.TheVariants as Roles
 use Rattle.expressions.specs.declared.lookahead.Ahead.{Ahead}
 use Rattle.expressions.specs.Code.Lookahead.{Looks, starts, parts_choice}
 use Rattle.expressions.specs.Code.Building.{advanced}
-use Rattle.expressions.specs.Code.Operators.{Begun, Part, part, over, PartRoom, placed_rules, placed_number, begun_of}
-use Rattle.expressions.specs.Code.Levels.{Joined, level_of, follows, rest_from, pair, by_sign, slash_sign, Room, Stops, Spent, LevelRead}
+use Rattle.expressions.specs.Code.Operators.{Begun, Part, part, over, placed_rules, placed_number, begun_of}
+use Rattle.expressions.specs.Code.Levels.{Joined, level_of, follows, rest_from, pair, by_sign, slash_sign, Room, Stops, LevelRead}
 use Rattle.expressions.proofs.Lookings.{clash, role_there, role_tells, none_there}
 use Rattle.expressions.proofs.Placing.{Joins, sequence_joins, choice_joins}
 use Rattle.expressions.proofs.Deriving.{Begins, AfterSlash, AfterPart, Parted, choices_parted, parts_parted}
 use Rattle.expressions.proofs.Descending.{begun_false, begun_true, begun_spent, pair_spent, last_room, first_over, first_alone, none_left, rest_over, both_fit}
 use Rattle.expressions.proofs.Leaves.{nothing_spent}
-
-pub spent_room : (text : List ℕ) (before : Rules) (x : Part) → Room text before → Spent before 0 x → PartRoom x
-spent_room text before x room p = omega (arith, room.fit, p.room)
 
 -- WHAT A JOINING LEVEL IS: its trees, how tokens go on from one part to the next, and that the code's tests tell it
 pub record Joining (text : List ℕ) (n : ℕ) : Type 1 where
@@ -110,22 +107,10 @@ joining text (suc zero) j = sequencing text
 joining text (suc (suc zero)) j = choosing text
 joining text (suc (suc (suc n))) j = absurd (omega (arith, j.1))
 
--- what an expression begins with: a sequence with a part, a choice with a sequence
-pub other_level : (n : ℕ) → Joined n → (n ≡ 1 → ⊥) → n ≡ 2
-other_level zero j one = absurd (omega (arith, j.0))
-other_level (suc zero) j one = absurd (one refl)
-other_level (suc (suc zero)) j one = refl
-other_level (suc (suc (suc n))) j one = absurd (omega (arith, j.1))
-
 pub part_level :
     (text : List ℕ) (n at d : ℕ) (before : Rules) (r : Part) → n ≡ 1 → LevelRead prefixes text at d before r → LevelRead (level_of (n - 1)) text at d before r
 unfolding level_of
 part_level text n at d before r e read = subst (λ (m : ℕ). LevelRead (level_of (m - 1)) text at d before r) (sym e) read
-
-pub sequence_level :
-    (text : List ℕ) (n at d : ℕ) (before : Rules) (r : Part) → n ≡ 2 → LevelRead (level_of 1) text at d before r → LevelRead (level_of (n - 1)) text at d before r
-unfolding level_of
-sequence_level text n at d before r e read = subst (λ (m : ℕ). LevelRead (level_of (m - 1)) text at d before r) (sym e) read
 
 -- WAY BY WAY
 module _ (text : List ℕ) (n : ℕ) (J : Joining text n) (at d : ℕ) (before : Rules) (first : Part) (read : LevelRead (level_of (n - 1)) text at d before first) where

@@ -3,9 +3,8 @@ use mathlib.Core.Path.{◌≡◌, refl, sym, ap, subst, ◌∙◌}
 use mathlib.Core.Bool.{Bool, true, false}
 use mathlib.Core.List.{List, [], ◌∷◌}
 use mathlib.Core.Logic.{◌⊎◌, inl, inr, ⊎_elim}
-use Prim.Native.Nat.{ℕ, ◌+◌, ◌≤◌}
+use Prim.Native.Nat.{ℕ}
 use native.Mathlib.Omega.{arith}
-use lib.ListN.{length}
 use Rattle.codec.specs.Bytes.{section}
 use Rattle.syntax.specs.declared.Ends.{Ends}
 use Rattle.syntax.specs.declared.Leaf.{Leaf}
@@ -133,25 +132,6 @@ module _ (text : List ℕ) (at : ℕ) (a : Ahead) (l : Looks text at a) where
   pub none_there : tokens_at text at ≡ [] → a.role ≡ Roles.Other
   none_there f =
       ap (λ (b : Ahead). b.role) l.is ∙ ⊎_elim (λ g. clash (cc)) (λ n. ap role n.1) (peeked text at at_lexeme l.peeks)
-
-  -- a name lies in the text
-  pub name_within : (k : ℕ) → a.role ≡ Roles.Name k → a.offset + k ≤ length text
-  name_within k e =
-      subst (λ (b : Ahead). b.role ≡ Roles.Name k → b.offset + k ≤ length text) (sym l.is)
-      (λ f. ⊎_elim (λ s. omega (arith, s.named k (name_is at_lexeme.token f), s.within)) (λ n. clash (cc (ap role n.1))) l.peeks) e
-    where
-      name_is : (t : Code.Token) → role t ≡ Roles.Name k → t ≡ Name k
-      name_is (Name m) f = cc
-      name_is (Sign (Operand x)) f = clash (cc)
-      name_is (Sign (Before p)) f = clash (cc)
-      name_is (Sign (After x)) f = clash (cc)
-      name_is (Sign Slash) f = clash (cc)
-      name_is (Sign Opening) f = clash (cc)
-      name_is (Sign Closing) f = clash (cc)
-      name_is (Sign Equals) f = clash (cc)
-      name_is (Sign Semicolon) f = clash (cc)
-      name_is (Range r) f = clash (cc)
-      name_is Unknown f = clash (cc)
 
   -- the place after it
   pub passes : (t : Token) (us : List Token) → tokens_at text at ≡ t ∷ us → tokens_at text a.next ≡ us
