@@ -27,6 +27,7 @@ fn refused(number: u32, place: usize) -> ReadText
 }
 
 // Reads a typed grammar and keeps where each line's rules end, so that a rule's line is found without reading again.
+#[tactic(auto, using(crate::proofs::ReadRight::refusal_laws))]
 pub fn read_lines(text: &[u8]) -> ReadText
     ensures { TextRead text.now result }
 {
