@@ -1,13 +1,15 @@
 -- What holds between two calls of a loop that reads or writes, and what a call that moved bytes adds to it. Assumes nothing.
-use Rattle.std.proofs.Common.{◌≡◌, Bool, true, false, cond, eqb, ℤ, pos, negsuc, ℕ, zero, suc, ◌+◌, ◌≤◌, ◌<◌, List, ◌++◌, take, drop, None, Some, Ok, Err, sym, ap, subst, ◌∙◌, append_assoc, arith}
-use Rattle.std.proofs.Math.Seq.{take-add}
+use Rattle.std.proofs.Common.{◌≡◌, Bool, true, false, not, cond, eqb, ltb, refl, length, ℤ, pos, negsuc, ℕ, zero, suc, ◌+◌, ◌≤◌, ◌<◌, List, ◌++◌, take, drop, None, Some, Ok, Err, sym, ap, subst, ◌∙◌, append_assoc, arith}
+use Rattle.std.proofs.Math.Seq.{take-add, take-append-add, take-length}
+use Rattle.std.proofs.lemmas.List.{take-append-le, length-append}
+use borrow.Author.Tests.{ltb-false, not-true}
 use Rattle.std.specs.Io.KnownBytes.{Appends, Consumes, ReadConsumes, WriteAppends}
 use Rattle.std.specs.declared.io.Error.{Error}
 use Rattle.std.specs.declared.option.Option.{Option}
 use Rattle.std.specs.declared.result.Result.{Result}
 use Rattle.transfer.specs.declared.Outcome.{Outcome}
 use Rattle.transfer.specs.declared.Outcome.TheVariants.{Bytes, Nothing, Interrupted, Failed}
-use Rattle.transfer.specs.Transfers.{Stopped, errno_of, failure_of, outcome_of}
+use Rattle.transfer.specs.Transfers.{Stopped, WritesFront, errno_of, failure_of, outcome_of}
 
 -- between two calls: where the last one moved nothing, bytes are left
 abbrev pub Going : Outcome → (count long : ℕ) → Type 0
@@ -69,3 +71,34 @@ pub write_more :
     Appends a b (take count line) → WriteAppends b c r (drop count line) → Appends a c (take (count + n) line)
 write_more r n count line a b c h before m =
     subst (λ l. Appends a c l) (sym (take-add count n line)) (Appends-trans a b c _ _ before (moved_written r n b c _ h m))
+
+-- what writing bytes leaves: all of them were written where it stopped no sooner
+pub front_written :
+    (o : Outcome) (n : ℕ) (bytes : List ℕ) (a b : Option (List ℕ)) → Stopped o n (length bytes) → Appends a b (take n bytes) →
+    WritesFront bytes (not (ltb n (length bytes))) a b
+front_written o n bytes a b s m =
+    record { count = n; within = stops_within o n (length bytes) s; written = m; whole = λ t. not_short n (length bytes) (stops_within o n (length bytes) s) t }
+  where
+    not_short : (n long : ℕ) → n ≤ long → not (ltb n long) ≡ true → n ≡ long
+    not_short n long h t = let e : long ≤ n = ltb-false n long (not-true _ t) in omega arith
+
+-- bytes written behind others that were written whole, and bytes before which a part of others was not written
+pub written_then :
+    (xs ys : List ℕ) (all : Bool) (a b c : Option (List ℕ)) → WritesFront xs true a b → WritesFront ys all b c → WritesFront (xs ++ ys) all a c
+written_then xs ys all a b c p q =
+    let first : take p.count xs ≡ xs = ap (λ n. take n xs) (p.whole refl) ∙ take-length xs in
+    record {
+      count = length xs + q.count;
+      within = omega (arith, length-append xs ys, q.within);
+      written = subst (λ l. Appends a c l) (sym (take-append-add xs ys q.count)) (Appends-trans a b c xs (take q.count ys) (subst (λ l. Appends a b l) first p.written) q.written);
+      whole = λ t. omega (arith, q.whole t, length-append xs ys);
+    }
+
+pub written_cut : (xs ys : List ℕ) (all : Bool) (a b : Option (List ℕ)) → WritesFront xs all a b → WritesFront (xs ++ ys) false a b
+written_cut xs ys all a b p =
+    record {
+      count = p.count;
+      within = omega (arith, length-append xs ys, p.within);
+      written = subst (λ l. Appends a b l) (sym (take-append-le p.count xs ys p.within)) p.written;
+      whole = λ t. absurd cc;
+    }

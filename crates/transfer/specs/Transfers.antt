@@ -1,9 +1,10 @@
 -- What a call that moves bytes came to, where reading and writing stop, and what counts as an input. Assumes nothing: these are definitions.
-use Rattle.std.specs.Prelude.{◌≡◌, ℕ, zero, suc, ◌+◌, ◌≤◌, ◌<◌, Bool, true, false, cond, eqb, ℤ, pos, negsuc, None, Some, Ok, Err}
+use Rattle.std.specs.Prelude.{◌≡◌, List, [], ◌∷◌, ◌++◌, length, take, ℕ, zero, suc, ◌+◌, ◌≤◌, ◌<◌, Bool, true, false, cond, eqb, ℤ, pos, negsuc, None, Some, Ok, Err}
 use Rattle.std.specs.declared.option.Option.{Option}
 use Rattle.std.specs.declared.result.Result.{Result}
 use Rattle.std.specs.Option.{unwrap_or}
 use Rattle.std.specs.IoError.{raw_os_error}
+use Rattle.std.specs.Io.KnownBytes.{Appends}
 use Rattle.std.specs.declared.io.Error.{Error}
 use Rattle.transfer.specs.declared.Outcome.{Outcome}
 use Rattle.transfer.specs.declared.Input.{Input}
@@ -62,3 +63,18 @@ pub record WholeInput (r : Input) (long : ℕ) : Type 0 where
   pub stopped : Stopped r.stop.last r.stop.count long
   pub whole : r.count ≡ whole_of r.stop.last r.stop.count
   pub within : r.count ≤ long
+
+-- the first so many of these bytes were written; all of them where that is the answer
+pub record WritesFront (bytes : List ℕ) (all : Bool) (before after : Option (List ℕ)) : Type 0 where
+  pub count : ℕ
+  pub within : count ≤ length bytes
+  pub written : Appends before after (take count bytes)
+  pub whole : all ≡ true → count ≡ length bytes
+
+-- A COMPLAINT'S LINE: what failed, a colon and a space, why, and a line feed
+abbrev pub complaint_line : (what why : List ℕ) → List ℕ
+complaint_line what why = what ++ (58 ∷ 32 ∷ (why ++ (10 ∷ [])))
+
+pub record Complains (what : List ℕ) (all : Bool) (before after : Option (List ℕ)) : Type 0 where
+  pub why : List ℕ
+  pub line : WritesFront (complaint_line what why) all before after

@@ -1,10 +1,10 @@
 // Reading all of an input and writing all of a line or of other bytes, over the library's read and write. The end of the input and a read that failed are told apart, and a call that a signal interrupted is made again.
 #![tactic(auto)]
 
-ghost use Rattle.std.specs.Prelude.{◌≡◌, ◌≤◌, ltb, length, take, drop};
+ghost use Rattle.std.specs.Prelude.{◌≡◌, ◌≤◌, false, ltb, length, take, drop};
 ghost use Rattle.std.specs.Io.KnownBytes.{Appends, Consumes, IsAtEnd, ReadConsumes, WriteAppends};
 ghost use Rattle.transfer.specs.declared.Outcome.TheVariants.{Nothing};
-ghost use Rattle.transfer.specs.Transfers.{outcome_of, failure_of, has_failed, whole_of, Explained, Within, Stopped, WholeInput};
+ghost use Rattle.transfer.specs.Transfers.{outcome_of, failure_of, has_failed, whole_of, Explained, Within, Stopped, WholeInput, WritesFront, complaint_line, Complains};
 
 use std::io;
 use std::io::{Cursor, Read, Write};
@@ -116,7 +116,8 @@ pub fn failed(stop: Stop) -> bool
 
 // How many bytes are an input: those read where reading came to the end or filled the buffer, and none where a read failed, which is said on standard error.
 fn whole<E: Write>(errors: &mut E, stop: Stop, complaint: &[u8]) -> usize
-    ensures { result ≡ whole_of stop.last stop.count }
+    ensures whole { result ≡ whole_of stop.last stop.count }
+    ensures silent { has_failed stop.last ≡ false → E.contents errors.new ≡ E.contents errors.old }
 {
     if failed(stop) {
         complain(errors, complaint, stop);
@@ -133,6 +134,7 @@ pub fn read_whole<R: Read, E: Write>(
     complaint: &[u8],
 ) -> Input
     ensures whole { WholeInput result (length input.new) }
+    ensures silent { has_failed result.stop.last ≡ false → E.contents errors.new ≡ E.contents errors.old }
     ensures bytes { Consumes (R.remaining reader.old) (R.remaining reader.new) (take result.stop.count input.new) }
 {
     let stop = read_on(reader, input);
@@ -193,18 +195,41 @@ fn words(text: &str) -> &str {
     }
 }
 
-// Writes a line to standard error: what failed, as the caller names it, a colon and why. What cannot be written is left out.
-pub fn complain<E: Write>(errors: &mut E, what: &[u8], stop: Stop) {
+// Writes bytes, and answers whether all of them were written.
+fn write_whole<W: Write>(writer: &mut W, bytes: &[u8]) -> bool
+    ensures { WritesFront bytes.now result (W.contents writer.old) (W.contents writer.new) }
+{
+    let stop = write_on(writer, bytes);
+    !cut_short(stop, bytes.len())
+}
+
+// Writes a complaint's line, and answers whether all of it was written.
+fn write_complaint<W: Write>(writer: &mut W, what: &[u8], why: &[u8]) -> bool
+    ensures { WritesFront (complaint_line what.now why.now) result (W.contents writer.old) (W.contents writer.new) }
+{
+    if !write_whole(writer, what) {
+        return false;
+    }
+    if !write_whole(writer, b": ") {
+        return false;
+    }
+    if !write_whole(writer, why) {
+        return false;
+    }
+    write_whole(writer, b"\n")
+}
+
+// Writes the line that says what failed, as the caller names it, and why, and answers whether all of it was written.
+pub fn complain<E: Write>(errors: &mut E, what: &[u8], stop: Stop) -> bool
+    ensures { Complains what.now result (E.contents errors.old) (E.contents errors.new) }
+{
     let error = stop.error.unwrap_or(io::Error::from_raw_os_error(0));
     let mut text = Cursor::new([0u8; 256]);
     let _ = write!(text, "{error}");
     let long = text.position().min(256) as usize;
     let bytes = text.into_inner();
     let why = words(str::from_utf8(&bytes[..long]).unwrap_or(""));
-    let _ = errors.write_all(what);
-    let _ = errors.write_all(b": ");
-    let _ = errors.write_all(why.as_bytes());
-    let _ = errors.write_all(b"\n");
+    write_complaint(errors, what, why.as_bytes())
 }
 
 #[cfg(test)]
