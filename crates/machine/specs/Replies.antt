@@ -1,12 +1,10 @@
 -- The number of each verdict, and the numbers of what a check answers, as include/sejimakpu.h names them. Assumes nothing: these are definitions.
-use Rattle.std.specs.Prelude.{ℕ}
+use Rattle.std.specs.Prelude.{ℕ, Result, Ok, Err}
 use Rattle.machine.specs.declared.Config.{Config}
 use Rattle.refusal.specs.declared.Refusal.{Refusal}
 use Rattle.machine.specs.declared.Reply.{Reply}
 use Rattle.machine.specs.declared.Verdict.{Verdict}
 use Rattle.machine.specs.declared.Verdict.TheVariants.{Accepted, Ended, Stuck, Looping, Halted}
-use Rattle.refusal.specs.declared.Checked.{Checked}
-use Rattle.refusal.specs.declared.Checked.TheVariants.{Good, Refused}
 
 -- a verdict's number; 0 is none, 5 and 6 are how else a plain run is left
 unfoldable pub verdict_number : Verdict → ℕ
@@ -31,6 +29,6 @@ abbrev pub count_reply : (count : ℕ) → Reply
 count_reply n = answer_reply 0 n no_config
 
 -- THE CHECK of an image, or of a grammar
-unfoldable pub of_checked : Checked → Reply
-of_checked Good = count_reply 0
-of_checked (Refused f) = refusal_reply f
+unfoldable pub of_checked : Result Unit Refusal → Reply
+of_checked (Ok _) = count_reply 0
+of_checked (Err f) = refusal_reply f

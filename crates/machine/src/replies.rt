@@ -23,8 +23,8 @@ pub fn refusal_reply(refusal: Refusal) -> Reply
     ensures { result ≡ refusal_told refusal }
 {
     Reply {
-        refusal: refusal.number,
-        place: refusal.place,
+        refusal: refusal.number(),
+        place: refusal.place(),
         verdict: 0,
         count: 0,
         end: Config {

@@ -3,3 +3,4 @@ pub mod Reflects
 pub mod Searching
 pub mod Rows
 pub mod Refused
+pub mod Checked

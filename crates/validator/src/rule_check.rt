@@ -3,6 +3,7 @@ ghost use Rattle.std.specs.Prelude.{◌≡◌, not, ◌&&◌, ◌||◌, ◌+◌,
 ghost use Rattle.image.specs.Format.{map_offset, pop_return};
 ghost use Rattle.image.specs.Image.{rule_from};
 ghost use Rattle.image.specs.Refusals.{move_off, stops, rule_bad, rules_refusal_from, rule_count};
+ghost use Rattle.refusal.specs.Checking.{checked};
 ghost use Rattle.validator.specs.Code.Checking.{RuleInside, LengthChecked};
 
 use image::counting;
@@ -10,7 +11,7 @@ use image::format::{
     CLASSES_OFFSET, DIRECTION_LEFT, DIRECTION_RIGHT, KIND_HALT, KIND_NONE, KIND_POP, POP_RETURN,
     RULE_LENGTH, RULES_OFFSET, STATES_OFFSET, SYMBOLS_OFFSET,
 };
-use refusal::Refusal;
+use refusal::{Kind, Refusal};
 
 // Whether a rule of this kind stops a run.
 fn stops_run(kind: u8) -> bool
@@ -95,9 +96,9 @@ fn rule_bad(image: &[u8], at: usize, class: u32) -> bool
 }
 
 // Refusal 6: the rules in order.
-pub fn rules(image: &[u8]) -> Refusal
+pub fn rules(image: &[u8]) -> Result<(), Refusal>
     requires { LengthChecked image.now }
-    ensures { result ≡ rules_refusal_from (rule_count image.now) 0 image.now }
+    ensures { result ≡ checked (rules_refusal_from (rule_count image.now) 0 image.now) }
 {
     let columns = image[CLASSES_OFFSET] as u32 + 2;
     let symbols = image[SYMBOLS_OFFSET] as u32;
@@ -105,16 +106,10 @@ pub fn rules(image: &[u8]) -> Refusal
     let mut at: usize = RULES_OFFSET;
     while at < image.len() {
         if rule_bad(image, at, s.class) {
-            return Refusal {
-                number: 6,
-                place: at,
-            };
+            return Err(Refusal::new(Kind::Rule, at));
         }
         at += RULE_LENGTH;
         s = counting::next(s, columns, symbols);
     }
-    Refusal {
-        number: 0,
-        place: 0,
-    }
+    Ok(())
 }
