@@ -13,7 +13,7 @@ use Rattle.refusal.specs.declared.Refusal.{Refusal}
 use Rattle.codec.specs.Bytes.{byte}
 use Rattle.refusal.specs.First.{or_else}
 use Rattle.refusal.proofs.Refused.{neither}
-use Rattle.simulator.specs.declared.Judged.{Judged}
+use Rattle.simulator.specs.Answers.{Judged}
 use Rattle.simulator.specs.Calls.{judge_refusal}
 use Rattle.simulator.proofs.Answered.{judged_right}
 use Rattle.grammar.specs.Grammar.{grammar_refusal}

@@ -1,11 +1,11 @@
 -- From what building and judging say to what the answer says. Assumes nothing.
+use Rattle.std.specs.Prelude.{Ok}
 use mathlib.Core.Path.{◌≡◌, refl, sym, subst, ap, ◌∙◌}
 use mathlib.Core.List.{List}
 use Prim.Native.Nat.{ℕ, zero, suc}
 use native.Mathlib.Omega.{arith}
 use Rattle.refusal.specs.declared.Refusal.{Refusal}
 use Rattle.simulator.specs.declared.Judgement.{Judgement}
-use Rattle.simulator.specs.declared.Judged.TheVariants.{Answer}
 use Rattle.grammar_judge.specs.Calls.{Lent, lent_refusal}
 use Rattle.grammar_judge.specs.Code.Steps.{Builds}
 use Rattle.answer_line.specs.Line.{refusal_line, Lined}
@@ -14,11 +14,11 @@ use Rattle.answer.specs.Calls.{judged_line, BuiltAndJudged, PartsAs, PartsSay, I
 
 judged_told :
     (gs cs : List ℕ) (x y : Lent) (j : Judgement) (out out_now : List ℕ) (count : ℕ) → Builds gs cs x y j →
-    Lined (judged_line (Answer j)) out out_now count → Told (BuiltAndJudged gs cs x y) out out_now count
+    Lined (judged_line (Ok j)) out out_now count → Told (BuiltAndJudged gs cs x y) out out_now count
 judged_told gs cs x y j o q k b t =
     record {
-      line = judged_line (Answer j);
-      right = record { judged = Answer j; image_now = b.image_now; judges = b.judges; says = refl };
+      line = judged_line (Ok j);
+      right = record { judged = Ok j; image_now = b.image_now; judges = b.judges; says = refl };
       lined = t;
     }
 
@@ -46,7 +46,7 @@ parts_judged_as (suc n) f gs cs x y l e h = absurd (omega arith)
 
 pub parts_judged :
     (gs cs : List ℕ) (x y : Lent) (j : Judgement) (f : Refusal) (out out_now : List ℕ) (count : ℕ) → f ≡ lent_refusal gs cs x → f.number ≡ 0 →
-    Builds gs cs x y j → Lined (judged_line (Answer j)) out out_now count → Told (PartsSay gs cs x y) out out_now count
+    Builds gs cs x y j → Lined (judged_line (Ok j)) out out_now count → Told (PartsSay gs cs x y) out out_now count
 unfolding PartsSay
 parts_judged gs cs x y j f o q k e z b l =
     let none_there : (lent_refusal gs cs x).number ≡ 0 = ap (λ (r : Refusal). r.number) (sym e) ∙ z in

@@ -1,8 +1,7 @@
 -- What the call `answer` leaves in the lent buffers, by cases: refusal 14, then 11 to 13, then 7 to 9, then what judging says. A refused call changes none of them. Assumes nothing: these are definitions.
-use Rattle.std.specs.Prelude.{◌≡◌, List, ◌++◌, ℕ, zero, suc, drop}
+use Rattle.std.specs.Prelude.{◌≡◌, List, ◌++◌, ℕ, zero, suc, drop, Err, Ok}
 use Rattle.refusal.specs.declared.Refusal.{Refusal}
-use Rattle.simulator.specs.declared.Judged.{Judged}
-use Rattle.simulator.specs.declared.Judged.TheVariants.{Refused, Answer}
+use Rattle.simulator.specs.Answers.{Judged}
 use Rattle.refusal.specs.First.{or_else}
 use Rattle.simulator.specs.Calls.{JudgeSays}
 use Rattle.builder.specs.declared.Matching.TheVariants.{Whole}
@@ -13,8 +12,8 @@ use Rattle.answer.specs.Input.{input_refusal, input_grammar, input_capture}
 
 -- the line of what judging says
 unfoldable pub judged_line : Judged → List ℕ
-judged_line (Refused f) = refusal_line f
-judged_line (Answer j) = answer_line j.verdict j.readings j.end
+judged_line (Err f) = refusal_line f
+judged_line (Ok j) = answer_line j.verdict j.readings j.end
 
 -- a refused call says so, and changes none of them
 pub record Refuses (f : Refusal) (before after : Lent) (line : List ℕ) : Type 0 where

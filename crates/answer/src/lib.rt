@@ -3,7 +3,6 @@
 
 pub mod input;
 
-ghost use Rattle.simulator.specs.declared.Judged.TheVariants.{Answer};
 ghost use Rattle.builder.specs.Code.Building.{Planned};
 ghost use Rattle.answer_line.specs.Line.{Lined};
 ghost use Rattle.grammar_judge.specs.Calls.{lent};
@@ -19,7 +18,7 @@ use simulator::Judgement;
 
 // The line of a judgement.
 fn put_judgement(out: &mut [u8], j: Judgement) -> usize
-    ensures { Lined (judged_line (Answer j)) out.old out.new result }
+    ensures { Lined (judged_line (Ok j)) out.old out.new result }
 {
     let verdict = j.verdict;
     put_answer(out, verdict, j.readings, j.end)

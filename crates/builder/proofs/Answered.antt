@@ -1,4 +1,5 @@
 -- What building's contract comes to where it answers and where it refuses; and that its answer follows from the input, whatever the buffer held before. Assumes nothing.
+use Rattle.std.specs.Prelude.{Err, Ok}
 use mathlib.Core.Path.{◌≡◌, refl, sym, ◌∙◌, ap, subst}
 use mathlib.Core.List.{List, ◌++◌}
 use Prim.Native.Nat.{ℕ, zero, suc, ◌≤◌}
@@ -9,8 +10,7 @@ use borrow.Author.Tests.{ltb-false}
 use Rattle.refusal.specs.declared.Refusal.{Refusal}
 use Rattle.refusal.proofs.Refused.{neither, not_refused}
 use Rattle.builder.specs.declared.Matching.{Matching}
-use Rattle.builder.specs.declared.Built.{Built}
-use Rattle.builder.specs.declared.Built.TheVariants.{Refused, Image}
+use Rattle.builder.specs.Answers.{Built}
 use Rattle.grammar.specs.Grammar.{grammar_refusal}
 use Rattle.builder.specs.Image.{built, built_length}
 use Rattle.builder.specs.Calls.{build_refusal, BuildAs, BuildSays}
@@ -29,28 +29,28 @@ build_determined how gs a r s x y p q = same_as (build_refusal gs (length a)).nu
 
 -- refused, the refusal is given and no byte changes
 refused_as :
-    (k : ℕ) (f : Refusal) (how : Matching) (gs : List ℕ) (r : Built) (a x : List ℕ) → (k ≡ 0 → ⊥) → BuildAs k f how gs r a x → (r ≡ Refused f) × (x ≡ a)
+    (k : ℕ) (f : Refusal) (how : Matching) (gs : List ℕ) (r : Built) (a x : List ℕ) → (k ≡ 0 → ⊥) → BuildAs k f how gs r a x → (r ≡ Err f) × (x ≡ a)
 unfolding BuildAs
 refused_as zero f how gs r a x h s = absurd (h refl)
 refused_as (suc k) f how gs r a x h s = s
 
 pub build_refused :
     (how : Matching) (gs : List ℕ) (r : Built) (a x : List ℕ) → ((build_refusal gs (length a)).number ≡ 0 → ⊥) → BuildSays how gs r a x →
-    (r ≡ Refused (build_refusal gs (length a))) × (x ≡ a)
+    (r ≡ Err (build_refusal gs (length a))) × (x ≡ a)
 unfolding BuildSays
 build_refused how gs r a x h s = refused_as (build_refusal gs (length a)).number (build_refusal gs (length a)) how gs r a x h s
 
 -- not refused, the image is written, and later bytes stay
 answered_as :
     (k : ℕ) (f : Refusal) (how : Matching) (gs : List ℕ) (r : Built) (a x : List ℕ) → k ≡ 0 → BuildAs k f how gs r a x →
-    (r ≡ Image (built_length gs)) × (x ≡ built how gs ++ drop (built_length gs) a)
+    (r ≡ Ok (built_length gs)) × (x ≡ built how gs ++ drop (built_length gs) a)
 unfolding BuildAs
 answered_as zero f how gs r a x h s = s
 answered_as (suc k) f how gs r a x h s = absurd (omega arith)
 
 pub build_answered :
     (how : Matching) (gs : List ℕ) (r : Built) (a x : List ℕ) → (build_refusal gs (length a)).number ≡ 0 → BuildSays how gs r a x →
-    (r ≡ Image (built_length gs)) × (x ≡ built how gs ++ drop (built_length gs) a)
+    (r ≡ Ok (built_length gs)) × (x ≡ built how gs ++ drop (built_length gs) a)
 unfolding BuildSays
 build_answered how gs r a x h s = answered_as (build_refusal gs (length a)).number (build_refusal gs (length a)) how gs r a x h s
 

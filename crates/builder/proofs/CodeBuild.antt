@@ -1,4 +1,5 @@
 -- What building answers: the first refusal of 11 to 13, or the image and the later bytes. Assumes nothing.
+use Rattle.std.specs.Prelude.{Err, Ok}
 use mathlib.Core.Path.{◌≡◌, refl, sym, ap, subst, ◌∙◌}
 use mathlib.Core.List.{List, ◌++◌}
 use Prim.Native.Nat.{ℕ, zero, suc, ◌≤◌}
@@ -11,8 +12,7 @@ use Rattle.refusal.specs.declared.Refusal.{Refusal}
 use Rattle.refusal.specs.First.{refusal, no_refusal, or_else, refuse_if}
 use Rattle.refusal.proofs.Refused.{not_refused as room_there}
 use Rattle.builder.specs.declared.Matching.{Matching}
-use Rattle.builder.specs.declared.Built.{Built}
-use Rattle.builder.specs.declared.Built.TheVariants.{Refused, Image}
+use Rattle.builder.specs.Answers.{Built}
 use Rattle.grammar.specs.Grammar.{grammar_refusal}
 use Rattle.builder.specs.declared.Plan.{Plan}
 use Rattle.builder.specs.Image.{built, built_length}
@@ -20,15 +20,15 @@ use Rattle.builder.specs.Code.Building.{plan_of, BufferReady}
 use Rattle.builder.specs.Calls.{build_refusal, BuildAs, BuildSays}
 use Rattle.builder.specs.Code.Writing.{WriteReady}
 
-refused_as : (how : Matching) (gs a : List ℕ) (f : Refusal) (n : ℕ) → (n ≡ 0 → ⊥) → BuildAs n f how gs (Refused f) a a
+refused_as : (how : Matching) (gs a : List ℕ) (f : Refusal) (n : ℕ) → (n ≡ 0 → ⊥) → BuildAs n f how gs (Err f) a a
 unfolding BuildAs
 refused_as how gs a f zero h = absurd (h refl)
 refused_as how gs a f (suc n) h = (refl, refl)
 
-says_refused : (how : Matching) (gs a : List ℕ) (f : Refusal) → build_refusal gs (length a) ≡ f → (f.number ≡ 0 → ⊥) → BuildSays how gs (Refused f) a a
+says_refused : (how : Matching) (gs a : List ℕ) (f : Refusal) → build_refusal gs (length a) ≡ f → (f.number ≡ 0 → ⊥) → BuildSays how gs (Err f) a a
 unfolding BuildSays
 says_refused how gs a f e h =
-    subst (λ (g : Refusal). BuildAs g.number g how gs (Refused f) a a) (sym e) (refused_as how gs a f f.number h)
+    subst (λ (g : Refusal). BuildAs g.number g how gs (Err f) a a) (sym e) (refused_as how gs a f f.number h)
 
 -- the refusal by its place in the order
 refusal_grammar : (gs : List ℕ) (f : Refusal) (n : ℕ) → f ≡ grammar_refusal gs → (f.number ≡ 0 → ⊥) → build_refusal gs n ≡ f
@@ -45,7 +45,7 @@ unfolding plan_of
 long_is gs p e = ap (λ (q : Plan). q.long) e
 
 built_as :
-    (how : Matching) (gs a c : List ℕ) (r : Built) → r ≡ Image (built_length gs) → c ≡ built how gs ++ drop (built_length gs) a → BuildAs 0 no_refusal how gs r a c
+    (how : Matching) (gs a c : List ℕ) (r : Built) → r ≡ Ok (built_length gs) → c ≡ built how gs ++ drop (built_length gs) a → BuildAs 0 no_refusal how gs r a c
 unfolding BuildAs
 built_as how gs a c r x y = (x, y)
 
@@ -69,19 +69,19 @@ room_passed n long g e none =
 
 -- WHAT BUILDING ANSWERS
 pub building_refused :
-    (how : Matching) (gs a : List ℕ) (f : Refusal) → f ≡ build_refusal gs (length a) → (f.number ≡ 0 → ⊥) → BuildSays how gs (Refused f) a a
+    (how : Matching) (gs a : List ℕ) (f : Refusal) → f ≡ build_refusal gs (length a) → (f.number ≡ 0 → ⊥) → BuildSays how gs (Err f) a a
 building_refused how gs a f e h = says_refused how gs a f (sym e) h
 
 module _
     (gs a : List ℕ) (good : (grammar_refusal gs).number ≡ 0) (long : ℕ) (l : long ≡ built_length gs) (fits : long ≤ length a)
   where
     -- the image, and the later bytes as they were
-    pub image_built : (how : Matching) (b c : List ℕ) → b ≡ built how gs → c ≡ b ++ drop long a → BuildSays how gs (Image long) a c
+    pub image_built : (how : Matching) (b c : List ℕ) → b ≡ built how gs → c ≡ b ++ drop long a → BuildSays how gs (Ok long) a c
     unfolding BuildSays
     image_built how b c q k =
-        subst (λ (g : Refusal). BuildAs g.number g how gs (Image long) a c)
+        subst (λ (g : Refusal). BuildAs g.number g how gs (Ok long) a c)
         (sym (refusal_none gs (length a) good (omega arith)))
-        (built_as how gs a c (Image long) (ap Image l)
+        (built_as how gs a c (Ok long) (ap Ok l)
         (k ∙ ap (λ (x : List ℕ). x ++ drop long a) q ∙ ap (λ (n : ℕ). built how gs ++ drop n a) l))
 
     -- what is lent for the image

@@ -6,6 +6,7 @@ pub mod Table
 pub mod Image
 pub mod WholeBefore
 pub mod Conditions
+pub mod Answers
 pub mod Calls
 pub mod Replies
 pub mod Code

@@ -1,10 +1,10 @@
 -- The numbers of what the call `build_image` answers. Assumes nothing: these are definitions.
+use Rattle.std.specs.Prelude.{Err, Ok}
 use Rattle.machine.specs.declared.Reply.{Reply}
 use Rattle.machine.specs.Replies.{refusal_reply, count_reply}
-use Rattle.builder.specs.declared.Built.{Built}
-use Rattle.builder.specs.declared.Built.TheVariants.{Image, Refused}
+use Rattle.builder.specs.Answers.{Built}
 
 -- the image's length is a count
 unfoldable pub of_built : Built → Reply
-of_built (Refused f) = refusal_reply f
-of_built (Image n) = count_reply n
+of_built (Err f) = refusal_reply f
+of_built (Ok n) = count_reply n

@@ -1,4 +1,5 @@
 -- Totals with one line more, by that line's case, as the code makes them. Assumes nothing.
+use Rattle.std.specs.Prelude.{Err, Ok}
 use mathlib.Core.Path.{◌≡◌}
 use mathlib.Core.Bool.{Bool, true, false, cond}
 use Prim.Native.Nat.{ℕ, ◌+◌, ◌≤◌}
@@ -9,8 +10,7 @@ use Rattle.machine.specs.declared.Verdict.{Verdict}
 use Rattle.machine.specs.declared.Verdict.TheVariants.{Accepted, Ended, Stuck, Looping, Halted}
 use Rattle.machine.specs.Replies.{verdict_number}
 use Rattle.refusal.specs.declared.Refusal.{Refusal}
-use Rattle.simulator.specs.declared.Judged.{Judged}
-use Rattle.simulator.specs.declared.Judged.TheVariants.{Refused, Answer}
+use Rattle.simulator.specs.Answers.{Judged}
 use Rattle.simulator.specs.declared.Judgement.{Judgement}
 use Rattle.bundle.specs.declared.Totals.{Totals}
 use Rattle.bundle.specs.Report.{gives, is_refused, line_readings}
@@ -23,48 +23,48 @@ totals_of a e s l h f n =
 module _ (t : Totals) (j : Judgement) where
   pub accepted_added :
       j.verdict ≡ Accepted →
-      totals_of (t.accepted + 1) t.ended t.stuck t.looping t.halted t.refused (t.readings + j.readings) ≡ with_line t (Answer j)
+      totals_of (t.accepted + 1) t.ended t.stuck t.looping t.halted t.refused (t.readings + j.readings) ≡ with_line t (Ok j)
   unfolding with_line gives is_refused line_readings verdict_number
   accepted_added e = rw e (simp add-zero)
 
   pub ended_added :
       j.verdict ≡ Ended →
-      totals_of t.accepted (t.ended + 1) t.stuck t.looping t.halted t.refused (t.readings + j.readings) ≡ with_line t (Answer j)
+      totals_of t.accepted (t.ended + 1) t.stuck t.looping t.halted t.refused (t.readings + j.readings) ≡ with_line t (Ok j)
   unfolding with_line gives is_refused line_readings verdict_number
   ended_added e = rw e (simp add-zero)
 
   pub stuck_added :
       j.verdict ≡ Stuck →
-      totals_of t.accepted t.ended (t.stuck + 1) t.looping t.halted t.refused (t.readings + j.readings) ≡ with_line t (Answer j)
+      totals_of t.accepted t.ended (t.stuck + 1) t.looping t.halted t.refused (t.readings + j.readings) ≡ with_line t (Ok j)
   unfolding with_line gives is_refused line_readings verdict_number
   stuck_added e = rw e (simp add-zero)
 
   pub looping_added :
       j.verdict ≡ Looping →
-      totals_of t.accepted t.ended t.stuck (t.looping + 1) t.halted t.refused (t.readings + j.readings) ≡ with_line t (Answer j)
+      totals_of t.accepted t.ended t.stuck (t.looping + 1) t.halted t.refused (t.readings + j.readings) ≡ with_line t (Ok j)
   unfolding with_line gives is_refused line_readings verdict_number
   looping_added e = rw e (simp add-zero)
 
   pub halted_added :
       j.verdict ≡ Halted →
-      totals_of t.accepted t.ended t.stuck t.looping (t.halted + 1) t.refused (t.readings + j.readings) ≡ with_line t (Answer j)
+      totals_of t.accepted t.ended t.stuck t.looping (t.halted + 1) t.refused (t.readings + j.readings) ≡ with_line t (Ok j)
   unfolding with_line gives is_refused line_readings verdict_number
   halted_added e = rw e (simp add-zero)
 
 pub refused_added :
-    (t : Totals) {r : Judged} (f : Refusal) → r ≡ Refused f →
+    (t : Totals) {r : Judged} (f : Refusal) → r ≡ Err f →
     totals_of t.accepted t.ended t.stuck t.looping t.halted (t.refused + 1) t.readings ≡ with_line t r
 unfolding with_line gives is_refused line_readings
 refused_added t f e = rw e (simp add-zero)
 
-pub answer_added : (t : Totals) {u : Totals} {r : Judged} {j : Judgement} → r ≡ Answer j → u ≡ with_line t (Answer j) → u ≡ with_line t r
+pub answer_added : (t : Totals) {u : Totals} {r : Judged} {j : Judgement} → r ≡ Ok j → u ≡ with_line t (Ok j) → u ≡ with_line t r
 answer_added t e h = rw e h
 
 -- what a line adds is 1 at most, but for its readings, which have 32 bits
 gives_most : (v : Verdict) (r : Judged) → gives v r ≤ 1
 unfolding gives
-gives_most v (Refused f) = omega arith
-gives_most v (Answer j) = by_test (eqb (verdict_number j.verdict) (verdict_number v))
+gives_most v (Err f) = omega arith
+gives_most v (Ok j) = by_test (eqb (verdict_number j.verdict) (verdict_number v))
   where
     by_test : (b : Bool) → cond b 1 0 ≤ 1
     by_test true = omega arith
@@ -72,8 +72,8 @@ gives_most v (Answer j) = by_test (eqb (verdict_number j.verdict) (verdict_numbe
 
 refused_most : (r : Judged) → is_refused r ≤ 1
 unfolding is_refused
-refused_most (Refused f) = omega arith
-refused_most (Answer j) = omega arith
+refused_most (Err f) = omega arith
+refused_most (Ok j) = omega arith
 
 pub room_added : {n : ℕ} {t : Totals} (r : Judged) → line_readings r ≤ max_u32 → RoomAfter n t → RoomAfter (n + 1) (with_line t r)
 unfolding with_line

@@ -1,4 +1,5 @@
 -- Captures judged in order are captures judged alone: the lines are those of each alone on the cells as they were lent, and the cells are a fold over what each writes. Assumes nothing.
+use Rattle.std.specs.Prelude.{Err, Ok}
 use mathlib.Core.Path.{◌≡◌, refl, sym, ap, ◌∙◌}
 use mathlib.Core.List.{List, [], ◌∷◌, ◌++◌, map}
 use Prim.Native.Nat.{ℕ, suc, ◌≤◌}
@@ -9,8 +10,7 @@ use lib.Seq.{take_at}
 use Rattle.refusal.specs.declared.Refusal.{Refusal}
 use Rattle.machine.specs.Run.{how_many}
 use Rattle.image.specs.Image.{machine}
-use Rattle.simulator.specs.declared.Judged.{Judged}
-use Rattle.simulator.specs.declared.Judged.TheVariants.{Refused, Answer}
+use Rattle.simulator.specs.Answers.{Judged}
 use Rattle.simulator.specs.declared.Judgement.{Judgement}
 use Rattle.simulator.specs.Calls.{judge_refusal, JudgedRight, JudgeSays}
 use Rattle.simulator.proofs.Answered.{judged_right, judged_refused}
@@ -24,10 +24,10 @@ use Rattle.simulator.proofs.LengthsKept.{lengths_kept}
 -- ONE CAPTURE on the cells c and d, and alone on a and b
 data Step (bs cs a b : List ℕ) (r : Judged) (c c_now d d_now : List ℕ) : Type 0 where
   step_refused :
-      (f : Refusal) → r ≡ Refused f → JudgeSays bs cs (Refused f) a a b b → c_now ≡ c → d_now ≡ d → Step bs cs a b r c c_now d d_now
+      (f : Refusal) → r ≡ Err f → JudgeSays bs cs (Err f) a a b b → c_now ≡ c → d_now ≡ d → Step bs cs a b r c c_now d d_now
   step_answered :
-      (j : Judgement) (ns b_now : List ℕ) → r ≡ Answer j → length ns ≡ how_many (machine bs cs) →
-      JudgeSays bs cs (Answer j) a (ns ++ drop (length ns) a) b b_now → c_now ≡ ns ++ drop (length ns) c →
+      (j : Judgement) (ns b_now : List ℕ) → r ≡ Ok j → length ns ≡ how_many (machine bs cs) →
+      JudgeSays bs cs (Ok j) a (ns ++ drop (length ns) a) b b_now → c_now ≡ ns ++ drop (length ns) c →
       d_now ≡ replicate (length ns) 0 ++ drop (length (replicate {A = ℕ} (length ns) 0)) d → Step bs cs a b r c c_now d d_now
 
 step :
@@ -42,7 +42,7 @@ step bs cs a b r c c_now d d_now p q s = go (ℕ_discrete (judge_refusal bs cs (
     go : Dec ((judge_refusal bs cs (length c) (length d)).number ≡ 0) → Step bs cs a b r c c_now d d_now
     go (no n) =
         let f = judged_refused bs cs r c c_now d d_now n s in
-        step_refused (judge_refusal bs cs (length a) (length b)) (f.0 ∙ ap Refused same)
+        step_refused (judge_refusal bs cs (length a) (length b)) (f.0 ∙ ap Err same)
         (as_refused (judge_refusal bs cs (length a) (length b)).number (λ e. n (ap (λ (z : Refusal). z.number) same ∙ e)) bs cs a b refl)
         f.1 f.2
     go (yes e) =
@@ -50,10 +50,10 @@ step bs cs a b r c c_now d d_now p q s = go (ℕ_discrete (judge_refusal bs cs (
         let n = how_many (machine bs cs) in
         let ns = f.notes in
         let long : length ns ≡ n = f.right.noted_cells in
-        let alone : JudgedRight bs cs (Answer f.judgement) a (ns ++ drop n a) b (f.work ++ drop n b) =
+        let alone : JudgedRight bs cs (Ok f.judgement) a (ns ++ drop n a) b (f.work ++ drop n b) =
         record { judgement = f.judgement; notes = ns; work = f.work; answers = refl; right = f.right; notes_now = refl; work_now = refl }
         in
-        let alone' : JudgedRight bs cs (Answer f.judgement) a (ns ++ drop (length ns) a) b (f.work ++ drop n b) = rw long alone in
+        let alone' : JudgedRight bs cs (Ok f.judgement) a (ns ++ drop (length ns) a) b (f.work ++ drop n b) = rw long alone in
         step_answered f.judgement ns (f.work ++ drop n b) f.answers long
         (as_right (judge_refusal bs cs (length a) (length b)).number (ap (λ (z : Refusal). z.number) (sym same) ∙ e) (judge_refusal bs cs (length a) (length b)) bs cs alone')
         (rw long f.notes_now) (rw (length-replicate {A = ℕ} (length ns) 0, long) (f.work_now ∙ ap (λ (w : List ℕ). w ++ drop n d) f.right.work_zero))
@@ -116,25 +116,25 @@ one_alone bs xs a b i j qs rs us ws e (refused s z) none_left =
 one_alone bs xs a b i j qs rs us ws e (answered y l s z) none_left =
     let rest = alone_below bs xs a b (suc i) _ _ z in absurd (omega (arith, e, rest))
 one_alone bs xs a b i j qs rs us ws e (refused {f} {rs = qs'} {ws = us'} s z) (refused {f = g} {rs = rs'} {ws = ws'} t w) =
-    let t' : JudgeSays bs (capture xs i) (Refused g) a a b b = rw e t in
-    let same : Refused f ≡ Refused g = (judge_determined bs (capture xs i) a b (Refused f) (Refused g) a b a b s t').0 in
+    let t' : JudgeSays bs (capture xs i) (Err g) a a b b = rw e t in
+    let same : Err f ≡ Err g = (judge_determined bs (capture xs i) a b (Err f) (Err g) a b a b s t').0 in
     let rest = one_alone bs xs a b (suc i) (suc j) qs' rs' us' ws' (ap suc e) z w in
     (rw (same, rest.0) refl, rw rest.1 refl)
 one_alone bs xs a b i j qs rs us ws e (refused {f} s z) (answered {j = k} {ns = ms} y l t w) =
-    let t' : JudgeSays bs (capture xs i) (Answer k) a (ms ++ drop (length ms) a) b y = rw e t in
-    let same : Refused f ≡ Answer k = (judge_determined bs (capture xs i) a b (Refused f) (Answer k) a b (ms ++ drop (length ms) a) y s t').0 in
+    let t' : JudgeSays bs (capture xs i) (Ok k) a (ms ++ drop (length ms) a) b y = rw e t in
+    let same : Err f ≡ Ok k = (judge_determined bs (capture xs i) a b (Err f) (Ok k) a b (ms ++ drop (length ms) a) y s t').0 in
     absurd (let z : ◌≡◌ {A = ℕ} 0 1 = cc in omega arith)
 one_alone bs xs a b i j qs rs us ws e (answered {j = k} y l s z) (refused {f} t w) =
-    let t' : JudgeSays bs (capture xs i) (Refused f) a a b b = rw e t in
-    let same : Answer k ≡ Refused f = (judge_determined bs (capture xs i) a b (Answer k) (Refused f) _ y a b s t').0 in
+    let t' : JudgeSays bs (capture xs i) (Err f) a a b b = rw e t in
+    let same : Ok k ≡ Err f = (judge_determined bs (capture xs i) a b (Ok k) (Err f) _ y a b s t').0 in
     absurd (let z : ◌≡◌ {A = ℕ} 0 1 = cc in omega arith)
 one_alone bs xs a b i j qs rs us ws e (answered {j = k} {ns} {rs = qs'} {ws = us'} y l s z) (answered {j = k'} {ns = ms} {rs = rs'} {ws = ws'} y' l' t w) =
-    let t' : JudgeSays bs (capture xs i) (Answer k') a (ms ++ drop (length ms) a) b y' = rw e t in
+    let t' : JudgeSays bs (capture xs i) (Ok k') a (ms ++ drop (length ms) a) b y' = rw e t in
     let long : length ms ≡ how_many (machine bs (capture xs i)) = rw e l' in
     let same =
-    judge_determined bs (capture xs i) a b (Answer k) (Answer k') (ns ++ drop (length ns) a) y (ms ++ drop (length ms) a) y' s t'
+    judge_determined bs (capture xs i) a b (Ok k) (Ok k') (ns ++ drop (length ns) a) y (ms ++ drop (length ms) a) y' s t'
     in
-    let first : Answer k ≡ Answer k' = same.0 in
+    let first : Ok k ≡ Ok k' = same.0 in
     let writing : ns ≡ ms = one_writing ns ms a (l ∙ sym long) same.1 in
     let rest = one_alone bs xs a b (suc i) (suc j) qs' rs' us' ws' (ap suc e) z w in
     (rw (first, rest.0) refl, rw (writing, rest.1) refl)

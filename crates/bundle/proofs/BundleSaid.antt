@@ -1,11 +1,12 @@
 -- What the call's contract comes to where it reports, and where it refuses. Assumes nothing.
+use Rattle.std.specs.Prelude.{Err}
 use mathlib.Core.Path.{◌≡◌, refl}
 use mathlib.Core.List.{List}
 use Prim.Native.Nat.{ℕ, zero, suc}
 use native.Mathlib.Omega.{arith}
 use Rattle.refusal.specs.declared.Refusal.{Refusal}
-use Rattle.bundle.specs.declared.Report.{Report}
-use Rattle.bundle.specs.declared.Report.TheVariants.{Refused, Lines}
+use Rattle.bundle.specs.Answers.{Report}
+use Rattle.bundle.specs.declared.Report.TheVariants.{Lines}
 use Rattle.bundle.specs.declared.Totals.{Totals}
 use Rattle.bundle.specs.Format.{call_refusal}
 use Rattle.bundle.specs.Calls.{BundleJudged, BundleAs, BundleSays}
@@ -26,7 +27,7 @@ bundle_judged bs xs r l m a x b y e s = judged_as (call_refusal bs xs).number (c
 
 refused_as :
     (k : ℕ) (f : Refusal) (bs xs : List ℕ) (r : Report) (l m a x b y : List ℕ) → (k ≡ 0 → ⊥) → BundleAs k f bs xs r l m a x b y →
-    (r ≡ Refused f) × (m ≡ l) × (x ≡ a) × (y ≡ b)
+    (r ≡ Err f) × (m ≡ l) × (x ≡ a) × (y ≡ b)
 unfolding BundleAs
 refused_as zero f bs xs r l m a x b y e s = absurd (e refl)
 refused_as (suc k) f bs xs r l m a x b y e s = s
@@ -34,7 +35,7 @@ refused_as (suc k) f bs xs r l m a x b y e s = s
 -- refused, the refusal is given, and no line or cell changes
 pub bundle_refused :
     (bs xs : List ℕ) (r : Report) (l m a x b y : List ℕ) → ((call_refusal bs xs).number ≡ 0 → ⊥) → BundleSays bs xs r l m a x b y →
-    (r ≡ Refused (call_refusal bs xs)) × (m ≡ l) × (x ≡ a) × (y ≡ b)
+    (r ≡ Err (call_refusal bs xs)) × (m ≡ l) × (x ≡ a) × (y ≡ b)
 unfolding BundleSays
 bundle_refused bs xs r l m a x b y e s = refused_as (call_refusal bs xs).number (call_refusal bs xs) bs xs r l m a x b y e s
 
@@ -44,7 +45,7 @@ reported_as :
 unfolding BundleAs
 reported_as zero f bs xs n t l m a x b y s = refl
 reported_as (suc k) f bs xs n t l m a x b y s =
-    let clash : Lines n t ≡ Refused f = s.0 in
+    let clash : Lines n t ≡ Err f = s.0 in
     absurd (let z : ◌≡◌ {A = ℕ} 0 1 = cc in omega arith)
 
 pub reported_fine :

@@ -1,4 +1,5 @@
 -- The call by the tests that its code makes: the image's refusal first, then the bundle's; what it asks of the captures' judging, and what it says. Assumes nothing.
+use Rattle.std.specs.Prelude.{Err}
 use mathlib.Core.Path.{◌≡◌, refl, sym, ap, ◌∙◌}
 use mathlib.Core.List.{List}
 use Prim.Native.Nat.{ℕ, zero, suc, ◌*◌, ◌≤◌}
@@ -9,8 +10,8 @@ use Rattle.refusal.specs.declared.Refusal.{Refusal}
 use Rattle.refusal.specs.First.{or_else}
 use Rattle.image.specs.Refusals.{image_refusal}
 use Rattle.bundle.specs.Format.{max_captures, pairs_offset, count, bundle_refusal, call_refusal}
-use Rattle.bundle.specs.declared.Report.{Report}
-use Rattle.bundle.specs.declared.Report.TheVariants.{Refused, Lines}
+use Rattle.bundle.specs.Answers.{Report}
+use Rattle.bundle.specs.declared.Report.TheVariants.{Lines}
 use Rattle.bundle.specs.declared.Totals.{Totals}
 use Rattle.bundle.specs.Report.{line_width}
 use Rattle.bundle.specs.Calls.{BundleJudged, BundleAs, BundleSays}
@@ -58,15 +59,15 @@ module _ (bs xs : List ℕ) {f : Refusal} (e : f ≡ call_refusal bs xs) (none :
 
 -- WHAT THE CALL SAYS
 as_refused :
-    (n : ℕ) (f : Refusal) (bs xs : List ℕ) (r : Report) (l a b : List ℕ) → (n ≡ 0 → ⊥) → r ≡ Refused f → BundleAs n f bs xs r l l a a b b
+    (n : ℕ) (f : Refusal) (bs xs : List ℕ) (r : Report) (l a b : List ℕ) → (n ≡ 0 → ⊥) → r ≡ Err f → BundleAs n f bs xs r l l a a b b
 unfolding BundleAs
 as_refused zero f bs xs r l a b some q = absurd (some refl)
 as_refused (suc n) f bs xs r l a b some q = (q, refl, refl, refl)
 
 pub refused_says :
-    (bs xs : List ℕ) {f : Refusal} (l a b : List ℕ) → f ≡ call_refusal bs xs → (f.number ≡ 0 → ⊥) → BundleSays bs xs (Refused f) l l a a b b
+    (bs xs : List ℕ) {f : Refusal} (l a b : List ℕ) → f ≡ call_refusal bs xs → (f.number ≡ 0 → ⊥) → BundleSays bs xs (Err f) l l a a b b
 unfolding BundleSays
-refused_says bs xs {f} l a b e some = rw (← e) (as_refused f.number f bs xs (Refused f) l a b some refl)
+refused_says bs xs {f} l a b e some = rw (← e) (as_refused f.number f bs xs (Err f) l a b some refl)
 
 as_judged :
     (n : ℕ) (f : Refusal) (bs xs : List ℕ) (r : Report) (l m a x b y : List ℕ) → n ≡ 0 → BundleJudged bs xs r l m a x b y →

@@ -8,11 +8,11 @@ use lib.ListN.{length, get_or, take, drop}
 use lib.Seq.{get_or-take, get_or-drop}
 use Rattle.machine.specs.Run.{how_many}
 use Rattle.image.specs.Image.{machine}
-use Rattle.simulator.specs.declared.Judged.{Judged}
+use Rattle.simulator.specs.Answers.{Judged}
 use Rattle.simulator.specs.Calls.{judge_refusal, JudgeSays}
 use Rattle.simulator.proofs.Answered.{judged_refused, later_kept}
 use Rattle.simulator.proofs.Determined.{judge_independent}
-use Rattle.bundle.specs.declared.Report.{Report}
+use Rattle.bundle.specs.Answers.{Report}
 use Rattle.bundle.specs.Format.{count, capture, call_refusal}
 use Rattle.bundle.specs.Calls.{InOrder, done, next, BundleSays}
 use Rattle.simulator.proofs.LengthsKept.{lengths_kept}

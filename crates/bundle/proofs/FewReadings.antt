@@ -1,4 +1,5 @@
 -- A line's readings have 32 bits: there are no more of them than configurations. Assumes nothing.
+use Rattle.std.specs.Prelude.{Err, Ok}
 use mathlib.Core.Path.{◌≡◌, ap, ◌∙◌}
 use mathlib.Core.List.{List}
 use Prim.Native.Nat.{ℕ, ◌≤◌}
@@ -9,8 +10,7 @@ use Rattle.machine.proofs.Nonzero.{nonzero_most}
 use Rattle.image.specs.Image.{machine}
 use Rattle.image.specs.Refusals.{capture_refusal}
 use Rattle.image.proofs.CaptureRefused.{capture_fine}
-use Rattle.simulator.specs.declared.Judged.{Judged}
-use Rattle.simulator.specs.declared.Judged.TheVariants.{Refused, Answer}
+use Rattle.simulator.specs.Answers.{Judged}
 use Rattle.simulator.specs.declared.Judgement.{Judgement}
 use Rattle.simulator.specs.Calls.{cells_needed, JudgeSays}
 use Rattle.simulator.proofs.Answered.{judged_right, answered_fine, unrefused_capture}
@@ -29,10 +29,10 @@ cells_few bs cs e =
 pub readings_few :
     (bs cs : List ℕ) (r : Judged) (a x b y : List ℕ) → JudgeSays bs cs r a x b y → line_readings r ≤ max_u32
 unfolding line_readings
-readings_few bs cs (Refused f) a x b y s = omega arith
-readings_few bs cs (Answer j) a x b y s =
+readings_few bs cs (Err f) a x b y s = omega arith
+readings_few bs cs (Ok j) a x b y s =
     let e = answered_fine bs cs a x b y j.verdict j.readings j.end s in
-    let right = judged_right bs cs (Answer j) a x b y e s in
+    let right = judged_right bs cs (Ok j) a x b y e s in
     let k : Judgement = right.judgement in
     let same : j ≡ k = let q = right.answers in cc in
     let most = nonzero_most (how_many (machine bs cs)) right.notes in

@@ -9,12 +9,12 @@ use lib.Seq.{drop-drop}
 use Rattle.machine.specs.Run.{how_many}
 use Rattle.codec.specs.Bytes.{section}
 use Rattle.image.specs.Image.{machine}
-use Rattle.simulator.specs.declared.Judged.{Judged}
+use Rattle.simulator.specs.Answers.{Judged}
 use Rattle.simulator.specs.Calls.{JudgeSays}
 use Rattle.simulator.specs.Replies.{of_judged}
 use Rattle.simulator.proofs.Answered.{later_kept}
 use Rattle.simulator.proofs.Determined.{judge_independent}
-use Rattle.bundle.specs.declared.Report.{Report}
+use Rattle.bundle.specs.Answers.{Report}
 use Rattle.bundle.specs.Format.{count, capture, call_refusal}
 use Rattle.bundle.specs.Report.{line_width, line_cells, lines_cells}
 use Rattle.bundle.specs.Calls.{InOrder, done, next, BundleSays}

@@ -7,7 +7,7 @@ use lib.ListN.{length, take, drop, length-append}
 use lib.Seq.{take_at, drop_at}
 use Rattle.codec.specs.Bytes.{section}
 use Rattle.machine.specs.declared.Reply.{Reply}
-use Rattle.simulator.specs.declared.Judged.{Judged}
+use Rattle.simulator.specs.Answers.{Judged}
 use Rattle.simulator.specs.Replies.{of_judged}
 use Rattle.bundle.specs.Report.{line_width, line_cells, lines_cells}
 

@@ -1,4 +1,5 @@
 -- Sums over lines, by cells and by lines: a sum over the lines' cells is one over the lines, and what each line adds stands in its cells. Assumes nothing.
+use Rattle.std.specs.Prelude.{Err, Ok}
 use mathlib.Core.Path.{◌≡◌, refl, sym, ap, ◌∙◌}
 use mathlib.Core.Bool.{cond}
 use mathlib.Core.List.{List, [], ◌∷◌, ◌++◌, append_assoc}
@@ -13,8 +14,7 @@ use Rattle.machine.specs.declared.Verdict.{Verdict}
 use Rattle.machine.specs.declared.Verdict.TheVariants.{Accepted, Ended, Stuck, Looping, Halted}
 use Rattle.machine.specs.Replies.{verdict_number}
 use Rattle.refusal.specs.declared.Refusal.{Refusal}
-use Rattle.simulator.specs.declared.Judged.{Judged}
-use Rattle.simulator.specs.declared.Judged.TheVariants.{Refused, Answer}
+use Rattle.simulator.specs.Answers.{Judged}
 use Rattle.simulator.specs.Calls.{judge_refusal, JudgeSays}
 use Rattle.simulator.specs.Replies.{of_judged}
 use Rattle.simulator.proofs.Answered.{judged_right, judged_refused}
@@ -62,29 +62,29 @@ same_sum f g h (r ∷ rs) = rw (h r, same_sum f g h rs) refl
 
 pub gives_cell : (v : Verdict) (r : Judged) → gives v r ≡ cond (eqb (get_or (line_cells (of_judged r)) verdict_cell 0) (verdict_number v)) 1 0
 unfolding gives line_cells of_judged verdict_number
-gives_cell Accepted (Refused f) = refl
-gives_cell Ended (Refused f) = refl
-gives_cell Stuck (Refused f) = refl
-gives_cell Looping (Refused f) = refl
-gives_cell Halted (Refused f) = refl
-gives_cell v (Answer j) = refl
+gives_cell Accepted (Err f) = refl
+gives_cell Ended (Err f) = refl
+gives_cell Stuck (Err f) = refl
+gives_cell Looping (Err f) = refl
+gives_cell Halted (Err f) = refl
+gives_cell v (Ok j) = refl
 
 pub readings_cell_is : (r : Judged) → line_readings r ≡ get_or (line_cells (of_judged r)) readings_cell 0
 unfolding line_readings line_cells of_judged
-readings_cell_is (Refused f) = refl
-readings_cell_is (Answer j) = refl
+readings_cell_is (Err f) = refl
+readings_cell_is (Ok j) = refl
 
 -- a line that is a refusal has a number that is not 0
-refused_number : (bs cs : List ℕ) (f : Refusal) (a x b y : List ℕ) → JudgeSays bs cs (Refused f) a x b y → f.number ≡ 0 → ⊥
+refused_number : (bs cs : List ℕ) (f : Refusal) (a x b y : List ℕ) → JudgeSays bs cs (Err f) a x b y → f.number ≡ 0 → ⊥
 refused_number bs cs f a x b y s z = go (ℕ_discrete (judge_refusal bs cs (length a) (length b)).number 0)
   where
     go : Dec ((judge_refusal bs cs (length a) (length b)).number ≡ 0) → ⊥
     go (yes e) =
-        let g = judged_right bs cs (Refused f) a x b y e s in
-        let clash : Refused f ≡ Answer g.judgement = g.answers in
+        let g = judged_right bs cs (Err f) a x b y e s in
+        let clash : Err f ≡ Ok g.judgement = g.answers in
         let q : ◌≡◌ {A = ℕ} 0 1 = cc in omega arith
     go (no n) =
-        let clash : Refused f ≡ Refused (judge_refusal bs cs (length a) (length b)) = (judged_refused bs cs (Refused f) a x b y n s).0 in
+        let clash : Err f ≡ Err (judge_refusal bs cs (length a) (length b)) = (judged_refused bs cs (Err f) a x b y n s).0 in
         let same : f ≡ judge_refusal bs cs (length a) (length b) = cc in
         n (ap (λ (g : Refusal). g.number) (sym same) ∙ z)
 
@@ -92,8 +92,8 @@ refused_cell :
     (bs cs : List ℕ) (r : Judged) (a x b y : List ℕ) → JudgeSays bs cs r a x b y →
     is_refused r ≡ cond (eqb (get_or (line_cells (of_judged r)) refusal_cell 0) 0) 0 1
 unfolding is_refused line_cells of_judged
-refused_cell bs cs (Refused f) a x b y s = rw (ne_eqb f.number 0 (refused_number bs cs f a x b y s)) refl
-refused_cell bs cs (Answer j) a x b y s = refl
+refused_cell bs cs (Err f) a x b y s = rw (ne_eqb f.number 0 (refused_number bs cs f a x b y s)) refl
+refused_cell bs cs (Ok j) a x b y s = refl
 
 pub refused_sum :
     (bs xs : List ℕ) (i : ℕ) (rs : List Judged) (a x b y : List ℕ) → InOrder bs xs i rs a x b y →

@@ -7,7 +7,7 @@ use lib.ListN.{length, drop, set}
 use lib.Seq.{sets-eq, drop-drop}
 use Rattle.codec.specs.Bytes.{written}
 use Rattle.machine.specs.declared.Reply.{Reply}
-use Rattle.simulator.specs.declared.Judged.{Judged}
+use Rattle.simulator.specs.Answers.{Judged}
 use Rattle.simulator.specs.Replies.{of_judged}
 use Rattle.bundle.specs.Report.{line_width, line_cells, lines_cells}
 use Rattle.bundle.proofs.LineCells.{lines_append, lines_first, lines_then_rest}

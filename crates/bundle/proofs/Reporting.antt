@@ -6,8 +6,8 @@ use native.Mathlib.Decide.{ℕ_discrete}
 use native.Mathlib.Omega.{arith}
 use lib.ListN.{length, take, drop}
 use Rattle.machine.specs.Replies.{refusal_reply, count_reply}
-use Rattle.simulator.specs.declared.Judged.{Judged}
-use Rattle.bundle.specs.declared.Report.{Report}
+use Rattle.simulator.specs.Answers.{Judged}
+use Rattle.bundle.specs.Answers.{Report}
 use Rattle.bundle.specs.declared.Report.TheVariants.{Lines}
 use Rattle.bundle.specs.Format.{count, call_refusal}
 use Rattle.bundle.specs.Report.{line_width, lines_cells, totals}

@@ -6,7 +6,7 @@ use native.Mathlib.Omega.{arith}
 use lib.ListN.{length, drop, length-append, length-drop}
 use Rattle.codec.specs.Bytes.{written}
 use Rattle.machine.specs.declared.Reply.{Reply}
-use Rattle.simulator.specs.declared.Judged.{Judged}
+use Rattle.simulator.specs.Answers.{Judged}
 use Rattle.simulator.specs.Calls.{JudgeSays}
 use Rattle.simulator.specs.Replies.{of_judged}
 use Rattle.bundle.specs.declared.Totals.{Totals}

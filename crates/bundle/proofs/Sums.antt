@@ -1,4 +1,5 @@
 -- The totals are the sums over the lines, as the lines' cells have them, and every line is counted once. Assumes nothing.
+use Rattle.std.specs.Prelude.{Err, Ok}
 use mathlib.Core.Path.{◌≡◌, refl, sym, ap, ◌∙◌}
 use mathlib.Core.Bool.{cond}
 use mathlib.Core.List.{List, [], ◌∷◌, ◌++◌}
@@ -9,8 +10,7 @@ use lib.ListN.{length, get_or, drop}
 use Rattle.machine.specs.declared.Verdict.{Verdict}
 use Rattle.machine.specs.declared.Verdict.TheVariants.{Accepted, Ended, Stuck, Looping, Halted}
 use Rattle.machine.specs.Replies.{verdict_number}
-use Rattle.simulator.specs.declared.Judged.{Judged}
-use Rattle.simulator.specs.declared.Judged.TheVariants.{Refused, Answer}
+use Rattle.simulator.specs.Answers.{Judged}
 use Rattle.simulator.specs.Replies.{of_judged}
 use Rattle.bundle.specs.declared.Report.TheVariants.{Lines}
 use Rattle.bundle.specs.declared.Totals.{Totals}
@@ -74,8 +74,8 @@ totals_sum bs xs n t l m a x b y s =
 -- EVERY LINE IS COUNTED ONCE
 counted_once : (r : Judged) → gives Accepted r + gives Ended r + gives Stuck r + gives Looping r + gives Halted r + is_refused r ≡ 1
 unfolding gives is_refused verdict_number
-counted_once (Refused f) = refl
-counted_once (Answer j) = by_verdict j.verdict
+counted_once (Err f) = refl
+counted_once (Ok j) = by_verdict j.verdict
   where
     by_verdict :
         (v : Verdict) →

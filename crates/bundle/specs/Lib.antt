@@ -2,6 +2,7 @@
 pub mod Format
 pub mod Conditions
 pub mod Report
+pub mod Answers
 pub mod Calls
 pub mod Alone
 pub mod Replies

@@ -1,11 +1,10 @@
 -- THE REPORT: a line for each capture in order, and a last line, the totals. A line is what `judge` answers, by the numbers of its reply; lines stand in lent cells of 64 bits, seven each, one after another. Assumes nothing: these are definitions.
-use Rattle.std.specs.Prelude.{cond, List, [], ◌∷◌, ◌++◌, ℕ, zero, suc, ◌+◌, ◌*◌, eqb, get_or}
+use Rattle.std.specs.Prelude.{cond, List, [], ◌∷◌, ◌++◌, ℕ, zero, suc, ◌+◌, ◌*◌, eqb, get_or, Err, Ok}
 use Rattle.machine.specs.declared.Verdict.{Verdict}
 use Rattle.machine.specs.declared.Verdict.TheVariants.{Accepted, Ended, Stuck, Looping, Halted}
 use Rattle.machine.specs.declared.Reply.{Reply}
 use Rattle.machine.specs.Replies.{verdict_number}
-use Rattle.simulator.specs.declared.Judged.{Judged}
-use Rattle.simulator.specs.declared.Judged.TheVariants.{Refused, Answer}
+use Rattle.simulator.specs.Answers.{Judged}
 use Rattle.simulator.specs.Replies.{of_judged}
 use Rattle.bundle.specs.declared.Totals.{Totals}
 
@@ -28,16 +27,16 @@ sum f (r ∷ rs) = f r + sum f rs
 
 -- what a line adds: 1 where it gives a verdict, 1 where it is a refusal, its readings
 unfoldable pub gives : Verdict → Judged → ℕ
-gives v (Refused f) = 0
-gives v (Answer j) = cond (eqb (verdict_number j.verdict) (verdict_number v)) 1 0
+gives v (Err f) = 0
+gives v (Ok j) = cond (eqb (verdict_number j.verdict) (verdict_number v)) 1 0
 
 unfoldable pub is_refused : Judged → ℕ
-is_refused (Refused f) = 1
-is_refused (Answer j) = 0
+is_refused (Err f) = 1
+is_refused (Ok j) = 0
 
 unfoldable pub line_readings : Judged → ℕ
-line_readings (Refused f) = 0
-line_readings (Answer j) = j.readings
+line_readings (Err f) = 0
+line_readings (Ok j) = j.readings
 
 -- THE LAST LINE: how many lines give each verdict, how many are refusals, and the sum of readings
 unfoldable pub totals : List Judged → Totals

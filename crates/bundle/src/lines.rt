@@ -1,7 +1,6 @@
 // A report's lines and totals: a line written into the lent cells, and the totals with one line more.
 ghost use Rattle.std.specs.Prelude.{◌≡◌, [], ◌+◌, ◌*◌, ◌<◌, ◌≤◌, length};
 ghost use Rattle.codec.specs.Bytes.{written};
-ghost use Rattle.simulator.specs.declared.Judged.TheVariants.{Answer};
 ghost use Rattle.bundle.specs.Format.{max_captures};
 ghost use Rattle.bundle.specs.Report.{line_width, line_cells, totals};
 ghost use Rattle.bundle.specs.Code.Judging.{RoomAfter, with_line as line_added};
@@ -31,7 +30,7 @@ pub fn no_totals() -> Totals
 // One judgement more.
 fn with_judgement(t: Totals, j: Judgement) -> Totals
     requires { RoomAfter max_captures t }
-    ensures { result ≡ line_added t (Answer j) }
+    ensures { result ≡ line_added t (Ok j) }
 {
     let verdict = j.verdict;
     let mut next = t;
@@ -57,7 +56,7 @@ pub fn with_line(t: Totals, line: Judged) -> Totals
             next.refused = t.refused + 1;
             next
         }
-        Judged::Answer(j) => with_judgement(t, j),
+        Judged::Ok(j) => with_judgement(t, j),
     }
 }
 

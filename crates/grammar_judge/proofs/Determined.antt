@@ -4,7 +4,7 @@ use mathlib.Core.List.{List, ◌++◌}
 use Prim.Native.Nat.{ℕ}
 use lib.ListN.{length, take, drop}
 use lib.Seq.{take_at}
-use Rattle.simulator.specs.declared.Judged.{Judged}
+use Rattle.simulator.specs.Answers.{Judged}
 use Rattle.simulator.specs.Calls.{judge_refusal, JudgeSays}
 use Rattle.simulator.proofs.Determined.{judge_determined, judge_independent}
 use Rattle.builder.specs.declared.Matching.TheVariants.{Whole}

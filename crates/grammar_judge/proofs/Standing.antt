@@ -1,4 +1,5 @@
 -- What the steps of building and judging may assume and what they leave: the image stands at the start of the lent buffer, and the capture is judged by it. Assumes nothing.
+use Rattle.std.specs.Prelude.{Ok}
 use mathlib.Core.Path.{◌≡◌, refl, sym, subst, ap, ◌∙◌}
 use mathlib.Core.List.{List, ◌++◌}
 use Prim.Native.Nat.{ℕ, ◌≤◌}
@@ -8,7 +9,6 @@ use lib.Seq.{take_at}
 use Rattle.machine.specs.Run.{how_many}
 use Rattle.image.specs.Image.{machine}
 use Rattle.simulator.specs.declared.Judgement.{Judgement}
-use Rattle.simulator.specs.declared.Judged.TheVariants.{Answer}
 use Rattle.simulator.specs.Calls.{JudgeSays}
 use Rattle.simulator.proofs.Needing.{cells_are}
 use Rattle.builder.specs.declared.Plan.{Plan}
@@ -65,9 +65,9 @@ module _ (gs cs : List ℕ) (p : Plan) (x : Lent) (ready : AnswerReady gs cs p x
 
 pub builds :
     {gs cs : List ℕ} {x y : Lent} {j : Judgement} {long : ℕ} → Stands gs x.image y.image long →
-    JudgeSays (take long y.image) cs (Answer j) x.notes y.notes x.work y.work → Builds gs cs x y j
+    JudgeSays (take long y.image) cs (Ok j) x.notes y.notes x.work y.work → Builds gs cs x y j
 builds {gs} {cs} {x} {y} {j} {long} s says =
     record {
       image_now = s.bytes;
-      judges = subst (λ (bs : List ℕ). JudgeSays bs cs (Answer j) x.notes y.notes x.work y.work) s.part says;
+      judges = subst (λ (bs : List ℕ). JudgeSays bs cs (Ok j) x.notes y.notes x.work y.work) s.part says;
     }

@@ -1,4 +1,5 @@
 -- Building, by either choice of a match, and then judging gives what parsing says, with few readings. Assumes nothing.
+use Rattle.std.specs.Prelude.{Ok}
 use mathlib.Core.Path.{◌≡◌, refl, sym, subst, ◌∙◌, ap}
 use mathlib.Core.List.{List, ◌++◌}
 use mathlib.Core.Logic.{◌↔◌, ◌⊎◌, ⊎_elim, inl, inr}
@@ -21,7 +22,7 @@ use Rattle.refusal.specs.First.{or_else, refuse_if}
 use Rattle.image.specs.Refusals.{image_refusal}
 use Rattle.machine.proofs.Terminates.{says_looping}
 use Rattle.machine.proofs.OneVerdict.{one_verdict, goes_on_loops}
-use Rattle.simulator.specs.declared.Judged.{Judged}
+use Rattle.simulator.specs.Answers.{Judged}
 use Rattle.simulator.specs.Calls.{judge_refusal, JudgedRight, JudgeSays}
 use Rattle.simulator.proofs.Answered.{judged_right}
 use Rattle.simulator.proofs.JudgingRight.{verdict_there}
@@ -29,8 +30,7 @@ use Rattle.simulator.proofs.JudgeRefusals.{not_refused}
 use Rattle.image.proofs.CaptureRefused.{then_fine}
 use Rattle.builder.specs.declared.Matching.{Matching}
 use Rattle.builder.specs.declared.Matching.TheVariants.{Whole, Leading}
-use Rattle.builder.specs.declared.Built.{Built}
-use Rattle.builder.specs.declared.Built.TheVariants.{Image}
+use Rattle.builder.specs.Answers.{Built}
 use Rattle.grammar.specs.Grammar.{rules, expression, grammar_refusal}
 use Rattle.grammar.specs.Parsing.{Rules, Parses}
 use Rattle.builder.specs.Image.{built, built_length}
@@ -170,11 +170,11 @@ enough_unrefused gs cs image notes work e =
 pub build_then_judge :
     (how : Matching) (gs cs image image_now notes notes_now work work_now : List ℕ) (b : Built) (r : Judged) → Enough how gs cs image notes work →
     BuildSays how gs b image image_now → JudgeSays (take (built_length gs) image_now) cs r notes notes_now work work_now →
-    (b ≡ Image (built_length gs)) × Gets how gs cs r
+    (b ≡ Ok (built_length gs)) × Gets how gs cs r
 build_then_judge how gs cs image image_now notes notes_now work work_now b r e built_says judge_says =
     (image_built.0, gets how gs cs notes notes_now work work_now r e.good e.bytes right)
   where
-    image_built : (b ≡ Image (built_length gs)) × (image_now ≡ built how gs ++ drop (built_length gs) image)
+    image_built : (b ≡ Ok (built_length gs)) × (image_now ≡ built how gs ++ drop (built_length gs) image)
     image_built = build_answered how gs b image image_now (build_fine gs (length image) e.good e.image_room) built_says
 
     same : take (built_length gs) image_now ≡ built how gs

@@ -1,5 +1,5 @@
 -- What a user gets who builds an image of a grammar, by a choice of a match, and judges a capture by it, by the two calls. Assumes nothing: these are definitions.
-use Rattle.std.specs.Prelude.{◌≡◌, List, ℕ, ◌+◌, ◌*◌, ◌<◌, ◌≤◌, length}
+use Rattle.std.specs.Prelude.{◌≡◌, List, ℕ, ◌+◌, ◌*◌, ◌<◌, ◌≤◌, length, Ok}
 use Rattle.std.proofs.Math.Option.{Option, none, some}
 use Rattle.machine.specs.declared.Config.{Config}
 use Rattle.machine.specs.declared.Verdict.{Verdict}
@@ -8,8 +8,7 @@ use Rattle.image.specs.Format
 use Rattle.machine.specs.Run.{how_many}
 use Rattle.codec.specs.Bytes.{byte}
 use Rattle.image.specs.Image.{machine}
-use Rattle.simulator.specs.declared.Judged.{Judged}
-use Rattle.simulator.specs.declared.Judged.TheVariants.{Answer}
+use Rattle.simulator.specs.Answers.{Judged}
 use Rattle.simulator.specs.Calls.{judgement}
 use Rattle.grammar.specs.Grammar.{rules, expression, grammar_refusal}
 use Rattle.grammar.specs.Parsing.{Parses}
@@ -37,7 +36,7 @@ pub record Gets (how : Matching) (gs cs : List ℕ) (r : Judged) : Type 0 where
   pub verdict : Verdict
   pub readings : ℕ
   pub end : Config
-  pub answers : r ≡ Answer (judgement verdict readings end)
+  pub answers : r ≡ Ok (judgement verdict readings end)
   pub parsed : AsParsed how gs cs verdict
   pub only : (v : Verdict) → AsParsed how gs cs v → v ≡ verdict
   pub few : readings ≤ most_readings how (rules gs) (length cs)

@@ -3,7 +3,6 @@
 
 ghost use Rattle.std.specs.Prelude.{◌≡◌};
 ghost use Rattle.refusal.specs.First.{refusal};
-ghost use Rattle.simulator.specs.declared.Judged.TheVariants.{Answer};
 ghost use Rattle.simulator.specs.Calls.{judge_refusal, JudgeSays};
 ghost use Rattle.grammar.specs.Grammar.{grammar_refusal};
 ghost use Rattle.builder.specs.declared.Matching.TheVariants.{Whole};
@@ -73,7 +72,7 @@ fn judge_lent(
     work: &mut [u32],
 ) -> Judgement
     requires { JudgeReady image.now capture.now cells notes.old work.old }
-    ensures { JudgeSays image.now capture.now (Answer result)
+    ensures { JudgeSays image.now capture.now (Ok result)
         notes.old notes.new work.old work.new }
 {
     judge_checked(image, capture, &mut notes[..cells], &mut work[..cells])

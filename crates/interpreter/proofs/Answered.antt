@@ -1,4 +1,5 @@
 -- What the call's contract comes to where it answers and where it refuses; and that its answer follows from the input, whatever the cells held before. Assumes nothing.
+use Rattle.std.specs.Prelude.{Err}
 use mathlib.Core.Path.{◌≡◌, refl, sym, ◌∙◌, ap, subst}
 use mathlib.Core.List.{List}
 use Prim.Native.Nat.{ℕ, zero, suc, ◌<◌}
@@ -10,8 +11,7 @@ use Rattle.machine.specs.Run.{start}
 use Rattle.image.specs.Image.{machine}
 use Rattle.image.specs.Refusals.{capture_refusal}
 use Rattle.refusal.proofs.Refused.{neither, not_refused}
-use Rattle.interpreter.specs.declared.Ran.{Ran}
-use Rattle.interpreter.specs.declared.Ran.TheVariants.{Refused}
+use Rattle.interpreter.specs.Answers.{Ran}
 use Rattle.interpreter.specs.PlainRun.{RunEnd, run_on, TrueEnd}
 use Rattle.interpreter.specs.Calls.{run_refusal, answer, RunAs, RunSays}
 use Rattle.interpreter.proofs.TrueEnd.{plain_run_true}
@@ -29,14 +29,14 @@ run_determined bs cs a n r s x y h g = determined_as _ _ _ r s a x y h g
 
 -- refused, the refusal is given and no cell changes
 refused_as :
-    (k : ℕ) (f : Refusal) (e : RunEnd) (r : Ran) (a x : List ℕ) → (k ≡ 0 → ⊥) → RunAs k f e r a x → (r ≡ Refused f) × (x ≡ a)
+    (k : ℕ) (f : Refusal) (e : RunEnd) (r : Ran) (a x : List ℕ) → (k ≡ 0 → ⊥) → RunAs k f e r a x → (r ≡ Err f) × (x ≡ a)
 unfolding RunAs
 refused_as zero f e r a x h s = absurd (h refl)
 refused_as (suc k) f e r a x h s = s
 
 pub run_refused :
     (bs cs : List ℕ) (n : ℕ) (r : Ran) (a x : List ℕ) → ((run_refusal bs cs (length a)).number ≡ 0 → ⊥) → RunSays bs cs n r a x →
-    (r ≡ Refused (run_refusal bs cs (length a))) × (x ≡ a)
+    (r ≡ Err (run_refusal bs cs (length a))) × (x ≡ a)
 unfolding RunSays
 run_refused bs cs n r a x h s = refused_as _ _ _ r a x h s
 

@@ -15,7 +15,7 @@ use Rattle.refusal.specs.First.{refusal, no_refusal, or_else, refuse_if}
 use Rattle.image.specs.Refusals.{capture_refusal}
 use Rattle.refusal.proofs.Refused.{neither}
 use Rattle.image.proofs.CaptureRefused.{unrefused_by}
-use Rattle.interpreter.specs.declared.Ran.{Ran}
+use Rattle.interpreter.specs.Answers.{Ran}
 use Rattle.interpreter.specs.declared.Ran.TheVariants as ran
 use Rattle.interpreter.specs.PlainRun.{RunEnd, run_on}
 use Rattle.interpreter.specs.Calls.{run_refusal, answer, RunAs, RunSays}

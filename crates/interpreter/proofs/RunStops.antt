@@ -17,7 +17,7 @@ use Rattle.machine.proofs.Runs.{after_zero, after_last, after_split, after_front
 use Rattle.image.specs.Image.{rule_of, action, machine}
 use Rattle.image.proofs.HaltingRules.{misses, halts}
 use Rattle.interpreter.specs.declared.Exit.TheVariants.{Terminated}
-use Rattle.interpreter.specs.declared.Ran.{Ran}
+use Rattle.interpreter.specs.Answers.{Ran}
 use Rattle.interpreter.specs.PlainRun.{run_end, spent_or, run_on}
 use Rattle.interpreter.specs.Calls.{run_refusal, answer, RunSays}
 use Rattle.interpreter.specs.Replies.{exit_number, of_ran}

@@ -9,7 +9,7 @@ use Rattle.interpreter.specs.Replies.{of_ran}
 use Rattle.interpreter.proofs.Answered.{run_determined}
 use Rattle.builder.specs.Replies.{of_built}
 use Rattle.builder.proofs.Answered.{build_determined}
-use Rattle.bundle.specs.declared.Report.{Report}
+use Rattle.bundle.specs.Answers.{Report}
 use Rattle.bundle.specs.Replies.{of_report, totals_left}
 use Rattle.bundle.proofs.Reporting.{bundle_determined}
 use Rattle.reader.specs.declared.ReadGrammar.{ReadGrammar}

@@ -12,11 +12,11 @@ use borrow.Author.Tests.{eqb-true, eq-eqb}
 use Rattle.codec.specs.Bytes.{Bytes}
 use Rattle.machine.specs.declared.Verdict.{Verdict}
 use Rattle.machine.specs.Replies.{verdict_number, refusal_reply, count_reply}
-use Rattle.simulator.specs.declared.Judged.{Judged}
+use Rattle.simulator.specs.Answers.{Judged}
 use Rattle.simulator.specs.Replies.{of_judged}
 use Rattle.builder.specs.declared.Matching.{Matching}
 use Rattle.builder.specs.declared.Matching.TheVariants.{Whole}
-use Rattle.builder.specs.declared.Built.{Built}
+use Rattle.builder.specs.Answers.{Built}
 use Rattle.builder.specs.Replies.{of_built}
 use Rattle.syntax.specs.Reading.{Grammar, ReadSays}
 use Rattle.syntax.proofs.ReadingExact.{unambiguous}

@@ -1,4 +1,5 @@
 -- The checks' answers by the numbers that a C caller is told: number and place are those of the row, and the count of cells is what judging needs. Assumes nothing.
+use Rattle.std.specs.Prelude.{Err, Ok}
 use mathlib.Core.Path.{◌≡◌, refl, sym, ap, subst, ◌∙◌}
 use mathlib.Core.Bool.{Bool, true, false, cond}
 use mathlib.Core.List.{List}
@@ -9,7 +10,6 @@ use lib.Dec.{eqb}
 use lib.ListN.{length, get_or}
 use borrow.Author.Tests.{eq-eqb, ne_eqb}
 use Rattle.refusal.specs.declared.Refusal.{Refusal}
-use Rattle.refusal.specs.declared.Checked.TheVariants.{Good, Refused}
 use Rattle.refusal.specs.First.{no_refusal}
 use Rattle.refusal.specs.Checking.{checked}
 use Rattle.machine.specs.declared.Reply.{Reply}
@@ -20,7 +20,6 @@ use Rattle.image.specs.Refusals.{image_refusal, capture_refusal}
 use Rattle.image.specs.Conditions.{ImageRow, CaptureRow}
 use Rattle.image.proofs.ConditionsMet.{image_check, image_answer}
 use Rattle.image.proofs.CaptureMet.{capture_check, capture_answer}
-use Rattle.simulator.specs.declared.Needs.TheVariants.{Cells, Refused as Unneeded}
 use Rattle.simulator.specs.Calls.{cells_needed, needs, judge_refusal}
 use Rattle.simulator.specs.Replies.{of_needs}
 use Rattle.simulator.proofs.ConditionsMet.{judging_check}
@@ -39,7 +38,7 @@ checked_reply : (f : Refusal) → of_checked (checked f) ≡ reply f 0
 unfolding of_checked checked
 checked_reply f = go (eqb f.number 0)
   where
-    go : (b : Bool) → of_checked (cond b Good (Refused f)) ≡ cond b (count_reply 0) (refusal_reply f)
+    go : (b : Bool) → of_checked (cond b (Ok tt) (Err f)) ≡ cond b (count_reply 0) (refusal_reply f)
     go true = refl
     go false = refl
 
@@ -47,7 +46,7 @@ needs_reply : (f : Refusal) (n : ℕ) → of_needs (needs f n) ≡ reply f n
 unfolding of_needs needs
 needs_reply f n = go (eqb f.number 0)
   where
-    go : (b : Bool) → of_needs (cond b (Cells n) (Unneeded f)) ≡ cond b (count_reply n) (refusal_reply f)
+    go : (b : Bool) → of_needs (cond b (Ok n) (Err f)) ≡ cond b (count_reply n) (refusal_reply f)
     go true = refl
     go false = refl
 

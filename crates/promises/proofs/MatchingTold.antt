@@ -15,7 +15,7 @@ use Rattle.machine.specs.declared.Reply.{Reply}
 use Rattle.machine.specs.declared.Verdict.{Verdict}
 use Rattle.machine.specs.declared.Verdict.TheVariants.{Accepted, Ended, Stuck, Looping, Halted}
 use Rattle.machine.specs.Replies.{verdict_number}
-use Rattle.simulator.specs.declared.Judged.{Judged}
+use Rattle.simulator.specs.Answers.{Judged}
 use Rattle.simulator.specs.Calls.{judge_refusal, JudgeSays}
 use Rattle.simulator.specs.Replies.{of_judged}
 use Rattle.simulator.proofs.Answered.{judged_refused, judged_right}
@@ -23,7 +23,7 @@ use Rattle.simulator.proofs.JudgingRight.{verdict_exact}
 use Rattle.grammar.specs.Grammar.{grammar_refusal}
 use Rattle.builder.specs.declared.Matching.{Matching}
 use Rattle.builder.specs.declared.Matching.TheVariants.{Whole, Leading}
-use Rattle.builder.specs.declared.Built.{Built}
+use Rattle.builder.specs.Answers.{Built}
 use Rattle.builder.specs.Matching.{default_matching}
 use Rattle.builder.specs.Image.{built, built_length}
 use Rattle.builder.specs.Calls.{build_refusal}

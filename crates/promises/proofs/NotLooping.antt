@@ -1,4 +1,5 @@
 -- By a grammar that passes the check for left recursion no call says looping: judging, the program, and the report on a bundle. Assumes nothing.
+use Rattle.std.specs.Prelude.{Err, Ok}
 use mathlib.Core.Path.{◌≡◌, refl, ap, subst, ◌∙◌}
 use mathlib.Core.Bool.{cond}
 use mathlib.Core.List.{List, [], ◌∷◌}
@@ -13,8 +14,7 @@ use Rattle.machine.specs.declared.Config.{Config}
 use Rattle.machine.specs.declared.Verdict.{Verdict}
 use Rattle.machine.specs.declared.Verdict.TheVariants.{Accepted, Ended, Stuck, Looping, Halted}
 use Rattle.machine.specs.Replies.{verdict_number}
-use Rattle.simulator.specs.declared.Judged.{Judged}
-use Rattle.simulator.specs.declared.Judged.TheVariants.{Refused, Answer}
+use Rattle.simulator.specs.Answers.{Judged}
 use Rattle.simulator.specs.Calls.{judgement, JudgeSays}
 use Rattle.simulator.proofs.JudgingRight.{looping_exact}
 use Rattle.bundle.specs.declared.Totals.{Totals}
@@ -64,7 +64,7 @@ first_rule gs none = omega (arith, (good_grammar gs (ap (λ f. f.number) ((gramm
 
 pub judged_not_looping :
     (how : Matching) (gs cs a a_now b b_now : List ℕ) (v : Verdict) (n : ℕ) (d : Config) → (recursion_refusal gs).number ≡ 0 → Bytes cs →
-    JudgeSays (built how gs) cs (Answer (judgement v n d)) a a_now b b_now → v ≡ Looping → ⊥
+    JudgeSays (built how gs) cs (Ok (judgement v n d)) a a_now b b_now → v ≡ Looping → ⊥
 judged_not_looping how gs cs a a_now b b_now v n d none bytes says is =
     (never_looping gs cs none bytes).terminates how ((looping_exact (built how gs) cs a a_now b b_now v n d bytes says).0 is)
 
@@ -95,8 +95,8 @@ line_not_looping xs x y line none bytes unrefused says =
 module _ (how : Matching) (gs xs : List ℕ) (none : (recursion_refusal gs).number ≡ 0) (bytes : Bytes xs) where
   gives_none : (cs a a_now b b_now : List ℕ) (r : Judged) → Bytes cs → JudgeSays (built how gs) cs r a a_now b b_now → gives Looping r ≡ 0
   unfolding gives verdict_number
-  gives_none cs a a_now b b_now (Refused f) all says = refl
-  gives_none cs a a_now b b_now (Answer j) all says = other j.verdict (judged_not_looping how gs cs a a_now b b_now j.verdict j.readings j.end none all says)
+  gives_none cs a a_now b b_now (Err f) all says = refl
+  gives_none cs a a_now b b_now (Ok j) all says = other j.verdict (judged_not_looping how gs cs a a_now b b_now j.verdict j.readings j.end none all says)
     where
       other : (v : Verdict) → (v ≡ Looping → ⊥) → ◌≡◌ {A = ℕ} (cond (eqb (verdict_number v) (verdict_number Looping)) 1 0) 0
       other Accepted h = refl

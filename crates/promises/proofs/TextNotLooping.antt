@@ -1,4 +1,5 @@
 -- A typed grammar that passes the check for left recursion has a result for every line, and judging by it never says looping; one that does not pass is named; and the numbers that a C caller is told. Assumes nothing.
+use Rattle.std.specs.Prelude.{Ok}
 use mathlib.Core.Path.{◌≡◌, refl, sym, ap, subst}
 use mathlib.Core.List.{List, ◌∷◌}
 use mathlib.Core.Logic.{◌↔◌}
@@ -12,8 +13,7 @@ use Rattle.refusal.specs.First.{refusal}
 use Rattle.machine.specs.declared.Config.{Config}
 use Rattle.machine.specs.declared.Verdict.{Verdict}
 use Rattle.machine.specs.declared.Verdict.TheVariants.{Looping}
-use Rattle.simulator.specs.declared.Judged.{Judged}
-use Rattle.simulator.specs.declared.Judged.TheVariants.{Answer}
+use Rattle.simulator.specs.Answers.{Judged}
 use Rattle.simulator.specs.Calls.{judgement, JudgeSays}
 use Rattle.grammar.specs.Grammar.{rules}
 use Rattle.builder.specs.declared.Matching.TheVariants.{Whole}
@@ -71,10 +71,10 @@ typed_results text cs ds k i n e says legal defined =
 
 pub text_not_looping :
     (text cs : List ℕ) (x y : Lent) (v : Verdict) (n : ℕ) (d : Config) → TextRecursionSays text Passes → Bytes cs →
-    JudgeTextSays text cs (Answer (judgement v n d)) x y → v ≡ Looping → ⊥
+    JudgeTextSays text cs (Ok (judgement v n d)) x y → v ≡ Looping → ⊥
 text_not_looping text cs x y v n d says bytes told is = go told refl
   where
-    go : {r : Judged} {a b : Lent} → JudgeTextSays text cs r a b → r ≡ Answer (judgement v n d) → ⊥
+    go : {r : Judged} {a b : Lent} → JudgeTextSays text cs r a b → r ≡ Ok (judgement v n d) → ⊥
     go (JudgeTextSays.unread s) e = clash cc
     go (refused s h) e = clash cc
     go {r} {a} {b} (judged {gs = gs} s fine image judges) e =

@@ -1,4 +1,5 @@
 -- What the calls answer, by the numbers of their answers. Assumes nothing.
+use Rattle.std.specs.Prelude.{Err, Ok}
 use mathlib.Core.Path.{◌≡◌, refl, sym, ap, subst, ◌∙◌}
 use mathlib.Core.List.{List, []}
 use Prim.Native.Nat.{ℕ, ◌+◌, ◌*◌, ◌<◌}
@@ -13,14 +14,13 @@ use Rattle.image.specs.Image.{machine}
 use Rattle.machine.specs.Verdicts.{Says}
 use Rattle.machine.specs.Replies.{verdict_number}
 use Rattle.simulator.specs.declared.Judgement.{Judgement}
-use Rattle.simulator.specs.declared.Judged.{Judged}
-use Rattle.simulator.specs.declared.Judged.TheVariants.{Answer, Refused}
+use Rattle.simulator.specs.Answers.{Judged}
 use Rattle.simulator.specs.Calls.{JudgeSays}
 use Rattle.simulator.specs.Replies.{of_judged}
 use Rattle.simulator.proofs.Answered.{judged_refused, judged_right, answered_fine}
 use Rattle.codec.specs.Bytes.{section}
 use Rattle.machine.specs.declared.Reply.{Reply}
-use Rattle.bundle.specs.declared.Report.{Report}
+use Rattle.bundle.specs.Answers.{Report}
 use Rattle.bundle.specs.Format.{count, capture, call_refusal}
 use Rattle.bundle.specs.Report.{line_width, line_cells, verdict_cell}
 use Rattle.bundle.specs.Calls.{BundleSays}
@@ -101,14 +101,14 @@ accepted_by :
     (bs cs notes notes_now work work_now : List ℕ) (r : Judged) → JudgeSays bs cs r notes notes_now work work_now →
     (of_judged r).verdict ≡ 1 → ((of_judged r).refusal ≡ 0) × Says (machine bs cs) Accepted (of_judged r).end
 unfolding of_judged
-accepted_by bs cs notes notes_now work work_now (Refused f) says e = absurd (omega arith)
-accepted_by bs cs notes notes_now work work_now (Answer j) says e =
+accepted_by bs cs notes notes_now work work_now (Err f) says e = absurd (omega arith)
+accepted_by bs cs notes notes_now work work_now (Ok j) says e =
     let no_refusal = answered_fine bs cs notes notes_now work work_now j.verdict j.readings j.end says in
-    let right = judged_right bs cs (Answer j) notes notes_now work work_now no_refusal says in
+    let right = judged_right bs cs (Ok j) notes notes_now work work_now no_refusal says in
     (refl, accepted_said (machine bs cs) j right.judgement (only_accepted j.verdict e) right.answers right.right.says)
   where
     accepted_said :
-        (M : Machine) (j k : Judgement) → j.verdict ≡ Accepted → Answer j ≡ Answer k → Says M k.verdict k.end →
+        (M : Machine) (j k : Judgement) → j.verdict ≡ Accepted → Ok j ≡ Ok k → Says M k.verdict k.end →
         Says M Accepted j.end
     accepted_said M j k p q s =
         let same : k ≡ j = cc in

@@ -7,16 +7,16 @@ use Rattle.image.specs.Conditions.{ImageRow, CaptureRow}
 use Rattle.machine.specs.Run.{how_many}
 use Rattle.image.specs.Image.{machine}
 use Rattle.machine.specs.Replies.{refusal_reply}
-use Rattle.simulator.specs.declared.Judged.{Judged}
+use Rattle.simulator.specs.Answers.{Judged}
 use Rattle.simulator.specs.Calls.{judge_refusal, JudgeSays}
 use Rattle.simulator.specs.Conditions.{JudgingRow}
 use Rattle.simulator.specs.Replies.{of_judged}
-use Rattle.interpreter.specs.declared.Ran.{Ran}
+use Rattle.interpreter.specs.Answers.{Ran}
 use Rattle.interpreter.specs.Calls.{run_refusal, RunSays}
 use Rattle.interpreter.specs.Conditions.{RunningRow}
 use Rattle.interpreter.specs.Replies.{of_ran}
 use Rattle.builder.specs.declared.Matching.{Matching}
-use Rattle.builder.specs.declared.Built.{Built}
+use Rattle.builder.specs.Answers.{Built}
 use Rattle.grammar.specs.Grammar.{Inverted, grammar_refusal}
 use Rattle.grammar.specs.Conditions.{last_of, GrammarRuleRight, GrammarRow}
 use Rattle.builder.specs.Conditions.{BuildingRow}

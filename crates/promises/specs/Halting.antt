@@ -1,5 +1,5 @@
 -- A RULE THAT HALTS ON PURPOSE: kind 4, other bytes zero, halts, and rule lookup answers missing and halting apart; the verdict halted is for a run that ends at such a rule, and notes, readings and end configuration treat it like stuck; the plain run takes no step for it and puts it before spent; images without kind 4 judge as before; refusal 6 begins at kind 5, and is given for kind 4 with another byte not zero. Assumes nothing: each claim is a type, and proofs/ has its proof.
-use Rattle.std.specs.Prelude.{◌≡◌, List, ◌↔◌, ℕ, ◌≤◌, length, take}
+use Rattle.std.specs.Prelude.{◌≡◌, List, ◌↔◌, ℕ, ◌≤◌, length, take, Ok}
 use Rattle.std.proofs.Math.Option.{some}
 use Rattle.codec.specs.Bytes.{Bytes}
 use Rattle.machine.specs.declared.Config.{Config}
@@ -15,9 +15,8 @@ use Rattle.image.specs.Image.{Rule, rule_of, action_by, machine}
 use Rattle.image.specs.Refusals.{rule_bad}
 use Rattle.image.specs.Conditions.{RuleRight}
 use Rattle.image.specs.WithoutHalting.{NoHaltingRule, rule_bad_before, action_before, AsBefore, MissingForHalting}
-use Rattle.simulator.specs.declared.Judged.TheVariants.{Answer}
 use Rattle.simulator.specs.Calls.{judgement, JudgeSays}
-use Rattle.interpreter.specs.declared.Ran.{Ran}
+use Rattle.interpreter.specs.Answers.{Ran}
 use Rattle.interpreter.specs.Calls.{run_refusal, RunSays}
 use Rattle.interpreter.specs.Replies.{of_ran}
 use Rattle.builder.specs.declared.Matching.{Matching}
@@ -41,13 +40,13 @@ LookupApart =
 -- HALTED EXACTLY WHERE THE RUN COMES TO A RULE OF KIND 4, and that configuration is the end
 abbrev pub HaltedExact : Type 0
 HaltedExact =
-    (bs cs a a_now b b_now : List ℕ) (v : Verdict) (n : ℕ) (d : Config) → Bytes cs → JudgeSays bs cs (Answer (judgement v n d)) a a_now b b_now →
+    (bs cs a a_now b b_now : List ℕ) (v : Verdict) (n : ℕ) (d : Config) → Bytes cs → JudgeSays bs cs (Ok (judgement v n d)) a a_now b b_now →
     (e : Config) → ((v ≡ Halted) × (d ≡ e)) ↔ (Entered (machine bs cs) e × ((rule_of bs cs e).kind ≡ 4))
 
 -- and stuck exactly where it comes to one of kind 0
 abbrev pub StuckExact : Type 0
 StuckExact =
-    (bs cs a a_now b b_now : List ℕ) (v : Verdict) (n : ℕ) (d : Config) → Bytes cs → JudgeSays bs cs (Answer (judgement v n d)) a a_now b b_now →
+    (bs cs a a_now b b_now : List ℕ) (v : Verdict) (n : ℕ) (d : Config) → Bytes cs → JudgeSays bs cs (Ok (judgement v n d)) a a_now b b_now →
     (e : Config) → ((v ≡ Stuck) × (d ≡ e)) ↔ (Entered (machine bs cs) e × ((rule_of bs cs e).kind ≡ 0))
 
 -- NOTES, READINGS AND END CONFIGURATION TREAT IT LIKE STUCK: any machine beside the same one with missing rules for its halting ones,
@@ -58,7 +57,7 @@ HaltedLikeStuck = (M : Machine) → LikeStuck M (without_halting M)
 abbrev pub JudgedLikeStuck : Type 0
 JudgedLikeStuck =
     (bs zs cs a a_now b b_now x x_now y y_now : List ℕ) (v w : Verdict) (n m : ℕ) (d e : Config) → Bytes cs → MissingForHalting bs zs →
-    JudgeSays bs cs (Answer (judgement v n d)) a a_now b b_now → JudgeSays zs cs (Answer (judgement w m e)) x x_now y y_now →
+    JudgeSays bs cs (Ok (judgement v n d)) a a_now b b_now → JudgeSays zs cs (Ok (judgement w m e)) x x_now y y_now →
     (w ≡ stuck_for_halted v) × (m ≡ n) × (e ≡ d) × (take (how_many (machine bs cs)) x_now ≡ take (how_many (machine bs cs)) a_now)
     × (take (how_many (machine bs cs)) y_now ≡ take (how_many (machine bs cs)) b_now)
 

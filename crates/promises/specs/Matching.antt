@@ -1,5 +1,5 @@
 -- LEADING MATCH BY DEFAULT: building takes a choice, whole or leading, and with none given it is leading; a leading image accepts if rule 0 succeeds at all, and differs from a whole one in one row; a whole one is as before; for leading images no cost passes 6 m (n + 1) + n + 2. What is the same by either choice stands in the other files. Assumes nothing: each claim is a type, and proofs/ has its proof.
-use Rattle.std.specs.Prelude.{◌≡◌, ◌&&◌, cond, List, ◌↔◌, ℕ, ◌+◌, ◌*◌, ◌<◌, ◌≤◌, ltb, eqb, length, get_or, take}
+use Rattle.std.specs.Prelude.{◌≡◌, ◌&&◌, cond, List, ◌↔◌, ℕ, ◌+◌, ◌*◌, ◌<◌, ◌≤◌, ltb, eqb, length, get_or, take, Ok}
 use Rattle.std.proofs.Math.Option.{none, some}
 use Rattle.codec.specs.Bytes.{Bytes}
 use Rattle.machine.specs.declared.Config.{Config}
@@ -9,7 +9,6 @@ use Rattle.machine.specs.Run.{how_many}
 use Rattle.machine.specs.Verdicts.{Says, Noted, nonzero}
 use Rattle.image.specs.Format
 use Rattle.image.specs.Image.{machine, rule_at}
-use Rattle.simulator.specs.declared.Judged.TheVariants.{Answer}
 use Rattle.simulator.specs.Calls.{judgement, JudgeSays}
 use Rattle.grammar.specs.Grammar.{rules, expression, grammar_refusal}
 use Rattle.grammar.specs.Parsing.{Parses}
@@ -49,8 +48,8 @@ WholeThenLeading =
 abbrev pub JudgedWholeLeading : Type 0
 JudgedWholeLeading =
     (gs cs a a_now b b_now x x_now y y_now : List ℕ) (v : Verdict) (n m : ℕ) (d e : Config) → (grammar_refusal gs).number ≡ 0 → Bytes cs →
-    JudgeSays (built Whole gs) cs (Answer (judgement Accepted n d)) a a_now b b_now →
-    JudgeSays (built Leading gs) cs (Answer (judgement v m e)) x x_now y y_now → v ≡ Accepted
+    JudgeSays (built Whole gs) cs (Ok (judgement Accepted n d)) a a_now b b_now →
+    JudgeSays (built Leading gs) cs (Ok (judgement v m e)) x x_now y y_now → v ≡ Accepted
 
 -- A WHOLE IMAGE IS AS BEFORE, byte for byte,
 abbrev pub WholeAsBefore : Type 0

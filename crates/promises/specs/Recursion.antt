@@ -1,5 +1,5 @@
 -- LEFT RECURSION FOUND BEFORE THE SHIFT: the check answers 19 with the lowest rule that leads back to itself, after 11 and 12, and a user whose grammar passes never meets the verdict looping, on any capture. Assumes nothing: each claim is a type, and proofs/ has its proof.
-use Rattle.std.specs.Prelude.{◌≡◌, Bool, true, ◌↔◌, ℕ, ◌<◌, length}
+use Rattle.std.specs.Prelude.{◌≡◌, Bool, true, ◌↔◌, ℕ, ◌<◌, length, Ok}
 use mathlib.Core.List.{List, ◌∷◌, Memᴰ}
 use Rattle.std.proofs.Math.Option.{Option, some}
 use Rattle.codec.specs.Bytes.{Bytes}
@@ -9,10 +9,9 @@ use Rattle.machine.specs.declared.Verdict.{Verdict}
 use Rattle.machine.specs.declared.Verdict.TheVariants.{Looping}
 use Rattle.machine.specs.Verdicts.{GoesOn}
 use Rattle.image.specs.Image.{machine}
-use Rattle.simulator.specs.declared.Judged.TheVariants.{Answer}
 use Rattle.simulator.specs.Calls.{judgement, JudgeSays}
 use Rattle.bundle.specs.declared.Totals.{Totals}
-use Rattle.bundle.specs.declared.Report.TheVariants.{Lines}
+use Rattle.bundle.specs.Answers as answers
 use Rattle.bundle.specs.Calls.{BundleSays}
 use Rattle.grammar.specs.Grammar.{rules, expression, grammar_refusal}
 use Rattle.grammar.specs.Parsing.{Rules, Parses}
@@ -69,7 +68,7 @@ NeverLooping = (gs cs : List ℕ) → (recursion_refusal gs).number ≡ 0 → By
 abbrev pub JudgedNotLooping : Type 0
 JudgedNotLooping =
     (how : Matching) (gs cs a a_now b b_now : List ℕ) (v : Verdict) (n : ℕ) (d : Config) → (recursion_refusal gs).number ≡ 0 → Bytes cs →
-    JudgeSays (built how gs) cs (Answer (judgement v n d)) a a_now b b_now → v ≡ Looping → ⊥
+    JudgeSays (built how gs) cs (Ok (judgement v n d)) a a_now b b_now → v ≡ Looping → ⊥
 
 -- nor does the program: its line is one of the other verdicts,
 abbrev pub LineNotLooping : Type 0
@@ -81,7 +80,7 @@ LineNotLooping =
 abbrev pub BundleNotLooping : Type 0
 BundleNotLooping =
     (how : Matching) (gs xs : List ℕ) (n : ℕ) (t : Totals) (l m a x b y : List ℕ) → (recursion_refusal gs).number ≡ 0 → Bytes xs →
-    BundleSays (built how gs) xs (Lines n t) l m a x b y → t.looping ≡ 0
+    BundleSays (built how gs) xs (answers.lines n t) l m a x b y → t.looping ≡ 0
 
 -- THE CHECK OF A TYPED GRAMMAR: what it answers follows from the text,
 abbrev pub TextRecursionDetermined : Type 0
@@ -111,7 +110,7 @@ TypedResults =
 abbrev pub TextNotLooping : Type 0
 TextNotLooping =
     (text cs : List ℕ) (x y : Lent) (v : Verdict) (n : ℕ) (d : Config) → TextRecursionSays text Passes → Bytes cs →
-    JudgeTextSays text cs (Answer (judgement v n d)) x y → v ≡ Looping → ⊥
+    JudgeTextSays text cs (Ok (judgement v n d)) x y → v ≡ Looping → ⊥
 
 -- THE OTHER WAY ROUND, as far as it is true: a rule that leads back to itself by what is tried first alone has no result, at any place of any capture,
 abbrev pub TriedFirstFails : Type 0

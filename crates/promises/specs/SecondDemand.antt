@@ -1,5 +1,5 @@
 -- THE SECOND DEMAND: accepted, ended, stuck, halted exactly where the step-by-step run, unbounded in time and stack, ends so; looping only where it has no end. A machine built from a grammar accepts where parsing from the start rule consumes all, loops where parsing has no result, and is stuck in all other cases; one that was built to match a leading part accepts where parsing succeeds at all (Matching.antt). Assumes nothing: each claim is a type, and proofs/ has its proof.
-use Rattle.std.specs.Prelude.{◌≡◌, true, false, List, ◌++◌, ◌↔◌, ℕ, suc, ◌%◌, ◌<◌, ◌≤◌, length, take, replicate}
+use Rattle.std.specs.Prelude.{◌≡◌, true, false, List, ◌++◌, ◌↔◌, ℕ, suc, ◌%◌, ◌<◌, ◌≤◌, length, take, replicate, Ok}
 use Rattle.std.proofs.Math.Option.{Option, none, some}
 use Rattle.machine.specs.declared.Config.{Config}
 use Rattle.machine.specs.declared.Action.TheVariants.{Pop}
@@ -13,18 +13,16 @@ use Rattle.machine.specs.Verdicts.{Says, GoesOn}
 use Rattle.machine.specs.VerdictRows.{SaysByRow}
 use Rattle.image.specs.Refusals.{Unrefused, image_refusal}
 use Rattle.machine.specs.Replies.{verdict_number, answer_reply}
-use Rattle.simulator.specs.declared.Judged.{Judged}
-use Rattle.simulator.specs.declared.Judged.TheVariants.{Answer}
+use Rattle.simulator.specs.Answers.{Judged}
 use Rattle.simulator.specs.Calls.{cells_needed, judgement, judge_refusal, JudgeSays}
 use Rattle.simulator.specs.Replies.{of_judged}
-use Rattle.interpreter.specs.declared.Ran.{Ran}
+use Rattle.interpreter.specs.Answers.{Ran}
 use Rattle.interpreter.specs.PlainRun.{RunEnd, run_on, TrueEnd}
 use Rattle.interpreter.specs.Calls.{run_refusal, RunSays}
 use Rattle.interpreter.specs.Replies.{exit_number, of_ran}
 use Rattle.builder.specs.declared.Matching.{Matching}
 use Rattle.builder.specs.declared.Matching.TheVariants.{Whole}
-use Rattle.builder.specs.declared.Built.{Built}
-use Rattle.builder.specs.declared.Built.TheVariants.{Image}
+use Rattle.builder.specs.Answers.{Built}
 use Rattle.grammar.specs.declared.Expression.TheVariants.{Not, Empty}
 use Rattle.grammar.specs.Grammar.{Inverted, rules, range_bytes, expression, grammar_refusal}
 use Rattle.grammar.specs.Parsing.{Parses}
@@ -51,18 +49,18 @@ abbrev pub JudgeAnswers : Type 0
 JudgeAnswers =
     (bs cs : List ℕ) (r : Judged) (a a_now b b_now : List ℕ) → (judge_refusal bs cs (length a) (length b)).number ≡ 0 →
     JudgeSays bs cs r a a_now b b_now →
-    (v : Verdict) × (n : ℕ) × (d : Config) × (r ≡ Answer (judgement v n d)) × (of_judged r ≡ answer_reply (verdict_number v) n d)
+    (v : Verdict) × (n : ℕ) × (d : Config) × (r ≡ Ok (judgement v n d)) × (of_judged r ≡ answer_reply (verdict_number v) n d)
 
 -- ACCEPTED, ENDED, STUCK, HALTED EXACTLY WHERE THE RUN ENDS SO, looping exactly where it has no end, and at the run's end configuration
 abbrev pub JudgeExact : Type 0
 JudgeExact =
-    (bs cs a a_now b b_now : List ℕ) (v : Verdict) (n : ℕ) (d : Config) → Bytes cs → JudgeSays bs cs (Answer (judgement v n d)) a a_now b b_now →
+    (bs cs a a_now b b_now : List ℕ) (v : Verdict) (n : ℕ) (d : Config) → Bytes cs → JudgeSays bs cs (Ok (judgement v n d)) a a_now b b_now →
     (w : Verdict) (e : Config) → Says (machine bs cs) w e ↔ (w ≡ v) × (e ≡ d)
 
 -- LOOPING ONLY WHERE IT HAS NO END, and always there
 abbrev pub LoopingEndless : Type 0
 LoopingEndless =
-    (bs cs a a_now b b_now : List ℕ) (v : Verdict) (n : ℕ) (d : Config) → Bytes cs → JudgeSays bs cs (Answer (judgement v n d)) a a_now b b_now →
+    (bs cs a a_now b b_now : List ℕ) (v : Verdict) (n : ℕ) (d : Config) → Bytes cs → JudgeSays bs cs (Ok (judgement v n d)) a a_now b b_now →
     (v ≡ Looping) ↔ GoesOn (machine bs cs)
 
 -- A MACHINE BUILT FROM A GRAMMAR, by either choice of a match, is never refused,
@@ -132,7 +130,7 @@ abbrev pub BuildThenJudge : Type 0
 BuildThenJudge =
     (how : Matching) (gs cs image image_now notes notes_now work work_now : List ℕ) (b : Built) (r : Judged) → Enough how gs cs image notes work →
     BuildSays how gs b image image_now → JudgeSays (take (built_length gs) image_now) cs r notes notes_now work work_now →
-    (b ≡ Image (built_length gs)) × Gets how gs cs r
+    (b ≡ Ok (built_length gs)) × Gets how gs cs r
 
 -- THE PLAIN RUN'S answer is true of the run: within its budget and all the way within its cells, by the run's own steps, at the configuration reached; and all lent cells are 0
 abbrev pub PlainRunTrue : Type 0

@@ -1,5 +1,5 @@
 -- THE THIRD DEMAND: reported readings are exactly the number of different configurations that the run enters; for a grammar few; the notes name for each the one that pops its entry; the judge's own steps, one chain, reach answer and notes within 4 r + 1. Assumes nothing: each claim is a type, and proofs/ has its proof.
-use Rattle.std.specs.Prelude.{◌≡◌, List, ℕ, ◌+◌, ◌*◌, ◌<◌, ◌≤◌, length, get_or, take, drop, replicate}
+use Rattle.std.specs.Prelude.{◌≡◌, List, ℕ, ◌+◌, ◌*◌, ◌<◌, ◌≤◌, length, get_or, take, drop, replicate, Ok}
 use Rattle.std.proofs.Math.Option.{none, some}
 use Rattle.machine.specs.declared.Config.{Config}
 use Rattle.machine.specs.declared.Verdict.{Verdict}
@@ -14,7 +14,6 @@ use Rattle.image.specs.Refusals.{Unrefused}
 use Rattle.chain.specs.declared.JudgeState.{JudgeState}
 use Rattle.chain.specs.Chain.{ChainCorrect, start_in, environment_of, start_state, chain, reached}
 use Rattle.chain.specs.NumberKept.{NumberKept}
-use Rattle.simulator.specs.declared.Judged.TheVariants.{Answer}
 use Rattle.simulator.specs.Calls.{judgement, ChainEnds, JudgeSays}
 use Rattle.grammar.specs.Grammar.{rules, grammar_refusal}
 use Rattle.builder.specs.declared.Matching.TheVariants.{Whole}
@@ -23,7 +22,7 @@ use Rattle.builder.specs.Image.{built}
 -- READINGS ARE EXACTLY THE NUMBER OF DIFFERENT CONFIGURATIONS THAT THE RUN ENTERS, endless runs included: the length of a list without repeats of exactly those; every such list is as long; and as many notes are not 0
 abbrev pub ReadingsEntered : Type 0
 ReadingsEntered =
-    (bs cs a a_now b b_now : List ℕ) (v : Verdict) (n : ℕ) (d : Config) → Bytes cs → JudgeSays bs cs (Answer (judgement v n d)) a a_now b b_now →
+    (bs cs a a_now b b_now : List ℕ) (v : Verdict) (n : ℕ) (d : Config) → Bytes cs → JudgeSays bs cs (Ok (judgement v n d)) a a_now b b_now →
     AllEntered (machine bs cs) n
 
 abbrev pub OneCount : Type 0
@@ -32,7 +31,7 @@ OneCount =
 
 abbrev pub ReadingsNoted : Type 0
 ReadingsNoted =
-    (bs cs a a_now b b_now : List ℕ) (v : Verdict) (n : ℕ) (d : Config) → Bytes cs → JudgeSays bs cs (Answer (judgement v n d)) a a_now b b_now →
+    (bs cs a a_now b b_now : List ℕ) (v : Verdict) (n : ℕ) (d : Config) → Bytes cs → JudgeSays bs cs (Ok (judgement v n d)) a a_now b b_now →
     n ≡ nonzero (how_many (machine bs cs)) a_now
 
 -- FOR A GRAMMAR of m rules and n bytes, built to match the whole capture, at most 6 m (n + 1) + 2; for one built to match a leading part Matching.antt has the number
@@ -50,19 +49,19 @@ EnteredNumbered =
 -- for each one entered the note names the one that pops its entry, or that none does,
 abbrev pub NotesLeft : Type 0
 NotesLeft =
-    (bs cs a a_now b b_now : List ℕ) (v : Verdict) (n : ℕ) (d : Config) → Bytes cs → JudgeSays bs cs (Answer (judgement v n d)) a a_now b b_now →
+    (bs cs a a_now b b_now : List ℕ) (v : Verdict) (n : ℕ) (d : Config) → Bytes cs → JudgeSays bs cs (Ok (judgement v n d)) a a_now b b_now →
     (c : Config) → Entered (machine bs cs) c → NoteRight (machine bs cs) c (note_of (get_or a_now (number (machine bs cs) c) 0))
 
 -- and every other is marked as never entered
 abbrev pub OthersZero : Type 0
 OthersZero =
-    (bs cs a a_now b b_now : List ℕ) (v : Verdict) (n : ℕ) (d : Config) → Bytes cs → JudgeSays bs cs (Answer (judgement v n d)) a a_now b b_now →
+    (bs cs a a_now b b_now : List ℕ) (v : Verdict) (n : ℕ) (d : Config) → Bytes cs → JudgeSays bs cs (Ok (judgement v n d)) a a_now b b_now →
     (c : Config) → ValidConfig (machine bs cs) c → (Entered (machine bs cs) c → ⊥) → get_or a_now (number (machine bs cs) c) 0 ≡ 0
 
 -- a note speaks of the run itself: each time that the run enters its configuration, of the entry then on top
 abbrev pub NotesTell : Type 0
 NotesTell =
-    (bs cs a a_now b b_now : List ℕ) (v : Verdict) (n : ℕ) (d : Config) → Bytes cs → JudgeSays bs cs (Answer (judgement v n d)) a a_now b b_now →
+    (bs cs a a_now b b_now : List ℕ) (v : Verdict) (n : ℕ) (d : Config) → Bytes cs → JudgeSays bs cs (Ok (judgement v n d)) a a_now b b_now →
     (m i : ℕ) (c : Config) (base : List Entry) → after m (machine bs cs) start ≡ some (over_base c i base) →
     NoteTells (machine bs cs) m i base (note_of (get_or a_now (number (machine bs cs) c) 0))
 
@@ -111,18 +110,18 @@ NumberAlong = NumberKept chain (λ s. s.registers.number) (λ s. s.registers.at)
 -- and the call's answer and notes are those that the chain ends with, within 4 r + 1 steps
 abbrev pub JudgeByChain : Type 0
 JudgeByChain =
-    (bs cs a a_now b b_now : List ℕ) (v : Verdict) (n : ℕ) (d : Config) → Bytes cs → JudgeSays bs cs (Answer (judgement v n d)) a a_now b b_now →
+    (bs cs a a_now b b_now : List ℕ) (v : Verdict) (n : ℕ) (d : Config) → Bytes cs → JudgeSays bs cs (Ok (judgement v n d)) a a_now b b_now →
     ChainEnds bs cs v n d (take (how_many (machine bs cs)) a_now)
 
 -- the number itself: with n readings the chain's first verdict stands after 4 n + 1 steps at most, and it is the call's
 abbrev pub FewSteps : Type 0
 FewSteps =
-    (bs cs a a_now b b_now : List ℕ) (v : Verdict) (n : ℕ) (d : Config) → Bytes cs → JudgeSays bs cs (Answer (judgement v n d)) a a_now b b_now →
+    (bs cs a a_now b b_now : List ℕ) (v : Verdict) (n : ℕ) (d : Config) → Bytes cs → JudgeSays bs cs (Ok (judgement v n d)) a a_now b b_now →
     (k : ℕ) × (k ≤ 4 * n + 1) × (chain.verdict (reached chain bs cs k).state ≡ some v)
     × ((m : ℕ) → m < k → chain.verdict (reached chain bs cs m).state ≡ none)
 
 -- THE FIRST N WORK CELLS ARE 0
 abbrev pub WorkCleared : Type 0
 WorkCleared =
-    (bs cs a a_now b b_now : List ℕ) (v : Verdict) (n : ℕ) (d : Config) → Bytes cs → JudgeSays bs cs (Answer (judgement v n d)) a a_now b b_now →
+    (bs cs a a_now b b_now : List ℕ) (v : Verdict) (n : ℕ) (d : Config) → Bytes cs → JudgeSays bs cs (Ok (judgement v n d)) a a_now b b_now →
     take (how_many (machine bs cs)) b_now ≡ replicate (how_many (machine bs cs)) 0

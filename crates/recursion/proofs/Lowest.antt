@@ -1,4 +1,5 @@
 -- The lowest rule that leads back to itself, as the code finds it, and that the rows found so answer as the definition does. Assumes nothing.
+use Rattle.std.specs.Prelude.{Err, Ok}
 use mathlib.Core.Path.{◌≡◌, refl, sym, ap, ◌∙◌}
 use mathlib.Core.Bool.{true, false}
 use mathlib.Core.List.{List}
@@ -10,7 +11,6 @@ use lib.ListN.{get_or}
 use borrow.Author.Tests.{eq-eqb, ne_eqb}
 use Rattle.refusal.specs.declared.Refusal.{Refusal}
 use Rattle.refusal.specs.First.{refusal, no_refusal, or_else}
-use Rattle.refusal.specs.declared.Checked.TheVariants.{Good, Refused}
 use Rattle.refusal.specs.Checking.{checked}
 use Rattle.grammar.specs.Grammar.{rules, grammar_refusal}
 use Rattle.recursion.specs.Computed.{leads_on, recursion_from, recursion_refusal}
@@ -63,21 +63,21 @@ module _ (gs : List ℕ) (f : Refusal) (first : f ≡ grammar_refusal gs) where
   pub at_number : f.number ≡ 0 → (grammar_refusal gs).number ≡ 0
   at_number e = sym (ap (λ (g : Refusal). g.number) first) ∙ e
 
-  pub first_refuses : (f.number ≡ 0 → ⊥) → Refused f ≡ checked (recursion_refusal gs)
+  pub first_refuses : (f.number ≡ 0 → ⊥) → Err f ≡ checked (recursion_refusal gs)
   unfolding checked recursion_refusal or_else
   first_refuses some =
       let no : eqb (grammar_refusal gs).number 0 ≡ false = ne_eqb _ 0 (λ e. some (ap (λ (g : Refusal). g.number) first ∙ e)) in
-      simp (no, no) (ap Refused first)
+      simp (no, no) (ap Err first)
 
   module _ (g : Refusal) (none : f.number ≡ 0) (second : g ≡ recursion_from (rules gs) 0 gs) where
     then_second : recursion_refusal gs ≡ g
     unfolding recursion_refusal or_else
     then_second = simp (eq-eqb (grammar_refusal gs).number 0 (at_number none)) (sym second)
 
-    pub recursion_refuses : (g.number ≡ 0 → ⊥) → Refused g ≡ checked (recursion_refusal gs)
+    pub recursion_refuses : (g.number ≡ 0 → ⊥) → Err g ≡ checked (recursion_refusal gs)
     unfolding checked
     recursion_refuses some = rw then_second (simp (ne_eqb g.number 0 some))
 
-    pub passes_both : g.number ≡ 0 → Good ≡ checked (recursion_refusal gs)
+    pub passes_both : g.number ≡ 0 → (Ok tt) ≡ checked (recursion_refusal gs)
     unfolding checked
     passes_both e = rw then_second (simp (eq-eqb g.number 0 e))

@@ -1,4 +1,5 @@
 -- Calls of the program's function and what they say: no input, an input with no grammar, and C5's. Assumes nothing.
+use Rattle.std.specs.Prelude.{Ok}
 use mathlib.Core.Path.{◌≡◌, refl}
 use mathlib.Core.List.{List, [], ◌∷◌, ◌++◌}
 use Prim.Native.Nat.{ℕ, ◌≤◌, min}
@@ -13,7 +14,6 @@ use Rattle.machine.specs.Run.{config, how_many}
 use Rattle.image.specs.Image.{machine, states, classes, symbols, rule_from}
 use Rattle.image.specs.Encoding.{header, rule_bytes, rules_bytes, encode}
 use Rattle.image.specs.Refusals.{pair_is, directory, counts, count_wrong, map_from, move_off, rule_bad, index_class, rule_count, image_refusal, capture_refusal, rules_refusal_from}
-use Rattle.simulator.specs.declared.Judged.TheVariants.{Answer}
 use Rattle.simulator.specs.Calls.{judgement, judge_refusal, JudgeSays}
 use Rattle.grammar.specs.Grammar as Grammar
 use Rattle.builder.specs.declared.Matching.TheVariants.{Whole}
@@ -96,7 +96,7 @@ endless_answering x = rw (endless_computed.0, endless_computed.1, endless_comput
 
 c5_judged_on :
     (a b : List ℕ) → 30 ≤ length a → 30 ≤ length b →
-    (x : List ℕ) × (y : List ℕ) × JudgeSays (built Whole endless_grammar) [] (Answer (judgement Looping 2 (config 1 1 1))) a x b y
+    (x : List ℕ) × (y : List ℕ) × JudgeSays (built Whole endless_grammar) [] (Ok (judgement Looping 2 (config 1 1 1))) a x b y
 unfolding row_machine image_of
 c5_judged_on a b p q =
     let j = row_judged c5 c5_holds a b (omega (arith, endless_computed.4)) (omega (arith, endless_computed.4)) in

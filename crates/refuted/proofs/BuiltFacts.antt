@@ -1,4 +1,5 @@
 -- Closed facts of small grammars: their images, rules and cells, and judging by an image with a byte too many, computed. Assumes nothing.
+use Rattle.std.specs.Prelude.{Err}
 use mathlib.Core.Path.{◌≡◌, refl}
 use mathlib.Core.List.{List, [], ◌∷◌, ◌++◌}
 use Prim.Native.Nat.{ℕ}
@@ -9,7 +10,6 @@ use Rattle.image.specs.Image.{machine, states, classes, symbols, rule_offset, ru
 use Rattle.image.specs.Encoding.{header, rule_bytes, rules_bytes, encode}
 use Rattle.refusal.specs.First.{refusal, or_else, refuse_if}
 use Rattle.image.specs.Refusals.{pair_is, directory, counts, count_wrong, map_from, move_off, rule_bad, index_class, rule_count, image_refusal, capture_refusal, rules_refusal_from}
-use Rattle.simulator.specs.declared.Judged.TheVariants.{Refused}
 use Rattle.simulator.specs.Calls.{cells_needed, judge_refusal, JudgeAs, JudgeSays}
 use Rattle.grammar.specs.Grammar as Grammar
 use Rattle.builder.specs.declared.Matching.TheVariants.{Whole}
@@ -49,6 +49,6 @@ marker_unruled = computed.2
 
 -- C1's image judged by with one byte too many
 pub longer_judged :
-    JudgeSays longer_buffer [] (Refused (refusal 2 Format.rules_pair)) (replicate 30 0) (replicate 30 0) (replicate 30 0) (replicate 30 0)
+    JudgeSays longer_buffer [] (Err (refusal 2 Format.rules_pair)) (replicate 30 0) (replicate 30 0) (replicate 30 0) (replicate 30 0)
 unfolding JudgeSays JudgeAs
 longer_judged = rw computed.3 (refl, refl, refl)

@@ -1,4 +1,5 @@
 -- Calls on bundles: a refused one, and one empty capture judged by C10's image, on cells enough and on none. Assumes nothing.
+use Rattle.std.specs.Prelude.{Err, Ok}
 use mathlib.Core.Path.{◌≡◌, refl, subst}
 use mathlib.Core.List.{List, [], ◌∷◌, ◌++◌}
 use Prim.Native.Nat.{ℕ, ◌<◌, ◌≤◌}
@@ -11,10 +12,9 @@ use Rattle.machine.specs.Run.{config, how_many}
 use Rattle.image.specs.Encoding.{header, encode}
 use Rattle.image.specs.Image.{machine, states, symbols}
 use Rattle.image.specs.Refusals.{image_refusal}
-use Rattle.simulator.specs.declared.Judged.{Judged}
-use Rattle.simulator.specs.declared.Judged.TheVariants.{Answer, Refused}
+use Rattle.simulator.specs.Answers.{Judged}
 use Rattle.simulator.specs.Calls.{judgement, JudgeSays}
-use Rattle.bundle.specs.declared.Report.TheVariants.{Lines, Refused as Unreported}
+use Rattle.bundle.specs.declared.Report.TheVariants.{Lines}
 use Rattle.bundle.specs.Format.{count, pair_place, offset, long, end, capture, pairs_from, bundle_refusal, call_refusal}
 use Rattle.bundle.specs.Report.{lines_cells, totals}
 use Rattle.bundle.specs.Calls.{InOrder, done, next, BundleAs, BundleSays}
@@ -23,7 +23,7 @@ use Rattle.refuted.proofs.Witnesses.{row_judged, few_notes_judged}
 use Rattle.refuted.proofs.Rows.{c10, c10_holds}
 
 -- A REFUSED CALL: no image, no bundle
-pub none_says : (l a b : List ℕ) → BundleSays [] [] (Unreported (refusal 1 0)) l l a a b b
+pub none_says : (l a b : List ℕ) → BundleSays [] [] (Err (refusal 1 0)) l l a a b b
 unfolding BundleSays BundleAs call_refusal image_refusal or_else
 none_says l a b = (refl, refl, refl, refl)
 
@@ -79,10 +79,10 @@ two_cells = refl
 
 -- what judging an empty capture by it says, with cells enough and with no notes
 abbrev pub c10_answer : Judged
-c10_answer = Answer (judgement Ended 1 (config 0 0 0))
+c10_answer = Ok (judgement Ended 1 (config 0 0 0))
 
 abbrev pub c10_refused : Judged
-c10_refused = Refused (refusal 8 2)
+c10_refused = Err (refusal 8 2)
 
 -- the bundle on cells enough: the capture ends, after one reading
 pub record Reported (l a b : List ℕ) : Type 0 where

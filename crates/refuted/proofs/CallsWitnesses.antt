@@ -1,4 +1,5 @@
 -- What the C calls tell of C1's image, grammar and text and of calls that are refused, by the numbers that they return and leave. Assumes nothing.
+use Rattle.std.specs.Prelude.{Err, Ok}
 use mathlib.Core.Path.{◌≡◌, refl, ◌∙◌}
 use mathlib.Core.List.{List, [], ◌∷◌, ◌++◌}
 use mathlib.Core.Option.{some}
@@ -14,20 +15,17 @@ use Rattle.machine.specs.Run.{config, how_many}
 use Rattle.machine.specs.Replies.{verdict_number, of_checked}
 use Rattle.image.specs.Image.{machine}
 use Rattle.image.specs.Refusals.{image_refusal}
-use Rattle.simulator.specs.declared.Judged.TheVariants.{Answer}
 use Rattle.simulator.specs.Calls.{needs, judgement, JudgeSays}
 use Rattle.simulator.specs.Replies.{of_needs, of_judged}
 use Rattle.machine.specs.Terminating.{termination_verdict}
 use Rattle.interpreter.specs.Replies.{exit_number, of_ran}
 use Rattle.bundle.specs.Format.{call_refusal}
-use Rattle.bundle.specs.declared.Report.TheVariants.{Refused as Unreported}
 use Rattle.bundle.specs.Calls.{BundleAs, BundleSays}
 use Rattle.bundle.specs.Replies.{of_report, totals_left}
 use Rattle.grammar.specs.Grammar.{grammar_refusal}
 use Rattle.recursion.specs.Computed.{recursion_refusal}
 use Rattle.builder.specs.declared.Matching.{Matching}
 use Rattle.builder.specs.declared.Matching.TheVariants.{Whole, Leading}
-use Rattle.builder.specs.declared.Built.TheVariants.{Image}
 use Rattle.builder.specs.Image.{built}
 use Rattle.builder.specs.Replies.{of_built}
 use Rattle.syntax.specs.Reading.{Grammar}
@@ -54,7 +52,7 @@ abbrev pub verdict_cells : Verdict → (readings : ℕ) → (end : Config) → L
 verdict_cells v n d = 0 ∷ verdict_number v ∷ n ∷ d.state ∷ d.head ∷ d.symbol ∷ []
 
 pub judge_told :
-    (image capture a a_now b b_now : List ℕ) (v : Verdict) (n : ℕ) (d : Config) → JudgeSays image capture (Answer (judgement v n d)) a a_now b b_now →
+    (image capture a a_now b b_now : List ℕ) (v : Verdict) (n : ℕ) (d : Config) → JudgeSays image capture (Ok (judgement v n d)) a a_now b b_now →
     JudgeTells image capture a a_now b b_now 0 (verdict_cells v n d)
 unfolding of_judged cells
 judge_told image capture a a_now b b_now v n d says = record { judged = _; says = says; tells = record { number = refl; written = refl } }
@@ -71,7 +69,7 @@ none_judge_told a b = record { judged = _; says = none_judged a b; tells = recor
 pub none_bundle_told : (l t : List ℕ) → JudgeBundleTells [] [] l l t t [] [] [] [] 1 (count_cells 0)
 unfolding BundleSays BundleAs call_refusal image_refusal or_else of_report totals_left cells
 none_bundle_told l t =
-    record { report = Unreported (refusal 1 0); says = (refl, refl, refl, refl); left = refl; tells = record { number = refl; written = refl } }
+    record { report = Err (refusal 1 0); says = (refl, refl, refl, refl); left = refl; tells = record { number = refl; written = refl } }
 
 -- no grammar by 11 at 0, and no text by 15 at 0
 pub none_recursion_told : CheckRecursionTells [] 11 (count_cells 0)
@@ -119,11 +117,11 @@ empty_told g =
 -- built by either choice and by the text into any buffer that is long enough,
 pub build_told : (how : Matching) (a : List ℕ) → 468 ≤ length a → BuildTells how empty_grammar a (c1_left how a) 0 (count_cells 468)
 unfolding of_built cells
-build_told how a h = record { built = Image 468; says = c1_built how a h; tells = record { number = refl; written = refl } }
+build_told how a h = record { built = Ok 468; says = c1_built how a h; tells = record { number = refl; written = refl } }
 
 pub build_text_told : (a : List ℕ) → 468 ≤ length a → BuildTextTells empty_text a (c1_left Whole a) 0 (count_cells 468)
 unfolding of_built cells
-build_text_told a h = record { built = Image 468; says = empty_built a h; tells = record { number = refl; written = refl } }
+build_text_told a h = record { built = Ok 468; says = empty_built a h; tells = record { number = refl; written = refl } }
 
 -- of which so many bytes as are counted are the image,
 pub image_taken : (how : Matching) (a : List ℕ) → take 468 (c1_left how a) ≡ built how empty_grammar

@@ -1,4 +1,5 @@
 -- Examples that are built from a grammar: what a row that holds says of the grammar, its image and judging by it; C1, C2 and C4 by a whole match, C1 and C2 by a leading one. Assumes nothing.
+use Rattle.std.specs.Prelude.{Ok}
 use mathlib.Core.Path.{◌≡◌, refl}
 use mathlib.Core.List.{List, [], ◌∷◌}
 use mathlib.Core.Option.{Option, some}
@@ -13,7 +14,6 @@ use Rattle.machine.specs.Verdicts.{Says, AllEntered}
 use Rattle.machine.specs.Replies.{verdict_number}
 use Rattle.image.specs.Image.{machine}
 use Rattle.image.specs.Refusals.{Unrefused}
-use Rattle.simulator.specs.declared.Judged.TheVariants.{Answer}
 use Rattle.simulator.specs.Calls.{judgement, JudgeSays}
 use Rattle.grammar.specs.Grammar.{kind_of, expression_by, expression, grammar_refusal}
 use Rattle.grammar.specs.Parsing.{Parses, empty}
@@ -34,7 +34,7 @@ pub record Example (how : Matching) (gs cs : List ℕ) (v : Verdict) (n : ℕ) (
   pub notes_now : List ℕ
   pub work_now : List ℕ
   pub judged :
-      JudgeSays (built how gs) cs (Answer (judgement v n d))
+      JudgeSays (built how gs) cs (Ok (judgement v n d))
       (replicate (how_many (machine (built how gs) cs)) 0) notes_now (replicate (how_many (machine (built how gs) cs)) 0) work_now
 
 example :

@@ -15,7 +15,7 @@ use Rattle.machine.specs.declared.Action.TheVariants.{Push}
 use Rattle.machine.specs.declared.Verdict.TheVariants.{Accepted, Stuck}
 use Rattle.machine.specs.Run.{Machine, config, Description, start, step, step_on, step_by, after}
 use Rattle.machine.specs.Replies.{verdict_number}
-use Rattle.simulator.specs.declared.Judged.{Judged}
+use Rattle.simulator.specs.Answers.{Judged}
 use Rattle.simulator.specs.Replies.{of_judged}
 use Rattle.simulator.proofs.Answered.{answered_fine}
 use Rattle.interpreter.specs.PlainRun.{run_on, run_step, last_pop, ExitsAs}

@@ -1,4 +1,5 @@
 -- Small calls and what they say: with no image, on C1's image, and building it. Assumes nothing.
+use Rattle.std.specs.Prelude.{Err, Ok}
 use mathlib.Core.Path.{◌≡◌, refl, sym, ap, ◌∙◌}
 use mathlib.Core.Bool.{true}
 use mathlib.Core.List.{List, [], ◌∷◌, ◌++◌}
@@ -18,16 +19,13 @@ use Rattle.image.specs.Image.{machine}
 use Rattle.image.specs.Encoding.{header, rule_bytes, rules_bytes, encode}
 use Rattle.image.specs.Refusals.{Unrefused, image_refusal, capture_refusal}
 use Rattle.image.proofs.CaptureRefused.{then_length}
-use Rattle.simulator.specs.declared.Judged.TheVariants.{Refused}
 use Rattle.simulator.specs.Calls.{judge_refusal, JudgeAs, JudgeSays}
-use Rattle.interpreter.specs.declared.Ran.TheVariants.{Refused as NotRun}
 use Rattle.interpreter.specs.declared.Exit.TheVariants.{Terminated, Spent}
 use Rattle.interpreter.specs.PlainRun.{RunEnd, run_end, run_on}
 use Rattle.interpreter.specs.Calls.{run_refusal, answer, RunAs, RunSays}
 use Rattle.grammar.specs.Grammar as Grammar
 use Rattle.builder.specs.declared.Matching.{Matching}
 use Rattle.builder.specs.declared.Matching.TheVariants.{Whole, Leading}
-use Rattle.builder.specs.declared.Built.TheVariants.{Image, Refused as NotBuilt}
 use Rattle.builder.specs.Classes.{cuts_at, cut_from, cut, class_of, class_count, class_in}
 use Rattle.builder.specs.Table.{rows, by_state, select, on_byte, row_zero, class_inside, rows_at, made}
 use Rattle.builder.specs.Image.{symbols_of, built_rules, rules_made, map_made, built, built_length, parts}
@@ -50,7 +48,7 @@ pub none_judging : (a b : ℕ) → judge_refusal [] [] a b ≡ refusal 1 0
 unfolding judge_refusal capture_refusal image_refusal or_else
 none_judging a b = refl
 
-pub none_judged : (a b : List ℕ) → JudgeSays [] [] (Refused (refusal 1 0)) a a b b
+pub none_judged : (a b : List ℕ) → JudgeSays [] [] (Err (refusal 1 0)) a a b b
 unfolding JudgeSays JudgeAs judge_refusal capture_refusal image_refusal or_else
 none_judged a b = (refl, refl, refl)
 
@@ -58,7 +56,7 @@ pub none_running : (cells : ℕ) → run_refusal [] [] cells ≡ refusal 1 0
 unfolding run_refusal capture_refusal image_refusal or_else
 none_running k = refl
 
-pub none_ran : (budget : ℕ) (a : List ℕ) → RunSays [] [] budget (NotRun (refusal 1 0)) a a
+pub none_ran : (budget : ℕ) (a : List ℕ) → RunSays [] [] budget (Err (refusal 1 0)) a a
 unfolding RunSays RunAs run_refusal capture_refusal image_refusal or_else
 none_ran n a = (refl, refl)
 
@@ -142,14 +140,14 @@ pub c1_first : byte (built Whole empty_grammar) 0 ≡ 24
 c1_first = c1_computed.2
 
 -- with one byte of room; and with enough, whatever stood there
-pub c1_unbuilt : (b : ℕ) → BuildSays Whole empty_grammar (NotBuilt (refusal 13 468)) (b ∷ []) (b ∷ [])
+pub c1_unbuilt : (b : ℕ) → BuildSays Whole empty_grammar (Err (refusal 13 468)) (b ∷ []) (b ∷ [])
 unfolding BuildSays BuildAs refuse_if
 c1_unbuilt b = rw (c1_building 1) (refl, refl)
 
 abbrev pub c1_left : Matching → (a : List ℕ) → List ℕ
 c1_left how a = built how empty_grammar ++ drop 468 a
 
-pub c1_built : (how : Matching) (a : List ℕ) → 468 ≤ length a → BuildSays how empty_grammar (Image 468) a (c1_left how a)
+pub c1_built : (how : Matching) (a : List ℕ) → 468 ≤ length a → BuildSays how empty_grammar (Ok 468) a (c1_left how a)
 unfolding BuildSays BuildAs refuse_if
 c1_built how a h = rw (c1_building (length a), le-ltb _ _ h, c1_length) (refl, refl)
 

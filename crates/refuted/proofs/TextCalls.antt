@@ -1,4 +1,5 @@
 -- Texts that are read as the grammars of examples, and judging by them. Assumes nothing.
+use Rattle.std.specs.Prelude.{Ok}
 use mathlib.Core.Path.{◌≡◌, refl}
 use mathlib.Core.List.Memᴰ
 use mathlib.Core.List.{List, [], ◌∷◌, ◌++◌}
@@ -13,7 +14,6 @@ use Rattle.machine.specs.declared.Verdict.{Verdict}
 use Rattle.machine.specs.Run.{how_many}
 use Rattle.machine.specs.Verdicts.{nil, cons}
 use Rattle.image.specs.Image.{machine}
-use Rattle.simulator.specs.declared.Judged.TheVariants.{Answer}
 use Rattle.simulator.specs.Calls.{judgement, judge_refusal}
 use Rattle.simulator.proofs.Answered.{answered_fine}
 use Rattle.grammar.specs.Grammar.{rules, kind_of, b_of, c_of, expression_by, expression, rule_right, grammar_rules_from, grammar_refusal}
@@ -125,7 +125,7 @@ lent_fine gs cs x good enough fine = rw (build_fine gs (length x.image) good eno
 -- JUDGING BY A TEXT whose grammar is that of an example
 pub record TextJudged (text cs : List ℕ) (v : Verdict) (n : ℕ) (d : Config) (x : Lent) : Type 0 where
   pub after : Lent
-  pub says : JudgeTextSays text cs (Answer (judgement v n d)) x after
+  pub says : JudgeTextSays text cs (Ok (judgement v n d)) x after
 
 pub text_judged :
     (text gs cs : List ℕ) (v : Verdict) (n : ℕ) (d : Config) (s : Option ℕ) (x : Lent) → ReadSays text (Grammar gs) →

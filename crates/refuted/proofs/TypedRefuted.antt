@@ -1,4 +1,5 @@
 -- The wrong neighbours of Typed.antt refuted: each by a closed example beside the promise. Assumes nothing.
+use Rattle.std.specs.Prelude.{Err, Ok}
 use mathlib.Core.Path.{◌≡◌, refl, sym, ap, subst, ◌∙◌}
 use mathlib.Core.List.Memᴰ
 use mathlib.Core.List.{List, [], ◌∷◌, ◌++◌, Memᴰ}
@@ -16,13 +17,11 @@ use Rattle.machine.specs.declared.Reply.{Reply}
 use Rattle.codec.specs.Numbers.{little_endian, pair_bytes}
 use Rattle.image.specs.Image.{machine, states, symbols}
 use Rattle.image.specs.Encoding.{header, encode}
-use Rattle.simulator.specs.declared.Judged.TheVariants.{Answer, Refused as Unjudged}
 use Rattle.simulator.specs.Calls.{judgement}
 use Rattle.simulator.proofs.Answered.{judged_right}
 use Rattle.grammar.specs.Grammar.{rules, kind_of, b_of, c_of, rule_right, grammar_rules_from, grammar_refusal}
 use Rattle.grammar.specs.Parsing.{Rules, in_range}
 use Rattle.builder.specs.declared.Matching.TheVariants.{Whole}
-use Rattle.builder.specs.declared.Built.TheVariants.{Image}
 use Rattle.builder.specs.Image.{built, built_length, parts, symbols_of}
 use Rattle.builder.specs.Calls.{build_refusal}
 use Rattle.builder.specs.Replies.{of_built}
@@ -106,7 +105,7 @@ unfolding grammar_answer rules kind_of b_of c_of rule_right grammar_rules_from g
 read_good wrong = omega (arith, (wrong empty_text _ empty_tells refl).good)
 
 -- BUILDING. The image of a=empty; is C1's
-pub empty_built : (a : List ℕ) → 468 ≤ length a → BuildTextSays empty_text (Image 468) a (c1_left Whole a)
+pub empty_built : (a : List ℕ) → 468 ≤ length a → BuildTextSays empty_text (Ok 468) a (c1_left Whole a)
 empty_built a enough = BuildTextSays.read empty_read (c1_built Whole a enough)
 
 abbrev exactly : List ℕ
@@ -148,7 +147,7 @@ build_text_independent wrong =
 abbrev pub one_note : Lent
 one_note = lent [] (0 ∷ []) []
 
-pub none_judged_by : JudgeTextSays [] [] (Unjudged (refusal 15 0)) one_note one_note
+pub none_judged_by : JudgeTextSays [] [] (Err (refusal 15 0)) one_note one_note
 none_judged_by = JudgeTextSays.unread none_read
 
 pub judge_text_refuses : Wrong.JudgeTextRefuses → ⊥
@@ -170,7 +169,7 @@ judge_text_independent wrong =
     let z : Lent = lent [] x.notes x.work in
     let few : build_refusal empty_grammar 0 ≡ refusal 13 (built_length empty_grammar) = no_room empty_grammar 0 c1_good (omega (arith, c1_length)) in
     let refused : (lent_refusal empty_grammar [] z).number ≡ 0 → ⊥ = λ e. omega (arith, rw few at e) in
-    let bad : Answer (judgement Accepted 3 (config 2 1 0)) ≡ Unjudged (lent_refusal empty_grammar [] z) =
+    let bad : Ok (judgement Accepted 3 (config 2 1 0)) ≡ Err (lent_refusal empty_grammar [] z) =
     (wrong empty_text [] x j.after z z _ _ refl refl j.says (JudgeTextSays.refused empty_read refused)).0 in
     clash cc
 

@@ -1,4 +1,5 @@
 -- The wrong neighbours of Users.antt refuted: each by a closed example beside the promise. Assumes nothing.
+use Rattle.std.specs.Prelude.{Err}
 use mathlib.Core.Path.{◌≡◌, refl, sym, ap, ◌∙◌}
 use mathlib.Core.List.{List, [], ◌∷◌}
 use mathlib.Core.Option.{some}
@@ -14,7 +15,6 @@ use Rattle.machine.specs.declared.Verdict.TheVariants.{Accepted, Ended, Stuck, L
 use Rattle.machine.specs.Run.{config}
 use Rattle.machine.specs.Replies.{verdict_number}
 use Rattle.image.specs.Refusals.{image_refusal, capture_refusal}
-use Rattle.simulator.specs.declared.Judged.TheVariants.{Refused}
 use Rattle.simulator.specs.Calls.{judge_refusal, JudgeAs, JudgeSays}
 use Rattle.simulator.specs.Replies.{of_judged}
 use Rattle.interpreter.specs.PlainRun.{RunEnd}
@@ -121,7 +121,7 @@ c1_plain_runs wrong = omega (arith, ap (λ (e : RunEnd). e.steps) (sym (first wr
 -- THE LIBRARY FOR C: an image of one byte is refused by 1 at 1
 one_byte_told : JudgeTells (0 ∷ []) [] [] [] [] [] 1 (1 ∷ 0 ∷ 0 ∷ 0 ∷ 0 ∷ 0 ∷ [])
 unfolding JudgeSays JudgeAs judge_refusal capture_refusal image_refusal or_else of_judged cells
-one_byte_told = record { judged = Refused (refusal 1 1); says = (refl, refl, refl); tells = record { number = refl; written = refl } }
+one_byte_told = record { judged = Err (refusal 1 1); says = (refl, refl, refl); tells = record { number = refl; written = refl } }
 
 pub accepted_told : Wrong.AcceptedTold → ⊥
 accepted_told wrong = omega (arith, (wrong _ _ _ _ _ _ 1 _ one_byte_told refl).0)

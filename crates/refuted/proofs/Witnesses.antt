@@ -1,4 +1,5 @@
 -- Calls that answer: for whatever is not refused judging has an answer, and for an example that holds it is the example's. Assumes nothing.
+use Rattle.std.specs.Prelude.{Err, Ok}
 use mathlib.Core.Path.{◌≡◌, refl, sym, ap}
 use mathlib.Core.List.{List}
 use Prim.Native.Nat.{ℕ, ◌<◌, ◌≤◌}
@@ -17,7 +18,6 @@ use Rattle.refusal.specs.First.{refusal}
 use Rattle.chain.specs.Chain.{chain, reached}
 use Rattle.chain_theory.proofs.Interface.{chain_judges, chain_ready}
 use Rattle.simulator.specs.declared.Judgement.{Judgement}
-use Rattle.simulator.specs.declared.Judged.TheVariants.{Answer, Refused}
 use Rattle.simulator.specs.Code.Checked.{Sized}
 use Rattle.simulator.specs.Calls.{judgement, cells_needed, JudgementRight, JudgeSays}
 use Rattle.simulator.proofs.Needing.{cells_are}
@@ -65,7 +65,7 @@ pub record JudgedThere (bs cs a b : List ℕ) : Type 0 where
   pub end : Config
   pub a_now : List ℕ
   pub b_now : List ℕ
-  pub says : JudgeSays bs cs (Answer (judgement verdict readings end)) a a_now b b_now
+  pub says : JudgeSays bs cs (Ok (judgement verdict readings end)) a a_now b b_now
 
 pub judged_there :
     (bs cs a b : List ℕ) → Unrefused bs cs → how_many (machine bs cs) ≤ length a → how_many (machine bs cs) ≤ length b → JudgedThere bs cs a b
@@ -83,7 +83,7 @@ judged_there bs cs a b u h k =
 
 -- and with fewer notes the refusal is 8, at N
 pub few_notes_judged :
-    (bs cs a b : List ℕ) → Unrefused bs cs → length a < how_many (machine bs cs) → JudgeSays bs cs (Refused (refusal 8 (how_many (machine bs cs)))) a a b b
+    (bs cs a b : List ℕ) → Unrefused bs cs → length a < how_many (machine bs cs) → JudgeSays bs cs (Err (refusal 8 (how_many (machine bs cs)))) a a b b
 few_notes_judged bs cs a b u few =
     let cells : cells_needed bs (length cs) ≡ how_many (machine bs cs) = cells_are bs cs in
     notes_says bs cs a b (sized u) (omega arith) (rw cells)
@@ -92,7 +92,7 @@ few_notes_judged bs cs a b u few =
 pub record RowJudged (r : Row) (a b : List ℕ) : Type 0 where
   pub notes_now : List ℕ
   pub work_now : List ℕ
-  pub says : JudgeSays (image_of r.source) r.capture (Answer (judgement r.verdict r.readings r.end)) a notes_now b work_now
+  pub says : JudgeSays (image_of r.source) r.capture (Ok (judgement r.verdict r.readings r.end)) a notes_now b work_now
 
 pub row_judged :
     (r : Row) → RowHolds r → (a b : List ℕ) → how_many (row_machine r) ≤ length a → how_many (row_machine r) ≤ length b → RowJudged r a b

@@ -9,11 +9,11 @@ use Rattle.machine.specs.Replies.{verdict_number, refusal_reply, count_reply}
 use Rattle.codec.specs.Bytes.{section}
 use Rattle.image.specs.Image.{machine}
 use Rattle.image.specs.Refusals.{image_refusal}
-use Rattle.simulator.specs.declared.Judged.{Judged}
+use Rattle.simulator.specs.Answers.{Judged}
 use Rattle.simulator.specs.Calls.{judge_refusal, JudgeSays}
 use Rattle.simulator.specs.Replies.{of_judged}
-use Rattle.bundle.specs.declared.Report.{Report}
-use Rattle.bundle.specs.declared.Report.TheVariants.{Lines}
+use Rattle.bundle.specs.Answers.{Report}
+use Rattle.bundle.specs.Answers as answers
 use Rattle.bundle.specs.declared.Totals.{Totals}
 use Rattle.bundle.specs.Format.{count, pair_place, offset, long, end, capture, bundle_refusal, call_refusal}
 use Rattle.bundle.specs.Conditions.{BundleRow, CallRow}
@@ -97,7 +97,7 @@ BundleLater =
 -- the refusals' numbers are added up, where refusals are counted
 abbrev pub TotalsSum : Type 0
 TotalsSum =
-    (bs xs : List ℕ) (n : ℕ) (t : Totals) (l m a x b y : List ℕ) → BundleSays bs xs (Lines n t) l m a x b y →
+    (bs xs : List ℕ) (n : ℕ) (t : Totals) (l m a x b y : List ℕ) → BundleSays bs xs (answers.lines n t) l m a x b y →
     ((v : Verdict) →
     get_or (totals_cells t) (verdict_number v) 0
     ≡ sum_of_lines (count xs) verdict_cell (λ k. cond (eqb k (verdict_number v)) 1 0) m)
@@ -107,7 +107,7 @@ TotalsSum =
 -- refused lines are not counted
 abbrev pub TotalsWhole : Type 0
 TotalsWhole =
-    (bs xs : List ℕ) (n : ℕ) (t : Totals) (l m a x b y : List ℕ) → BundleSays bs xs (Lines n t) l m a x b y →
+    (bs xs : List ℕ) (n : ℕ) (t : Totals) (l m a x b y : List ℕ) → BundleSays bs xs (answers.lines n t) l m a x b y →
     (n ≡ count xs) × (t.accepted + t.ended + t.stuck + t.looping + t.halted ≡ count xs)
 
 -- the cell after the verdict's is tested

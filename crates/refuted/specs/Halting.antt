@@ -1,5 +1,5 @@
 -- Wrong neighbours of the promises of Halting.antt, each under its promise's name, with what is wrong in it. Assumes nothing: each is a type, and proofs/ has a proof that nothing is of it.
-use Rattle.std.specs.Prelude.{◌≡◌, List, ◌↔◌, ℕ, suc, ◌+◌, ◌<◌, ◌≤◌, length, take}
+use Rattle.std.specs.Prelude.{◌≡◌, List, ◌↔◌, ℕ, suc, ◌+◌, ◌<◌, ◌≤◌, length, take, Ok}
 use Rattle.std.proofs.Math.Option.{some}
 use Rattle.codec.specs.Bytes.{Bytes}
 use Rattle.machine.specs.declared.Config.{Config}
@@ -16,9 +16,8 @@ use Rattle.image.specs.Image.{Rule, states, classes, symbols, rule_at, rule_of, 
 use Rattle.image.specs.Refusals.{rule_bad}
 use Rattle.image.specs.Conditions.{RuleRight}
 use Rattle.image.specs.WithoutHalting.{rule_bad_before, action_before, AsBefore, MissingForHalting}
-use Rattle.simulator.specs.declared.Judged.TheVariants.{Answer}
 use Rattle.simulator.specs.Calls.{judgement, JudgeSays}
-use Rattle.interpreter.specs.declared.Ran.{Ran}
+use Rattle.interpreter.specs.Answers.{Ran}
 use Rattle.interpreter.specs.Calls.{run_refusal, RunSays}
 use Rattle.interpreter.specs.Replies.{of_ran}
 use Rattle.builder.specs.declared.Matching.{Matching}
@@ -42,13 +41,13 @@ LookupApart =
 -- of every configuration, not of the end alone
 abbrev pub HaltedExact : Type 0
 HaltedExact =
-    (bs cs a a_now b b_now : List ℕ) (v : Verdict) (n : ℕ) (d : Config) → Bytes cs → JudgeSays bs cs (Answer (judgement v n d)) a a_now b b_now →
+    (bs cs a a_now b b_now : List ℕ) (v : Verdict) (n : ℕ) (d : Config) → Bytes cs → JudgeSays bs cs (Ok (judgement v n d)) a a_now b b_now →
     (e : Config) → (v ≡ Halted) ↔ (Entered (machine bs cs) e × ((rule_of bs cs e).kind ≡ 4))
 
 -- stuck at a rule of kind 4
 abbrev pub StuckExact : Type 0
 StuckExact =
-    (bs cs a a_now b b_now : List ℕ) (v : Verdict) (n : ℕ) (d : Config) → Bytes cs → JudgeSays bs cs (Answer (judgement v n d)) a a_now b b_now →
+    (bs cs a a_now b b_now : List ℕ) (v : Verdict) (n : ℕ) (d : Config) → Bytes cs → JudgeSays bs cs (Ok (judgement v n d)) a a_now b b_now →
     (e : Config) → ((v ≡ Stuck) × (d ≡ e)) ↔ (Entered (machine bs cs) e × ((rule_of bs cs e).kind ≡ 4))
 
 -- the two machines exchanged
@@ -59,7 +58,7 @@ HaltedLikeStuck = (M : Machine) → LikeStuck (without_halting M) M
 abbrev pub JudgedLikeStuck : Type 0
 JudgedLikeStuck =
     (bs zs cs a a_now b b_now x x_now y y_now : List ℕ) (v w : Verdict) (n m : ℕ) (d e : Config) → Bytes cs → MissingForHalting bs zs →
-    JudgeSays bs cs (Answer (judgement v n d)) a a_now b b_now → JudgeSays zs cs (Answer (judgement w m e)) x x_now y y_now →
+    JudgeSays bs cs (Ok (judgement v n d)) a a_now b b_now → JudgeSays zs cs (Ok (judgement w m e)) x x_now y y_now →
     (w ≡ v) × (m ≡ n) × (e ≡ d) × (take (how_many (machine bs cs)) x_now ≡ take (how_many (machine bs cs)) a_now)
     × (take (how_many (machine bs cs)) y_now ≡ take (how_many (machine bs cs)) b_now)
 

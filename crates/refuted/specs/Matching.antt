@@ -1,5 +1,5 @@
 -- Wrong neighbours of the promises of Matching.antt, each under its promise's name, with what is wrong in it. Assumes nothing: each is a type, and proofs/ has a proof that nothing is of it.
-use Rattle.std.specs.Prelude.{◌≡◌, ◌&&◌, cond, List, ◌↔◌, ℕ, ◌+◌, ◌*◌, ◌<◌, ◌≤◌, ltb, eqb, length, get_or, take}
+use Rattle.std.specs.Prelude.{◌≡◌, ◌&&◌, cond, List, ◌↔◌, ℕ, ◌+◌, ◌*◌, ◌<◌, ◌≤◌, ltb, eqb, length, get_or, take, Ok}
 use Rattle.std.proofs.Math.Option.{Option, some}
 use Rattle.codec.specs.Bytes.{Bytes}
 use Rattle.machine.specs.declared.Config.{Config}
@@ -9,7 +9,6 @@ use Rattle.machine.specs.Run.{how_many}
 use Rattle.machine.specs.Verdicts.{Says, Noted, nonzero}
 use Rattle.image.specs.Format
 use Rattle.image.specs.Image.{machine, rule_at}
-use Rattle.simulator.specs.declared.Judged.TheVariants.{Answer}
 use Rattle.simulator.specs.Calls.{judgement, JudgeSays}
 use Rattle.grammar.specs.Grammar.{rules, expression, grammar_refusal}
 use Rattle.grammar.specs.Parsing.{Parses}
@@ -50,8 +49,8 @@ WholeThenLeading =
 abbrev pub JudgedWholeLeading : Type 0
 JudgedWholeLeading =
     (gs cs a a_now b b_now x x_now y y_now : List ℕ) (v : Verdict) (n m : ℕ) (d e : Config) → (grammar_refusal gs).number ≡ 0 → Bytes cs →
-    JudgeSays (built Leading gs) cs (Answer (judgement Accepted n d)) a a_now b b_now →
-    JudgeSays (built Whole gs) cs (Answer (judgement v m e)) x x_now y y_now → v ≡ Accepted
+    JudgeSays (built Leading gs) cs (Ok (judgement Accepted n d)) a a_now b b_now →
+    JudgeSays (built Whole gs) cs (Ok (judgement v m e)) x x_now y y_now → v ≡ Accepted
 
 -- it is the leading image that is as before
 abbrev pub WholeAsBefore : Type 0

@@ -1,5 +1,5 @@
 -- Wrong neighbours of the promises of Recursion.antt, each under its promise's name, with what is wrong in it. Assumes nothing: each is a type, and proofs/ has a proof that nothing is of it.
-use Rattle.std.specs.Prelude.{◌≡◌, Bool, true, ◌↔◌, ℕ, suc, ◌*◌, ◌<◌, length}
+use Rattle.std.specs.Prelude.{◌≡◌, Bool, true, ◌↔◌, ℕ, suc, ◌*◌, ◌<◌, length, Ok}
 use mathlib.Core.List.{List, [], ◌∷◌, Memᴰ}
 use Rattle.std.proofs.Math.Option.{Option, some}
 use Rattle.codec.specs.Bytes.{Bytes}
@@ -9,10 +9,9 @@ use Rattle.machine.specs.declared.Verdict.{Verdict}
 use Rattle.machine.specs.declared.Verdict.TheVariants.{Looping}
 use Rattle.machine.specs.Verdicts.{GoesOn}
 use Rattle.image.specs.Image.{machine}
-use Rattle.simulator.specs.declared.Judged.TheVariants.{Answer}
 use Rattle.simulator.specs.Calls.{judgement, JudgeSays}
 use Rattle.bundle.specs.declared.Totals.{Totals}
-use Rattle.bundle.specs.declared.Report.TheVariants.{Lines}
+use Rattle.bundle.specs.Answers as answers
 use Rattle.bundle.specs.Calls.{BundleSays}
 use Rattle.grammar.specs.Grammar.{rules, expression, grammar_refusal}
 use Rattle.grammar.specs.Parsing.{Rules, Parses}
@@ -69,7 +68,7 @@ NeverLooping = (gs cs : List ℕ) → (grammar_refusal gs).number ≡ 0 → Byte
 abbrev pub JudgedNotLooping : Type 0
 JudgedNotLooping =
     (how : Matching) (gs cs a a_now b b_now : List ℕ) (v : Verdict) (n : ℕ) (d : Config) → (grammar_refusal gs).number ≡ 0 → Bytes cs →
-    JudgeSays (built how gs) cs (Answer (judgement v n d)) a a_now b b_now → v ≡ Looping → ⊥
+    JudgeSays (built how gs) cs (Ok (judgement v n d)) a a_now b b_now → v ≡ Looping → ⊥
 
 -- the program's line for every grammar that 11 and 12 do not refuse
 abbrev pub LineNotLooping : Type 0
@@ -81,7 +80,7 @@ LineNotLooping =
 abbrev pub BundleNotLooping : Type 0
 BundleNotLooping =
     (how : Matching) (gs xs : List ℕ) (n : ℕ) (t : Totals) (l m a x b y : List ℕ) → (grammar_refusal gs).number ≡ 0 → Bytes xs →
-    BundleSays (built how gs) xs (Lines n t) l m a x b y → t.looping ≡ 0
+    BundleSays (built how gs) xs (answers.lines n t) l m a x b y → t.looping ≡ 0
 
 -- rule and offset swapped
 abbrev pub TextRecursionDetermined : Type 0
@@ -105,7 +104,7 @@ TypedResults =
 abbrev pub TextNotLooping : Type 0
 TextNotLooping =
     (text cs : List ℕ) (x y : Lent) (v : Verdict) (n : ℕ) (d : Config) → Bytes cs →
-    JudgeTextSays text cs (Answer (judgement v n d)) x y → v ≡ Looping → ⊥
+    JudgeTextSays text cs (Ok (judgement v n d)) x y → v ≡ Looping → ⊥
 
 -- a rule that leads back to itself as the check has it, not by what is tried first alone
 abbrev pub TriedFirstFails : Type 0

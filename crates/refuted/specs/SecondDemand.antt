@@ -1,5 +1,5 @@
 -- Wrong neighbours of the promises of SecondDemand.antt, each under its promise's name, with what is wrong in it. Assumes nothing: each is a type, and proofs/ has a proof that nothing is of it.
-use Rattle.std.specs.Prelude.{◌≡◌, true, ◌&&◌, ◌↔◌, ℕ, suc, ◌+◌, ◌*◌, ◌%◌, ◌<◌, ◌≤◌, leb, length}
+use Rattle.std.specs.Prelude.{◌≡◌, true, ◌&&◌, ◌↔◌, ℕ, suc, ◌+◌, ◌*◌, ◌%◌, ◌<◌, ◌≤◌, leb, length, Ok}
 use mathlib.Core.List.{List, Memᴰ, ◌++◌}
 use Rattle.std.proofs.Math.Option.{Option, none, some}
 use Rattle.machine.specs.declared.Config.{Config}
@@ -14,18 +14,16 @@ use Rattle.machine.specs.Verdicts.{Says, GoesOn, Distinct}
 use Rattle.machine.specs.VerdictRows.{config_at, ComesAgain}
 use Rattle.image.specs.Refusals.{Unrefused, image_refusal}
 use Rattle.machine.specs.Replies.{verdict_number, answer_reply}
-use Rattle.simulator.specs.declared.Judged.{Judged}
-use Rattle.simulator.specs.declared.Judged.TheVariants.{Answer}
+use Rattle.simulator.specs.Answers.{Judged}
 use Rattle.simulator.specs.Calls.{cells_needed, judgement, judge_refusal, JudgeSays}
 use Rattle.simulator.specs.Replies.{of_judged}
-use Rattle.interpreter.specs.declared.Ran.{Ran}
+use Rattle.interpreter.specs.Answers.{Ran}
 use Rattle.interpreter.specs.PlainRun.{RunEnd, run_on, TrueEnd}
 use Rattle.interpreter.specs.Calls.{run_refusal, RunSays}
 use Rattle.interpreter.specs.Replies.{exit_number, of_ran}
 use Rattle.builder.specs.declared.Matching.{Matching}
 use Rattle.builder.specs.declared.Matching.TheVariants.{Whole}
-use Rattle.builder.specs.declared.Built.{Built}
-use Rattle.builder.specs.declared.Built.TheVariants.{Image}
+use Rattle.builder.specs.Answers.{Built}
 use Rattle.grammar.specs.declared.Expression.TheVariants.{Not}
 use Rattle.grammar.specs.Grammar.{Inverted, rules, kind_of, b_of, c_of, kind_range, range_bytes, expression, grammar_refusal}
 use Rattle.grammar.specs.Parsing.{Parses}
@@ -49,18 +47,18 @@ abbrev pub JudgeAnswers : Type 0
 JudgeAnswers =
     (bs cs : List ℕ) (r : Judged) (a a_now b b_now : List ℕ) → (judge_refusal bs cs (length a) (length b)).number ≡ 0 →
     JudgeSays bs cs r a a_now b b_now →
-    (v : Verdict) × (n : ℕ) × (d : Config) × (r ≡ Answer (judgement v n d)) × (of_judged r ≡ answer_reply n (verdict_number v) d)
+    (v : Verdict) × (n : ℕ) × (d : Config) × (r ≡ Ok (judgement v n d)) × (of_judged r ≡ answer_reply n (verdict_number v) d)
 
 -- the verdict alone, at whatever end configuration
 abbrev pub JudgeExact : Type 0
 JudgeExact =
-    (bs cs a a_now b b_now : List ℕ) (v : Verdict) (n : ℕ) (d : Config) → Bytes cs → JudgeSays bs cs (Answer (judgement v n d)) a a_now b b_now →
+    (bs cs a a_now b b_now : List ℕ) (v : Verdict) (n : ℕ) (d : Config) → Bytes cs → JudgeSays bs cs (Ok (judgement v n d)) a a_now b b_now →
     (w : Verdict) (e : Config) → Says (machine bs cs) w e ↔ (w ≡ v)
 
 -- whatever is not accepted goes on for ever
 abbrev pub LoopingEndless : Type 0
 LoopingEndless =
-    (bs cs a a_now b b_now : List ℕ) (v : Verdict) (n : ℕ) (d : Config) → Bytes cs → JudgeSays bs cs (Answer (judgement v n d)) a a_now b b_now →
+    (bs cs a a_now b b_now : List ℕ) (v : Verdict) (n : ℕ) (d : Config) → Bytes cs → JudgeSays bs cs (Ok (judgement v n d)) a a_now b b_now →
     (v ≡ Accepted → ⊥) ↔ GoesOn (machine bs cs)
 
 -- of every grammar: the premise that it is not refused is dropped
@@ -129,7 +127,7 @@ abbrev pub BuildThenJudge : Type 0
 BuildThenJudge =
     (how : Matching) (gs cs image image_now notes notes_now work work_now : List ℕ) (b : Built) (r : Judged) → Enough how gs cs image notes work →
     BuildSays how gs b image image_now → JudgeSays image_now cs r notes notes_now work work_now →
-    (b ≡ Image (built_length gs)) × Gets how gs cs r
+    (b ≡ Ok (built_length gs)) × Gets how gs cs r
 
 -- with no cell too: the premise that there is one is dropped
 abbrev pub PlainRunTrue : Type 0

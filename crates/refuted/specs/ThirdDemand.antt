@@ -1,5 +1,5 @@
 -- Wrong neighbours of the promises of ThirdDemand.antt, each under its promise's name, with what is wrong in it. Assumes nothing: each is a type, and proofs/ has a proof that nothing is of it.
-use Rattle.std.specs.Prelude.{◌≡◌, List, ℕ, suc, ◌+◌, ◌*◌, ◌<◌, ◌≤◌, length, get_or, take, drop, replicate}
+use Rattle.std.specs.Prelude.{◌≡◌, List, ℕ, suc, ◌+◌, ◌*◌, ◌<◌, ◌≤◌, length, get_or, take, drop, replicate, Ok}
 use Rattle.std.proofs.Math.Option.{none, some}
 use Rattle.machine.specs.declared.Config.{Config}
 use Rattle.machine.specs.declared.Verdict.{Verdict}
@@ -14,7 +14,6 @@ use Rattle.image.specs.Refusals.{Unrefused}
 use Rattle.chain.specs.declared.JudgeState.{JudgeState}
 use Rattle.chain.specs.Chain.{ChainCorrect, start_in, environment_of, start_state, chain, reached}
 use Rattle.chain.specs.NumberKept.{NumberKept}
-use Rattle.simulator.specs.declared.Judged.TheVariants.{Answer}
 use Rattle.simulator.specs.Calls.{judgement, ChainEnds, JudgeSays}
 use Rattle.grammar.specs.Grammar.{rules, grammar_refusal}
 use Rattle.builder.specs.declared.Matching.TheVariants.{Whole}
@@ -23,7 +22,7 @@ use Rattle.builder.specs.Image.{built}
 -- READINGS: one reading too few, as if the start did not count
 abbrev pub ReadingsEntered : Type 0
 ReadingsEntered =
-    (bs cs a a_now b b_now : List ℕ) (v : Verdict) (n : ℕ) (d : Config) → Bytes cs → JudgeSays bs cs (Answer (judgement v n d)) a a_now b b_now →
+    (bs cs a a_now b b_now : List ℕ) (v : Verdict) (n : ℕ) (d : Config) → Bytes cs → JudgeSays bs cs (Ok (judgement v n d)) a a_now b b_now →
     AllEntered (machine bs cs) (suc n)
 
 -- the same number whatever the capture
@@ -34,7 +33,7 @@ OneCount =
 -- counted over all cells that are lent, not over the first N
 abbrev pub ReadingsNoted : Type 0
 ReadingsNoted =
-    (bs cs a a_now b b_now : List ℕ) (v : Verdict) (n : ℕ) (d : Config) → Bytes cs → JudgeSays bs cs (Answer (judgement v n d)) a a_now b b_now →
+    (bs cs a a_now b b_now : List ℕ) (v : Verdict) (n : ℕ) (d : Config) → Bytes cs → JudgeSays bs cs (Ok (judgement v n d)) a a_now b b_now →
     n ≡ nonzero (length a_now) a_now
 
 -- three configurations for each rule and place, where a rule has six
@@ -52,19 +51,19 @@ EnteredNumbered =
 -- in the cell after the configuration's own
 abbrev pub NotesLeft : Type 0
 NotesLeft =
-    (bs cs a a_now b b_now : List ℕ) (v : Verdict) (n : ℕ) (d : Config) → Bytes cs → JudgeSays bs cs (Answer (judgement v n d)) a a_now b b_now →
+    (bs cs a a_now b b_now : List ℕ) (v : Verdict) (n : ℕ) (d : Config) → Bytes cs → JudgeSays bs cs (Ok (judgement v n d)) a a_now b b_now →
     (c : Config) → Entered (machine bs cs) c → NoteRight (machine bs cs) c (note_of (get_or a_now (suc (number (machine bs cs) c)) 0))
 
 -- 0 for what has no terminator, entered or not
 abbrev pub OthersZero : Type 0
 OthersZero =
-    (bs cs a a_now b b_now : List ℕ) (v : Verdict) (n : ℕ) (d : Config) → Bytes cs → JudgeSays bs cs (Answer (judgement v n d)) a a_now b b_now →
+    (bs cs a a_now b b_now : List ℕ) (v : Verdict) (n : ℕ) (d : Config) → Bytes cs → JudgeSays bs cs (Ok (judgement v n d)) a a_now b b_now →
     (c : Config) → ValidConfig (machine bs cs) c → NoEnd (machine bs cs) c → get_or a_now (number (machine bs cs) c) 0 ≡ 0
 
 -- the cells as they were lent, not as they are left
 abbrev pub NotesTell : Type 0
 NotesTell =
-    (bs cs a a_now b b_now : List ℕ) (v : Verdict) (n : ℕ) (d : Config) → Bytes cs → JudgeSays bs cs (Answer (judgement v n d)) a a_now b b_now →
+    (bs cs a a_now b b_now : List ℕ) (v : Verdict) (n : ℕ) (d : Config) → Bytes cs → JudgeSays bs cs (Ok (judgement v n d)) a a_now b b_now →
     (m i : ℕ) (c : Config) (base : List Entry) → after m (machine bs cs) start ≡ some (over_base c i base) →
     NoteTells (machine bs cs) m i base (note_of (get_or a (number (machine bs cs) c) 0))
 
@@ -114,18 +113,18 @@ NumberAlong = NumberKept chain (λ s. suc s.registers.number) (λ s. s.registers
 -- all cells that are lent, not the first N
 abbrev pub JudgeByChain : Type 0
 JudgeByChain =
-    (bs cs a a_now b b_now : List ℕ) (v : Verdict) (n : ℕ) (d : Config) → Bytes cs → JudgeSays bs cs (Answer (judgement v n d)) a a_now b b_now →
+    (bs cs a a_now b b_now : List ℕ) (v : Verdict) (n : ℕ) (d : Config) → Bytes cs → JudgeSays bs cs (Ok (judgement v n d)) a a_now b b_now →
     ChainEnds bs cs v n d a_now
 
 -- two steps a reading, not four
 abbrev pub FewSteps : Type 0
 FewSteps =
-    (bs cs a a_now b b_now : List ℕ) (v : Verdict) (n : ℕ) (d : Config) → Bytes cs → JudgeSays bs cs (Answer (judgement v n d)) a a_now b b_now →
+    (bs cs a a_now b b_now : List ℕ) (v : Verdict) (n : ℕ) (d : Config) → Bytes cs → JudgeSays bs cs (Ok (judgement v n d)) a a_now b b_now →
     (k : ℕ) × (k ≤ 2 * n + 1) × (chain.verdict (reached chain bs cs k).state ≡ some v)
     × ((m : ℕ) → m < k → chain.verdict (reached chain bs cs m).state ≡ none)
 
 -- all work cells that are lent, not the first N
 abbrev pub WorkCleared : Type 0
 WorkCleared =
-    (bs cs a a_now b b_now : List ℕ) (v : Verdict) (n : ℕ) (d : Config) → Bytes cs → JudgeSays bs cs (Answer (judgement v n d)) a a_now b b_now →
+    (bs cs a a_now b b_now : List ℕ) (v : Verdict) (n : ℕ) (d : Config) → Bytes cs → JudgeSays bs cs (Ok (judgement v n d)) a a_now b b_now →
     b_now ≡ replicate (length b_now) 0

@@ -11,11 +11,11 @@ use Rattle.machine.specs.Verdicts.{Says}
 use Rattle.machine.specs.Replies.{refusal_reply}
 use Rattle.image.specs.Format.{max_capture}
 use Rattle.image.specs.Image.{machine}
-use Rattle.simulator.specs.declared.Judged.{Judged}
+use Rattle.simulator.specs.Answers.{Judged}
 use Rattle.simulator.specs.Replies.{of_judged}
 use Rattle.grammar.specs.Grammar.{max_rules, expression}
 use Rattle.builder.specs.declared.Matching.TheVariants.{Whole}
-use Rattle.builder.specs.declared.Built.{Built}
+use Rattle.builder.specs.Answers.{Built}
 use Rattle.builder.specs.Image.{built, built_length}
 use Rattle.builder.specs.Calls.{build_refusal}
 use Rattle.builder.specs.Replies.{of_built}

@@ -1,9 +1,9 @@
 -- What each call of the library returns and leaves: its contract in Rattle, told by numbers. Assumes nothing: these are definitions.
 use Rattle.std.specs.Prelude.{◌≡◌, List, ℕ}
-use Rattle.simulator.specs.declared.Judged.{Judged}
-use Rattle.interpreter.specs.declared.Ran.{Ran}
+use Rattle.simulator.specs.Answers.{Judged}
+use Rattle.interpreter.specs.Answers.{Ran}
 use Rattle.builder.specs.declared.Matching.{Matching}
-use Rattle.builder.specs.declared.Built.{Built}
+use Rattle.builder.specs.Answers.{Built}
 use Rattle.image.specs.Refusals.{image_refusal, capture_refusal}
 use Rattle.refusal.specs.Checking.{checked}
 use Rattle.machine.specs.Replies.{of_checked}
@@ -21,7 +21,7 @@ use Rattle.typed.specs.Calls.{BuildTextSays, JudgeTextSays}
 use Rattle.typed.specs.declared.left_recursion.TextRecursion.{TextRecursion}
 use Rattle.typed.specs.Recursion.{TextRecursionSays}
 use Rattle.typed.specs.Replies.{of_read, grammar_left, of_text_recursion}
-use Rattle.bundle.specs.declared.Report.{Report}
+use Rattle.bundle.specs.Answers.{Report}
 use Rattle.bundle.specs.Calls.{BundleSays}
 use Rattle.bundle.specs.Replies.{of_report, totals_left}
 use Rattle.sejimakpu.specs.Cells.{ReplyWritten}

@@ -1,4 +1,5 @@
 -- What the call's contract comes to where it answers, and where it refuses. Assumes nothing.
+use Rattle.std.specs.Prelude.{Err, Ok}
 use mathlib.Core.Path.{◌≡◌, refl, ap, ◌∙◌}
 use mathlib.Core.List.{List}
 use Prim.Native.Nat.{ℕ, zero, suc, ◌<◌}
@@ -14,8 +15,7 @@ use Rattle.image.specs.Image.{machine}
 use Rattle.image.specs.Refusals.{Unrefused, capture_refusal}
 use Rattle.refusal.proofs.Refused.{neither}
 use Rattle.image.proofs.CaptureRefused.{unrefused_by}
-use Rattle.simulator.specs.declared.Judged.{Judged}
-use Rattle.simulator.specs.declared.Judged.TheVariants.{Refused, Answer}
+use Rattle.simulator.specs.Answers.{Judged}
 use Rattle.simulator.specs.Calls.{judgement, judge_refusal, JudgedRight, JudgeAs, JudgeSays}
 
 right_as :
@@ -35,7 +35,7 @@ judged_right bs cs r a a_now b b_now e s =
 
 refused_as :
     (k : ℕ) (f : Refusal) (bs cs : List ℕ) (r : Judged) (a a_now b b_now : List ℕ) → (k ≡ 0 → ⊥) → JudgeAs k f bs cs r a a_now b b_now →
-    (r ≡ Refused f) × (a_now ≡ a) × (b_now ≡ b)
+    (r ≡ Err f) × (a_now ≡ a) × (b_now ≡ b)
 unfolding JudgeAs
 refused_as zero f bs cs r a a_now b b_now e s = absurd (e refl)
 refused_as (suc k) f bs cs r a a_now b b_now e s = s
@@ -43,7 +43,7 @@ refused_as (suc k) f bs cs r a a_now b b_now e s = s
 -- refused, the refusal is given and no cell changes
 pub judged_refused :
     (bs cs : List ℕ) (r : Judged) (a a_now b b_now : List ℕ) → ((judge_refusal bs cs (length a) (length b)).number ≡ 0 → ⊥) →
-    JudgeSays bs cs r a a_now b b_now → (r ≡ Refused (judge_refusal bs cs (length a) (length b))) × (a_now ≡ a) × (b_now ≡ b)
+    JudgeSays bs cs r a a_now b b_now → (r ≡ Err (judge_refusal bs cs (length a) (length b))) × (a_now ≡ a) × (b_now ≡ b)
 unfolding JudgeSays
 judged_refused bs cs r a a_now b b_now e s =
     refused_as (judge_refusal bs cs (length a) (length b)).number (judge_refusal bs cs (length a) (length b)) bs cs r a a_now b b_now e s
@@ -56,19 +56,19 @@ unrefused_capture bs cs a b e = (neither (capture_refusal bs (length cs)) _ (rec
 -- WHAT AN ANSWER COMES TO
 pub record Answered (bs cs : List ℕ) (v : Verdict) (n : ℕ) (d : Config) (a a_now b b_now : List ℕ) : Type 0 where
   pub unrefused : Unrefused bs cs
-  pub right : JudgedRight bs cs (Answer (judgement v n d)) a a_now b b_now
+  pub right : JudgedRight bs cs (Ok (judgement v n d)) a a_now b b_now
 
 answered_as :
     (k : ℕ) (f : Refusal) (bs cs a a_now b b_now : List ℕ) (v : Verdict) (n : ℕ) (d : Config) →
-    JudgeAs k f bs cs (Answer (judgement v n d)) a a_now b b_now → k ≡ 0
+    JudgeAs k f bs cs (Ok (judgement v n d)) a a_now b b_now → k ≡ 0
 unfolding JudgeAs
 answered_as zero f bs cs a a_now b b_now v n d s = refl
 answered_as (suc k) f bs cs a a_now b b_now v n d s =
-    let clash : Answer (judgement v n d) ≡ Refused f = s.0 in
+    let clash : Ok (judgement v n d) ≡ Err f = s.0 in
     absurd (let z : ◌≡◌ {A = ℕ} 0 1 = cc in omega arith)
 
 pub answered_fine :
-    (bs cs a a_now b b_now : List ℕ) (v : Verdict) (n : ℕ) (d : Config) → JudgeSays bs cs (Answer (judgement v n d)) a a_now b b_now →
+    (bs cs a a_now b b_now : List ℕ) (v : Verdict) (n : ℕ) (d : Config) → JudgeSays bs cs (Ok (judgement v n d)) a a_now b b_now →
     (judge_refusal bs cs (length a) (length b)).number ≡ 0
 unfolding JudgeSays
 answered_fine bs cs a a_now b b_now v n d s =
@@ -76,12 +76,12 @@ answered_fine bs cs a a_now b b_now v n d s =
 
 pub answered :
     (bs cs a a_now b b_now : List ℕ) (v : Verdict) (n : ℕ) (d : Config) → ((i : ℕ) → byte cs i < 256) →
-    JudgeSays bs cs (Answer (judgement v n d)) a a_now b b_now → Answered bs cs v n d a a_now b b_now
+    JudgeSays bs cs (Ok (judgement v n d)) a a_now b b_now → Answered bs cs v n d a a_now b b_now
 answered bs cs a a_now b b_now v n d bytes s =
     let e = answered_fine bs cs a a_now b b_now v n d s in
     record {
       unrefused = unrefused_by bs cs bytes (unrefused_capture bs cs (length a) (length b) e);
-      right = judged_right bs cs (Answer (judgement v n d)) a a_now b b_now e s;
+      right = judged_right bs cs (Ok (judgement v n d)) a a_now b b_now e s;
     }
 
 -- the cells after the first N are as they were, whatever the call says

@@ -1,4 +1,5 @@
 -- The call's answer and the cells that it leaves are determined by its input; earlier contents of the first N cells don't matter. Assumes nothing.
+use Rattle.std.specs.Prelude.{Ok}
 use mathlib.Core.Path.{◌≡◌, sym, ◌∙◌, ap, subst}
 use mathlib.Core.List.{List, ◌++◌}
 use Prim.Native.Nat.{ℕ, zero, suc}
@@ -11,8 +12,7 @@ use Rattle.image.specs.Image.{machine}
 use Rattle.machine.specs.Verdicts.{nonzero}
 use Rattle.machine.proofs.RightNotes.{one_notes}
 use Rattle.machine.proofs.OneVerdict.{one_verdict}
-use Rattle.simulator.specs.declared.Judged.{Judged}
-use Rattle.simulator.specs.declared.Judged.TheVariants.{Answer}
+use Rattle.simulator.specs.Answers.{Judged}
 use Rattle.simulator.specs.Calls.{judgement, JudgedRight, JudgeAs, JudgeSays, judge_refusal}
 
 -- two right answers for one image and capture, whatever the cells held before
@@ -33,7 +33,7 @@ same_answer bs cs a b a' b' r s x y x' y' f g =
     one_notes M f.notes g.notes f.right.noted g.right.noted f.right.noted_cells g.right.noted_cells
     in
     let readings : j.readings ≡ k.readings = f.right.counted ∙ ap (nonzero (how_many M)) notes ∙ sym g.right.counted in
-    let answers : Answer (judgement j.verdict j.readings j.end) ≡ Answer (judgement k.verdict k.readings k.end) =
+    let answers : Ok (judgement j.verdict j.readings j.end) ≡ Ok (judgement k.verdict k.readings k.end) =
     rw (verdicts, readings, ends)
     in
     record {

@@ -1,4 +1,5 @@
 -- Which refusal the call `judge` gives, by the tests that its code makes, and what its answer says then. Assumes nothing.
+use Rattle.std.specs.Prelude.{Err, Ok}
 use mathlib.Core.Path.{◌≡◌, refl, sym, ap, ◌∙◌}
 use mathlib.Core.List.{List, ◌++◌}
 use Prim.Native.Nat.{ℕ, zero, suc, ◌<◌, ◌≤◌}
@@ -16,8 +17,7 @@ use Rattle.refusal.specs.First.{refusal, no_refusal, or_else, refuse_if}
 use Rattle.image.specs.Format
 use Rattle.image.specs.Refusals.{image_refusal, capture_refusal}
 use Rattle.simulator.specs.declared.Judgement.{Judgement}
-use Rattle.simulator.specs.declared.Judged.{Judged}
-use Rattle.simulator.specs.declared.Judged.TheVariants.{Refused, Answer}
+use Rattle.simulator.specs.Answers.{Judged}
 use Rattle.simulator.specs.Code.Checked.{Checked, Sized}
 use Rattle.simulator.proofs.Needing.{cells_are}
 use Rattle.simulator.specs.Calls.{cells_needed, judge_refusal, JudgementRight, JudgedRight, JudgeAs, JudgeSays}
@@ -43,7 +43,7 @@ module _ (bs cs : List ℕ) (a b : ℕ) where
 
 -- what the call says: a refusal with its cells as they were, or a right answer
 pub as_refused :
-    (n : ℕ) → (n ≡ 0 → ⊥) → (bs cs x y : List ℕ) {r : Judged} {f : Refusal} → r ≡ Refused f → JudgeAs n f bs cs r x x y y
+    (n : ℕ) → (n ≡ 0 → ⊥) → (bs cs x y : List ℕ) {r : Judged} {f : Refusal} → r ≡ Err f → JudgeAs n f bs cs r x x y y
 unfolding JudgeAs
 as_refused zero h bs cs x y e = absurd (h refl)
 as_refused (suc n) h bs cs x y e = (e, refl, refl)
@@ -57,7 +57,7 @@ as_right (suc n) e f bs cs s = absurd (omega (arith, e))
 
 refused_says :
     (bs cs x y : List ℕ) {r : Judged} {f : Refusal} → judge_refusal bs cs (length x) (length y) ≡ f → (f.number ≡ 0 → ⊥) →
-    r ≡ Refused f → JudgeSays bs cs r x x y y
+    r ≡ Err f → JudgeSays bs cs r x x y y
 unfolding JudgeSays
 refused_says bs cs x y {r} {f} e h q = rw e (as_refused f.number h bs cs x y q)
 
@@ -88,33 +88,33 @@ module _ (bs : List ℕ) (n : ℕ) (good : (image_refusal bs).number ≡ 0) {f :
   sized cs e counted = record { no_refusal = rw (← e) length_fine; counted = rw (← e) counted }
 
 module _ (bs cs x y : List ℕ) {r : Judged} where
-  early_says : {f : Refusal} → f ≡ capture_refusal bs (length cs) → (f.number ≡ 0 → ⊥) → r ≡ Refused f → JudgeSays bs cs r x x y y
+  early_says : {f : Refusal} → f ≡ capture_refusal bs (length cs) → (f.number ≡ 0 → ⊥) → r ≡ Err f → JudgeSays bs cs r x x y y
   early_says {f} e some q =
       let h : (capture_refusal bs (length cs)).number ≡ 0 → ⊥ = λ z. some (ap (λ (g : Refusal). g.number) e ∙ z) in
       refused_says bs cs x y (cells_refused bs cs (length x) (length y) h ∙ sym e) some q
 
-  pub image_says : {f : Refusal} → f ≡ image_refusal bs → (f.number ≡ 0 → ⊥) → r ≡ Refused f → JudgeSays bs cs r x x y y
+  pub image_says : {f : Refusal} → f ≡ image_refusal bs → (f.number ≡ 0 → ⊥) → r ≡ Err f → JudgeSays bs cs r x x y y
   image_says {f} e some q = early_says (image_first bs (length cs) f e some) some q
 
   pub long_says :
       (image_refusal bs).number ≡ 0 → {f : Refusal} → f ≡ refuse_if (ltb Format.max_capture (length cs)) (refusal 7 (length cs)) →
-      (f.number ≡ 0 → ⊥) → r ≡ Refused f → JudgeSays bs cs r x x y y
+      (f.number ≡ 0 → ⊥) → r ≡ Err f → JudgeSays bs cs r x x y y
   long_says good {f} q some e = early_says (then_length bs (length cs) (image_refusal bs) refl good q) some e
 
   module _ {n : ℕ} (sized : Sized bs cs n) where
-    pub notes_says : length x < n → r ≡ Refused (refusal 8 n) → JudgeSays bs cs r x x y y
+    pub notes_says : length x < n → r ≡ Err (refusal 8 n) → JudgeSays bs cs r x x y y
     notes_says h q =
         let e : n ≡ how_many (machine bs cs) = enough_are sized in
         refused_says bs cs x y (notes_refused bs cs (length x) (length y) sized.no_refusal (omega arith)) (λ z. omega arith) (rw e at q)
 
-    pub work_says : n ≤ length x → length y < n → r ≡ Refused (refusal 9 n) → JudgeSays bs cs r x x y y
+    pub work_says : n ≤ length x → length y < n → r ≡ Err (refusal 9 n) → JudgeSays bs cs r x x y y
     work_says h k q =
         let e : n ≡ how_many (machine bs cs) = enough_are sized in
         refused_says bs cs x y (work_refused bs cs (length x) (length y) sized.no_refusal (omega arith) (omega arith)) (λ z. omega arith) (rw e at q)
 
     -- an answer over the lent part is one over the whole
     pub answer_says :
-        n ≤ length x → n ≤ length y → {x' y' : List ℕ} {j : Judgement} → r ≡ Answer j → JudgementRight bs cs j x' y' →
+        n ≤ length x → n ≤ length y → {x' y' : List ℕ} {j : Judgement} → r ≡ Ok j → JudgementRight bs cs j x' y' →
         JudgeSays bs cs r x (x' ++ drop n x) y (y' ++ drop n y)
     unfolding JudgeSays JudgeAs
     answer_says h k {x'} {y'} {j} q a =

@@ -1,4 +1,5 @@
 -- Judging by an image, and by the same one with missing rules for its halting ones: answers and cells differ in the verdict alone, stuck for halted. Assumes nothing.
+use Rattle.std.specs.Prelude.{Ok}
 use mathlib.Core.Path.{◌≡◌, sym, ap, subst, ◌∙◌}
 use mathlib.Core.List.{List}
 use Prim.Native.Nat.{ℕ, ◌<◌}
@@ -18,15 +19,14 @@ use Rattle.image.specs.Image.{machine}
 use Rattle.image.specs.WithoutHalting.{MissingForHalting}
 use Rattle.image.proofs.HaltingMissing.{machine_missing}
 use Rattle.image.proofs.Inside.{inside}
-use Rattle.simulator.specs.declared.Judged.TheVariants.{Answer}
 use Rattle.simulator.specs.Calls.{judgement, JudgeSays}
 use Rattle.simulator.proofs.Answered.{answered}
 use Rattle.simulator.proofs.JudgingRight.{readings_entered, first_notes, work_cleared, verdict_said}
 
 module _
     (bs zs cs a a_now b b_now x x_now y y_now : List ℕ) (v w : Verdict) (n m : ℕ) (d e : Config) (bytes : (i : ℕ) → byte cs i < 256)
-    (missing : MissingForHalting bs zs) (says : JudgeSays bs cs (Answer (judgement v n d)) a a_now b b_now)
-    (other : JudgeSays zs cs (Answer (judgement w m e)) x x_now y y_now)
+    (missing : MissingForHalting bs zs) (says : JudgeSays bs cs (Ok (judgement v n d)) a a_now b b_now)
+    (other : JudgeSays zs cs (Ok (judgement w m e)) x x_now y y_now)
   where
     same : without_halting (machine bs cs) ≡ machine zs cs
     same = sym (machine_missing bs zs cs missing bytes)

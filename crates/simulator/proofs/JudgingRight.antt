@@ -1,5 +1,6 @@
 -- What judging promises beyond its contract: every unrefused image and capture has a verdict, reported readings count the configurations entered,
 -- and the notes left speak of each of them. Assumes nothing.
+use Rattle.std.specs.Prelude.{Ok}
 use mathlib.Core.Path.{◌≡◌, sym, ap, subst, ◌∙◌}
 use mathlib.Core.List.{List, ◌++◌}
 use mathlib.Core.Logic.{◌↔◌}
@@ -28,8 +29,7 @@ use Rattle.machine.proofs.Terminates.{says_looping}
 use Rattle.machine.proofs.OneVerdict.{one_verdict, goes_on_loops}
 use Rattle.machine.proofs.Listing.{all_entered, one_count}
 use Rattle.simulator.specs.declared.Judgement.{Judgement}
-use Rattle.simulator.specs.declared.Judged.{Judged}
-use Rattle.simulator.specs.declared.Judged.TheVariants.{Answer}
+use Rattle.simulator.specs.Answers.{Judged}
 use Rattle.chain.specs.Chain.{chain, reached}
 use Rattle.simulator.specs.Calls.{judgement, ChainEnds, JudgedRight, JudgeSays}
 use Rattle.simulator.proofs.Answered.{answered}
@@ -40,7 +40,7 @@ verdict_there bs cs u =
     let j = chain_judges bs cs u in
     (j.verdict, chain.end (reached chain bs cs j.steps).state, j.says)
 
-answer_same : {v w : Verdict} {n m : ℕ} {d e : Config} → Answer (judgement v n d) ≡ Answer (judgement w m e) → (v ≡ w) × (n ≡ m) × (d ≡ e)
+answer_same : {v w : Verdict} {n m : ℕ} {d e : Config} → Ok (judgement v n d) ≡ Ok (judgement w m e) → (v ≡ w) × (n ≡ m) × (d ≡ e)
 answer_same {v} {w} {n} {m} {d} {e} q =
     let same : judgement v n d ≡ judgement w m e = cc in (
       ap (λ (j : Judgement). j.verdict) same,
@@ -58,7 +58,7 @@ chain_as bs cs v w n m d e ns ms p q r s x = rw (p, q, r, s) x
 
 pub readings_entered :
     (bs cs a a_now b b_now : List ℕ) (v : Verdict) (n : ℕ) (d : Config) → ((i : ℕ) → byte cs i < 256) →
-    JudgeSays bs cs (Answer (judgement v n d)) a a_now b b_now → AllEntered (machine bs cs) n
+    JudgeSays bs cs (Ok (judgement v n d)) a a_now b b_now → AllEntered (machine bs cs) n
 readings_entered bs cs a a_now b b_now v n d bytes says =
     let x = answered bs cs a a_now b b_now v n d bytes says in
     let same : n ≡ x.right.judgement.readings = (answer_same x.right.answers).1 in
@@ -74,7 +74,7 @@ entered_numbered bs cs u c e = let t = entered_there (inside bs cs u) c e in (t,
 -- THE NOTES THAT A CALL LEAVES
 module _
     (bs cs a a_now b b_now : List ℕ) (v : Verdict) (n : ℕ) (d : Config) (bytes : (i : ℕ) → byte cs i < 256)
-    (says : JudgeSays bs cs (Answer (judgement v n d)) a a_now b b_now)
+    (says : JudgeSays bs cs (Ok (judgement v n d)) a a_now b b_now)
   where
     cell : (c : Config) → ValidConfig (machine bs cs) c → NoteRight (machine bs cs) c (note_of (get_or a_now (number (machine bs cs) c) 0))
     cell c t =
@@ -147,7 +147,7 @@ module _
 -- what is known of the run is what a right answer says
 pub answer_known :
     (bs cs : List ℕ) → Unrefused bs cs → (v : Verdict) (n : ℕ) (d : Config) → Says (machine bs cs) v d → AllEntered (machine bs cs) n →
-    (r : Judged) (a a_now b b_now : List ℕ) → JudgedRight bs cs r a a_now b b_now → r ≡ Answer (judgement v n d)
+    (r : Judged) (a a_now b b_now : List ℕ) → JudgedRight bs cs r a a_now b b_now → r ≡ Ok (judgement v n d)
 answer_known bs cs u v n d says entered r a a_now b b_now right =
     let M = machine bs cs in
     let there = entered_there (inside bs cs u) in

@@ -7,7 +7,7 @@ use lib.ListN.{length, drop, length-replicate}
 use lib.Seq.{length-take-le, length_front}
 use Rattle.machine.specs.Run.{how_many}
 use Rattle.image.specs.Image.{machine}
-use Rattle.simulator.specs.declared.Judged.{Judged}
+use Rattle.simulator.specs.Answers.{Judged}
 use Rattle.simulator.specs.Calls.{judge_refusal, JudgeSays}
 use Rattle.simulator.proofs.Answered.{judged_right, judged_refused}
 use Rattle.simulator.proofs.ConditionsMet.{judging_check}

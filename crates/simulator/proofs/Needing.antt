@@ -1,4 +1,5 @@
 -- How many cells judging needs, by the capture's length alone; and the answer of the call `cells`, by its tests. Assumes nothing.
+use Rattle.std.specs.Prelude.{Err, Ok}
 use mathlib.Core.Path.{◌≡◌, refl, ap}
 use mathlib.Core.List.{List}
 use Prim.Native.Nat.{ℕ, ◌+◌, ◌*◌, ◌≤◌}
@@ -10,8 +11,7 @@ use Rattle.image.specs.Format
 use Rattle.machine.specs.Run.{how_many}
 use Rattle.image.specs.Image.{machine, states, symbols}
 use Rattle.image.specs.Refusals.{image_refusal, Unrefused}
-use Rattle.simulator.specs.declared.Needs.{Needs}
-use Rattle.simulator.specs.declared.Needs.TheVariants.{Cells, Refused}
+use Rattle.simulator.specs.Answers.{Needs}
 use Rattle.simulator.specs.Calls.{cells_needed, needs}
 use Rattle.chain.proofs.StepSafe.{few_cells, few_places}
 use Rattle.chain_theory.proofs.Finish.{zeros}
@@ -39,13 +39,13 @@ module _ (bs : List ℕ) (n : ℕ) (g : (image_refusal bs).number ≡ 0) (s : n 
 
 -- the answer of the call
 module _ (f : Refusal) (n : ℕ) where
-  pub needs_none : (f.number ≡ 0 → ⊥) → Refused f ≡ needs f n
+  pub needs_none : (f.number ≡ 0 → ⊥) → Err f ≡ needs f n
   unfolding needs
   needs_none h = rw (ne_eqb _ _ h)
 
-  pub needs_cells : f.number ≡ 0 → {k : ℕ} → k ≡ n → Cells k ≡ needs f n
+  pub needs_cells : f.number ≡ 0 → {k : ℕ} → k ≡ n → Ok k ≡ needs f n
   unfolding needs
-  needs_cells h q = rw (eq-eqb _ _ h) (ap Cells q)
+  needs_cells h q = rw (eq-eqb _ _ h) (ap Ok q)
 
 pub needs_as : {f g : Refusal} (n : ℕ) {r : Needs} → f ≡ g → r ≡ needs f n → r ≡ needs g n
 needs_as n e h = rw (← e) h

@@ -1,4 +1,5 @@
 -- Judging says halted and stuck just where the run comes to a rule that halts it or to a missing one, by the rule's kind. Assumes nothing.
+use Rattle.std.specs.Prelude.{Ok}
 use mathlib.Core.Path.{◌≡◌, sym}
 use mathlib.Core.List.{List}
 use mathlib.Core.Logic.{◌↔◌}
@@ -16,14 +17,13 @@ use Rattle.machine.proofs.Terminates.{stops_there}
 use Rattle.image.specs.Image.{rule_of, class_under, action, machine}
 use Rattle.image.proofs.Rules.{rule_right}
 use Rattle.image.proofs.HaltingRules.{lookup_apart}
-use Rattle.simulator.specs.declared.Judged.TheVariants.{Answer}
 use Rattle.simulator.specs.Calls.{judgement, JudgeSays}
 use Rattle.simulator.proofs.Answered.{answered}
 use Rattle.simulator.proofs.JudgingRight.{entered_numbered, verdict_exact}
 
 module _
     (bs cs a a_now b b_now : List ℕ) (v : Verdict) (n : ℕ) (d : Config) (bytes : (i : ℕ) → byte cs i < 256)
-    (says : JudgeSays bs cs (Answer (judgement v n d)) a a_now b b_now)
+    (says : JudgeSays bs cs (Ok (judgement v n d)) a a_now b b_now)
   where
     -- by what the rule does
     stops_exact : (r : Reason) (e : Config) → ((v ≡ stop_verdict r) × (d ≡ e)) ↔ (Entered (machine bs cs) e × ((machine bs cs).action e ≡ Stop r))

@@ -1,5 +1,5 @@
 -- What the calls `cells` and `judge` answer, and what judging leaves in the lent cells. Assumes nothing: these are definitions.
-use Rattle.std.specs.Prelude.{◌≡◌, List, ◌++◌, cond, ℕ, zero, suc, ◌+◌, ◌*◌, ◌<◌, ◌≤◌, ltb, eqb, length, drop, replicate}
+use Rattle.std.specs.Prelude.{◌≡◌, List, ◌++◌, cond, ℕ, zero, suc, ◌+◌, ◌*◌, ◌<◌, ◌≤◌, ltb, eqb, length, drop, replicate, Err, Ok}
 use Rattle.std.proofs.Math.Option.{none, some}
 use Rattle.machine.specs.declared.Config.{Config}
 use Rattle.refusal.specs.declared.Refusal.{Refusal}
@@ -9,11 +9,9 @@ use Rattle.image.specs.Image.{machine, states, symbols}
 use Rattle.machine.specs.Verdicts.{Says, Noted, nonzero}
 use Rattle.refusal.specs.First.{refusal, or_else, refuse_if}
 use Rattle.image.specs.Refusals.{capture_refusal}
-use Rattle.simulator.specs.declared.Needs.{Needs}
-use Rattle.simulator.specs.declared.Needs.TheVariants.{Cells, Refused as Unneeded}
+use Rattle.simulator.specs.Answers.{Needs}
 use Rattle.simulator.specs.declared.Judgement.{Judgement}
-use Rattle.simulator.specs.declared.Judged.{Judged}
-use Rattle.simulator.specs.declared.Judged.TheVariants.{Refused, Answer}
+use Rattle.simulator.specs.Answers.{Judged}
 use Rattle.chain.specs.Chain.{reached, chain}
 
 -- N, for an image and a capture of n bytes
@@ -22,7 +20,7 @@ cells_needed bs n = states bs * (n + 2) * symbols bs
 
 -- THE CALL `cells`
 unfoldable pub needs : Refusal → (cells : ℕ) → Needs
-needs f n = cond (eqb f.number 0) (Cells n) (Unneeded f)
+needs f n = cond (eqb f.number 0) (Ok n) (Err f)
 
 -- judging refuses by 1 to 7, 8 and 9, the lowest first
 unfoldable pub judge_refusal : (image capture : List ℕ) → (notes work : ℕ) → Refusal
@@ -58,7 +56,7 @@ pub record JudgedRight (bs cs : List ℕ) (r : Judged) (a a_now b b_now : List �
   pub judgement : Judgement
   pub notes : List ℕ
   pub work : List ℕ
-  pub answers : r ≡ Answer judgement
+  pub answers : r ≡ Ok judgement
   pub right : JudgementRight bs cs judgement notes work
   pub notes_now : a_now ≡ notes ++ drop (how_many (machine bs cs)) a
   pub work_now : b_now ≡ work ++ drop (how_many (machine bs cs)) b
@@ -66,7 +64,7 @@ pub record JudgedRight (bs cs : List ℕ) (r : Judged) (a a_now b b_now : List �
 -- a refusal changes no cell
 unfoldable pub JudgeAs : (number : ℕ) → Refusal → (bs cs : List ℕ) → Judged → (a a_now b b_now : List ℕ) → Type 0
 JudgeAs zero f bs cs r a x b y = JudgedRight bs cs r a x b y
-JudgeAs (suc n) f bs cs r a x b y = (r ≡ Refused f) × (x ≡ a) × (y ≡ b)
+JudgeAs (suc n) f bs cs r a x b y = (r ≡ Err f) × (x ≡ a) × (y ≡ b)
 
 unfoldable pub JudgeSays : (image capture : List ℕ) → Judged → (a a_now b b_now : List ℕ) → Type 0
 JudgeSays bs cs r a x b y =

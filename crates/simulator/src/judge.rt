@@ -4,7 +4,6 @@ ghost use Rattle.refusal.specs.declared.Refusal.{Refusal};
 ghost use Rattle.image.specs.Format.{max_capture};
 ghost use Rattle.image.specs.Refusals.{image_refusal, capture_refusal};
 ghost use Rattle.refusal.specs.First.{refusal};
-ghost use Rattle.simulator.specs.declared.Judged.TheVariants.{Refused};
 ghost use Rattle.chain.specs.Chain.{start_in, environment_by};
 ghost use Rattle.simulator.specs.Calls.{cells_needed, needs, JudgementRight, JudgeSays};
 ghost use Rattle.simulator.specs.Code.Checked.{FewEnough, Checked, Cleared, Sized};
@@ -116,15 +115,15 @@ pub fn cells(image: &[u8], n: usize) -> Needs
 {
     let refusal = capture_refusal(image, n);
     if refusal.number != 0 {
-        return Needs::Refused(refusal);
+        return Needs::Err(refusal);
     }
     Needs::Cells(cells_needed(image, n))
 }
 
 fn refused(number: u32, place: usize) -> Judged
-    ensures { result ≡ Refused (refusal number place) }
+    ensures { result ≡ Err (refusal number place) }
 {
-    Judged::Refused(Refusal { number, place })
+    Judged::Err(Refusal { number, place })
 }
 
 // Judging of checked input that needs so many cells: the lent ones are checked.
@@ -158,7 +157,7 @@ pub fn judge_by_checked(image: &[u8], capture: &[u8], notes: &mut [u32], work: &
     let long = capture.len();
     let refusal = length_refusal(long);
     if refusal.number != 0 {
-        return Judged::Refused(refusal);
+        return Judged::Err(refusal);
     }
     judge_sized(image, capture, cells_needed(image, long), notes, work)
 }
@@ -170,7 +169,7 @@ pub fn judge(image: &[u8], capture: &[u8], notes: &mut [u32], work: &mut [u32]) 
 {
     let refusal = first_refusal(image);
     if refusal.number != 0 {
-        return Judged::Refused(refusal);
+        return Judged::Err(refusal);
     }
     judge_by_checked(image, capture, notes, work)
 }

@@ -1,14 +1,13 @@
 -- The calls on a text: what they refuse, that their answers follow from the text and what was lent, and that earlier contents don't matter. Assumes nothing.
+use Rattle.std.specs.Prelude.{Err}
 use mathlib.Core.Path.{◌≡◌, refl, sym, ap, subst, ◌∙◌}
 use mathlib.Core.List.{List, ◌++◌}
 use Prim.Native.Nat.{ℕ}
 use lib.ListN.{length, take, drop}
 use Rattle.refusal.specs.declared.Refusal.{Refusal}
-use Rattle.simulator.specs.declared.Judged.{Judged}
-use Rattle.simulator.specs.declared.Judged.TheVariants.{Refused as Unjudged}
+use Rattle.simulator.specs.Answers.{Judged}
 use Rattle.simulator.specs.Calls.{JudgeSays}
-use Rattle.builder.specs.declared.Built.{Built}
-use Rattle.builder.specs.declared.Built.TheVariants.{Refused as Unbuilt}
+use Rattle.builder.specs.Answers.{Built}
 use Rattle.builder.specs.declared.Matching.TheVariants.{Whole}
 use Rattle.builder.specs.Image.{built, built_length}
 use Rattle.builder.specs.Calls.{build_refusal, BuildSays}
@@ -23,8 +22,8 @@ use Rattle.typed.proofs.ReadRight.{one_grammar, one_refusal, not_both}
 -- BUILDING, where the text is refused and where it is read
 module _ {text : List ℕ} where
   build_unread :
-      {r : Built} {a x : List ℕ} (f : Refusal) → ReadSays text (Refused f) → BuildTextSays text r a x → (r ≡ Unbuilt f) × (x ≡ a)
-  build_unread f s (unread t) = (ap Unbuilt (one_refusal text _ f t s), refl)
+      {r : Built} {a x : List ℕ} (f : Refusal) → ReadSays text (Refused f) → BuildTextSays text r a x → (r ≡ Err f) × (x ≡ a)
+  build_unread f s (unread t) = (ap Err (one_refusal text _ f t s), refl)
   build_unread f s (read t b) = absurd (not_both text _ f s t)
 
   build_read : {r : Built} {a x : List ℕ} (gs : List ℕ) → ReadSays text (Grammar gs) → BuildTextSays text r a x → BuildSays Whole gs r a x
@@ -38,7 +37,7 @@ build_text_determined text a r s x y p (read {gs = gs} t b) = build_determined W
 
 pub build_text_refused :
     (text : List ℕ) (r : Built) (a x : List ℕ) (f : Refusal) → BuildTextSays text r a x → BuildTextRefused text (length a) f →
-    (r ≡ Unbuilt f) × (x ≡ a)
+    (r ≡ Err f) × (x ≡ a)
 build_text_refused text r a x f p (text_refused t) = build_unread f t p
 build_text_refused text r a x f p (room_refused {gs = gs} t h) = build_refused Whole gs r a x h (build_read gs t p)
 
@@ -59,8 +58,8 @@ build_text_independent text r s a b x y l p q =
 -- JUDGING
 judge_unread :
     {text cs : List ℕ} {r : Judged} {x y : Lent} (f : Refusal) → ReadSays text (Refused f) → JudgeTextSays text cs r x y →
-    (r ≡ Unjudged f) × (y ≡ x)
-judge_unread {text} f s (unread t) = (ap Unjudged (one_refusal text _ f t s), refl)
+    (r ≡ Err f) × (y ≡ x)
+judge_unread {text} f s (unread t) = (ap Err (one_refusal text _ f t s), refl)
 judge_unread {text} f s (refused t h) = absurd (not_both text _ f s t)
 judge_unread {text} f s (judged t z m j) = absurd (not_both text _ f s t)
 
@@ -71,13 +70,13 @@ pub record GrammarJudged (gs cs : List ℕ) (r : Judged) (x y : Lent) : Type 0 w
   pub judges : JudgeSays (built Whole gs) cs r x.notes y.notes x.work y.work
 
 data Judging (gs cs : List ℕ) (r : Judged) (x y : Lent) : Type 0 where
-  stopped : ((lent_refusal gs cs x).number ≡ 0 → ⊥) → r ≡ Unjudged (lent_refusal gs cs x) → y ≡ x → Judging gs cs r x y
+  stopped : ((lent_refusal gs cs x).number ≡ 0 → ⊥) → r ≡ Err (lent_refusal gs cs x) → y ≡ x → Judging gs cs r x y
   answered : GrammarJudged gs cs r x y → Judging gs cs r x y
 
 judging : {text cs : List ℕ} {r : Judged} {x y : Lent} (gs : List ℕ) → ReadSays text (Grammar gs) → JudgeTextSays text cs r x y → Judging gs cs r x y
 judging {text} gs s (unread t) = absurd (not_both text gs _ t s)
 judging {text} {cs} gs s (refused {gs = hs} {x = x} t h) =
-    subst (λ (ks : List ℕ). Judging ks cs (Unjudged (lent_refusal hs cs x)) x x) (one_grammar text hs gs t s) (stopped h refl refl)
+    subst (λ (ks : List ℕ). Judging ks cs (Err (lent_refusal hs cs x)) x x) (one_grammar text hs gs t s) (stopped h refl refl)
 judging {text} {cs} {r} {x} {y} gs s (judged t z m j) =
     subst (λ (hs : List ℕ). Judging hs cs r x y) (one_grammar text _ gs t s) (answered (record { unrefused = z; image_now = m; judges = j }))
 
@@ -92,16 +91,16 @@ judge_read {cs = cs} {r = r} {x = x} {y = y} gs s z p = go (judging gs s p)
 
 judge_stopped :
     {text cs : List ℕ} {r : Judged} {x y : Lent} (gs : List ℕ) → ReadSays text (Grammar gs) → ((lent_refusal gs cs x).number ≡ 0 → ⊥) →
-    JudgeTextSays text cs r x y → (r ≡ Unjudged (lent_refusal gs cs x)) × (y ≡ x)
+    JudgeTextSays text cs r x y → (r ≡ Err (lent_refusal gs cs x)) × (y ≡ x)
 judge_stopped {cs = cs} {r = r} {x = x} {y = y} gs s h p = go (judging gs s p)
   where
-    go : Judging gs cs r x y → (r ≡ Unjudged (lent_refusal gs cs x)) × (y ≡ x)
+    go : Judging gs cs r x y → (r ≡ Err (lent_refusal gs cs x)) × (y ≡ x)
     go (stopped k e q) = (e, q)
     go (answered g) = absurd (h g.unrefused)
 
 pub judge_text_refused :
     (text cs : List ℕ) (r : Judged) (x y : Lent) (f : Refusal) → JudgeTextSays text cs r x y → JudgeTextRefused text cs x f →
-    (r ≡ Unjudged f) × (y ≡ x)
+    (r ≡ Err f) × (y ≡ x)
 judge_text_refused text cs r x y f p (text_refused t) = judge_unread f t p
 judge_text_refused text cs r x y f p (lent_refused {gs = gs} t h) = judge_stopped gs t h p
 
@@ -135,7 +134,7 @@ same_answer :
     {text cs : List ℕ} {x y z w : Lent} {r s : Judged} → SameRoom x z → JudgeTextSays text cs r x y → JudgeTextSays text cs s z w → r ≡ s
 same_answer room p (unread {f = f} t) = (judge_unread f t p).0
 same_answer {cs = cs} room p (refused {gs = gs} t h) =
-    (judge_stopped gs t (λ n. h (sym (same_number gs cs room) ∙ n)) p).0 ∙ ap Unjudged (same_refusal gs cs room)
+    (judge_stopped gs t (λ n. h (sym (same_number gs cs room) ∙ n)) p).0 ∙ ap Err (same_refusal gs cs room)
 same_answer {cs = cs} room p (judged {gs = gs} t n m j) = (both_judged gs cs room t (same_number gs cs room ∙ n) p (judged t n m j)).0
 
 pub judge_text_independent :

@@ -12,7 +12,7 @@ use Rattle.machine.specs.declared.Verdict.TheVariants.{Accepted, Ended, Stuck, L
 use Rattle.machine.specs.Verdicts.{Says}
 use Rattle.image.specs.Format
 use Rattle.image.specs.Image.{machine}
-use Rattle.simulator.specs.declared.Judged.{Judged}
+use Rattle.simulator.specs.Answers.{Judged}
 use Rattle.simulator.specs.Calls.{JudgedRight}
 use Rattle.simulator.proofs.Answered.{judged_right}
 use Rattle.grammar.specs.Grammar.{expression}

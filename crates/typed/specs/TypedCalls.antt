@@ -1,5 +1,5 @@
 -- What a user gets who judges a capture by a grammar as text. Assumes nothing: these are definitions.
-use Rattle.std.specs.Prelude.{◌≡◌, List, ◌∷◌, ℕ, ◌+◌, ◌*◌, ◌≤◌, length}
+use Rattle.std.specs.Prelude.{◌≡◌, List, ◌∷◌, ℕ, ◌+◌, ◌*◌, ◌≤◌, length, Ok}
 use Rattle.std.proofs.Math.Option.{Option, none, some}
 use Rattle.codec.specs.Bytes.{Bytes}
 use Rattle.machine.specs.declared.Config.{Config}
@@ -8,8 +8,7 @@ use Rattle.machine.specs.declared.Verdict.TheVariants.{Accepted, Ended, Stuck, L
 use Rattle.machine.specs.Run.{how_many}
 use Rattle.image.specs.Format
 use Rattle.image.specs.Image.{machine}
-use Rattle.simulator.specs.declared.Judged.{Judged}
-use Rattle.simulator.specs.declared.Judged.TheVariants.{Answer}
+use Rattle.simulator.specs.Answers.{Judged}
 use Rattle.simulator.specs.Calls.{judgement}
 use Rattle.grammar.specs.Grammar.{rules, grammar_refusal}
 use Rattle.builder.specs.declared.Matching.{Matching}
@@ -53,7 +52,7 @@ pub record TypedGets (text cs : List ℕ) (r : Judged) : Type 0 where
   pub verdict : Verdict
   pub readings : ℕ
   pub end : Config
-  pub answers : r ≡ Answer (judgement verdict readings end)
+  pub answers : r ≡ Ok (judgement verdict readings end)
   pub meant : AsTyped Whole first rest cs verdict
   pub only : (v : Verdict) → AsTyped Whole first rest cs v → v ≡ verdict
   pub few : readings ≤ 6 * needs (first ∷ rest) * (length cs + 1) + 2

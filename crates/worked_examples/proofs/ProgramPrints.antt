@@ -1,4 +1,5 @@
 -- The program prints C5's line: nothing refuses its 20 bytes, and what judging answers is the table's row. Assumes nothing.
+use Rattle.std.specs.Prelude.{Ok}
 use mathlib.Core.Path.{◌≡◌, refl, sym, ap, ◌∙◌}
 use mathlib.Core.Option.{none}
 use mathlib.Core.List.{List, [], ◌∷◌}
@@ -12,8 +13,7 @@ use Rattle.image.specs.Image.{machine, states, classes, symbols, rule_from}
 use Rattle.image.specs.Encoding.{header, rule_bytes, rules_bytes, encode}
 use Rattle.refusal.specs.First.{or_else, refuse_if}
 use Rattle.image.specs.Refusals.{pair_is, directory, counts, count_wrong, map_from, move_off, rule_bad, index_class, rule_count, image_refusal, capture_refusal, rules_refusal_from}
-use Rattle.simulator.specs.declared.Judged.{Judged}
-use Rattle.simulator.specs.declared.Judged.TheVariants.{Answer}
+use Rattle.simulator.specs.Answers.{Judged}
 use Rattle.simulator.specs.Calls.{judge_refusal, judgement, JudgedRight}
 use Rattle.simulator.proofs.Answered.{judged_right}
 use Rattle.simulator.proofs.JudgingRight.{answer_known}
@@ -66,7 +66,7 @@ unfolding table grammar_rows
 endless_row = fifth examples_hold
 
 answer_is :
-    (r : Judged) (a a_now b b_now : List ℕ) → JudgedRight (built Whole endless_grammar) [] r a a_now b b_now → r ≡ Answer (judgement Looping 2 (config 1 1 1))
+    (r : Judged) (a a_now b b_now : List ℕ) → JudgedRight (built Whole endless_grammar) [] r a a_now b b_now → r ≡ Ok (judgement Looping 2 (config 1 1 1))
 unfolding row_machine image_of
 answer_is r a a_now b b_now right =
     answer_known (built Whole endless_grammar) [] endless_row.unrefused Looping 2 (config 1 1 1) endless_row.says endless_row.entered
@@ -81,7 +81,7 @@ line_of x y out line room s =
     judged_right (built Whole (input_grammar endless_input)) (input_capture endless_input) j.judged x.notes y.notes x.work y.work
     (input_fine endless_input x none_refused).1 j.judges
     in
-    let known : j.judged ≡ Answer (judgement Looping 2 (config 1 1 1)) =
+    let known : j.judged ≡ Ok (judgement Looping 2 (config 1 1 1)) =
     answer_is j.judged x.notes y.notes x.work y.work (rw (parts.0, parts.1) at right) in
     j.says ∙ ap judged_line known ∙ line_is
 

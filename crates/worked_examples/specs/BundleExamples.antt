@@ -1,12 +1,11 @@
 -- Bundles with their refusals, as a table, and five lines of a report: what the definitions compute is promised of them. Assumes nothing: these are definitions.
-use Rattle.std.specs.Prelude.{◌≡◌, List, [], ◌∷◌, ◌++◌, ℕ, take}
+use Rattle.std.specs.Prelude.{◌≡◌, List, [], ◌∷◌, ◌++◌, ℕ, take, Err, Ok}
 use Rattle.codec.specs.Numbers.{little_endian, pair, pair_bytes}
 use Rattle.refusal.specs.declared.Refusal.{Refusal}
 use Rattle.refusal.specs.First.{refusal, no_refusal}
 use Rattle.machine.specs.declared.Verdict.TheVariants.{Accepted, Stuck, Halted}
 use Rattle.machine.specs.Run.{config}
-use Rattle.simulator.specs.declared.Judged.{Judged}
-use Rattle.simulator.specs.declared.Judged.TheVariants.{Refused, Answer}
+use Rattle.simulator.specs.Answers.{Judged}
 use Rattle.simulator.specs.Calls.{judgement}
 use Rattle.bundle.specs.Format.{bundle_refusal}
 
@@ -45,7 +44,7 @@ bundle_table =
 -- two accepted, one stuck, one halted, one refused; two of them have as many readings as 32 bits hold
 unfoldable pub five_lines : List Judged
 five_lines =
-    Answer (judgement Accepted 3 (config 2 1 0)) ∷ Answer (judgement Stuck 4294967295 (config 3 1 0)) ∷ Refused (refusal 8 30)
-    ∷ Answer (judgement Accepted 4294967295 (config 2 2 0))
-    ∷ Answer (judgement Halted 2 (config 0 1 0))
+    Ok (judgement Accepted 3 (config 2 1 0)) ∷ Ok (judgement Stuck 4294967295 (config 3 1 0)) ∷ Err (refusal 8 30)
+    ∷ Ok (judgement Accepted 4294967295 (config 2 2 0))
+    ∷ Ok (judgement Halted 2 (config 0 1 0))
     ∷ []

@@ -2,7 +2,7 @@
 use Rattle.std.specs.Prelude.{◌≡◌, List, ℕ, ◌*◌, ◌+◌, ◌<◌, ◌≤◌, length}
 use Rattle.machine.specs.declared.Verdict.TheVariants.{Accepted, Ended, Stuck, Looping, Halted}
 use Rattle.image.specs.Refusals.{image_refusal}
-use Rattle.simulator.specs.declared.Judged.{Judged}
+use Rattle.simulator.specs.Answers.{Judged}
 use Rattle.bundle.specs.declared.Totals.{Totals}
 use Rattle.bundle.specs.Format.{count}
 use Rattle.bundle.specs.Conditions.{BundleRight}

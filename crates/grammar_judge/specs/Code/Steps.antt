@@ -1,7 +1,6 @@
 -- What the steps of an answer may assume, and what they leave: only the code needs these. Assumes nothing: these are definitions.
-use Rattle.std.specs.Prelude.{◌≡◌, List, ◌++◌, ℕ, ◌≤◌, length, drop}
+use Rattle.std.specs.Prelude.{◌≡◌, List, ◌++◌, ℕ, ◌≤◌, length, drop, Ok}
 use Rattle.simulator.specs.declared.Judgement.{Judgement}
-use Rattle.simulator.specs.declared.Judged.TheVariants.{Answer}
 use Rattle.simulator.specs.Calls.{JudgeSays}
 use Rattle.simulator.specs.Code.Checked.{Sized}
 use Rattle.builder.specs.declared.Plan.{Plan}
@@ -24,4 +23,4 @@ pub record JudgeReady (bs cs : List ℕ) (cells : ℕ) (notes work : List ℕ) :
 -- the image of the grammar is built, with later bytes as they were, and the judgement is the call's answer
 pub record Builds (gs cs : List ℕ) (before after : Lent) (j : Judgement) : Type 0 where
   pub image_now : after.image ≡ built Whole gs ++ drop (built_length gs) before.image
-  pub judges : JudgeSays (built Whole gs) cs (Answer j) before.notes after.notes before.work after.work
+  pub judges : JudgeSays (built Whole gs) cs (Ok j) before.notes after.notes before.work after.work

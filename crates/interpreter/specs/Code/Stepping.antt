@@ -16,7 +16,7 @@ use Rattle.interpreter.specs.declared.Exit.TheVariants.{Terminated, Spent, Deep}
 use Rattle.interpreter.specs.declared.RunState.{RunState}
 use Rattle.interpreter.specs.declared.StepResult.{StepResult}
 use Rattle.interpreter.specs.declared.StepResult.TheVariants.{On, Exited}
-use Rattle.interpreter.specs.declared.Ran.{Ran}
+use Rattle.interpreter.specs.Answers.{Ran}
 use Rattle.interpreter.specs.PlainRun.{run_on}
 use Rattle.interpreter.specs.Calls.{answer}
 

@@ -1,6 +1,6 @@
 -- What judging by a grammar that was read comes to, whatever text it was read from: only the code needs this. Assumes nothing: this is a definition.
 use Rattle.std.specs.Prelude.{List, ℕ}
-use Rattle.simulator.specs.declared.Judged.{Judged}
+use Rattle.simulator.specs.Answers.{Judged}
 use Rattle.syntax.specs.Reading.{Grammar, ReadSays}
 use Rattle.grammar_judge.specs.Calls.{Lent}
 use Rattle.typed.specs.Calls.{JudgeTextSays}
