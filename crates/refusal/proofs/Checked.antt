@@ -1,5 +1,5 @@
 -- A check's answer, of one refusal after another: the first refuses, or it passes and the second decides. Assumes nothing.
-use mathlib.Core.Path.{◌≡◌, refl, sym, ◌∙◌}
+use mathlib.Core.Path.{◌≡◌, refl, sym, ap, ◌∙◌}
 use mathlib.Core.Bool.{Bool, true, false, cond}
 use Prim.Native.Nat.{ℕ, suc}
 use native.Mathlib.Omega.{arith}
@@ -42,6 +42,11 @@ pub checked-none : (f : Refusal) → f.number ≡ 0 → checked f ≡ Ok tt
 unfolding checked
 checked-none f e = simp e
 
+-- a refusal that is made is the definition's
+pub refuses-made : (e f : Refusal) → e ≡ f → eqb f.number 0 ≡ false → Err e ≡ checked f
+unfolding checked
+refuses-made e f is some = rw (is, some) refl
+
 -- ONE AFTER ANOTHER
 pub refused-first : (f g e : Refusal) → checked f ≡ Err e → Err e ≡ checked (or_else f g)
 unfolding or_else
@@ -50,6 +55,9 @@ refused-first f g e h = rw (checked-refused f e h) (sym h)
 pub passed-first : (f g : Refusal) → checked f ≡ Ok tt → checked g ≡ checked (or_else f g)
 unfolding or_else
 passed-first f g h = rw (checked-passes f h) refl
+
+-- for functions that check one thing after another
+pub ruleset in_turn = (refused-first, passed-first, checked-passes)
 
 -- ONE BY A TEST
 pub refused-test : (b : Bool) (f : Refusal) → b ≡ true → eqb f.number 0 ≡ false → Err f ≡ checked (refuse_if b f)

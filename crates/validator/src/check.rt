@@ -2,12 +2,12 @@
 ghost use Rattle.std.specs.Prelude.{◌≡◌, ◌+◌, ◌*◌, ◌^◌, ◌<◌, ◌≤◌, ltb, length};
 ghost use Rattle.codec.specs.Numbers.{pair_width};
 ghost use Rattle.image.specs.Format.{map_offset, map_length, rules_offset, max_states, max_capture};
-ghost use Rattle.refusal.specs.First.{refusal, no_refusal, refuse_if};
-ghost use Rattle.image.specs.Refusals.{pair_is, directory as directory_of, count_wrong, counts as counts_of, map_from, rule_count, body_refusal, image_refusal, capture_refusal};
+ghost use Rattle.refusal.specs.First.{refusal, refuse_if};
+ghost use Rattle.image.specs.Refusals.{pair_is, directory, count_wrong, counts, map_from, rule_count, body_refusal, image_refusal, capture_refusal};
 ghost use Rattle.refusal.specs.Checking.{checked};
 ghost use Rattle.validator.specs.Code.Checking.{CountsChecked};
 
-use crate::rule_check::rules;
+use crate::rule_check::check_rules;
 use codec::{read_pair, read_u32};
 use image::format::{
     CLASSES_OFFSET, COUNTS_LENGTH, COUNTS_OFFSET, COUNTS_PAIR, FINALS_OFFSET, MAP_LENGTH,
@@ -17,20 +17,20 @@ use image::format::{
 use refusal::{Kind, Refusal};
 
 // Whether the directory's pair at a place is this offset and length.
+#[tactic(auto, unfolding(image::specs::Refusals::pair_is))]
 fn pair_is(image: &[u8], at: usize, offset: usize, long: usize) -> bool
     requires { at + pair_width ≤ length image.now }
     ensures { result ≡ pair_is image.now at offset long }
 {
     let pair = read_pair(image, at);
-    let first = pair.offset as usize;
-    let second = pair.long as usize;
-    first == offset && second == long
+    pair.offset as usize == offset && pair.long as usize == long
 }
 
 // Refusal 2: a pair of the directory.
-fn directory(image: &[u8]) -> Result<(), Refusal>
+#[tactic(auto, unfolding(image::specs::Refusals::directory, refusal::specs::Checking::checked))]
+fn check_directory(image: &[u8]) -> Result<(), Refusal>
     requires { map_offset ≤ length image.now }
-    ensures { result ≡ checked (directory_of image.now) }
+    ensures { result ≡ checked (directory image.now) }
 {
     if !pair_is(image, COUNTS_PAIR, COUNTS_OFFSET, COUNTS_LENGTH) {
         return Err(Refusal::new(Kind::Directory, COUNTS_PAIR));
@@ -49,19 +49,18 @@ fn directory(image: &[u8]) -> Result<(), Refusal>
 }
 
 // Whether a count is 0 or over its limit.
+#[tactic(auto, unfolding(image::specs::Refusals::count_wrong))]
 fn count_wrong(count: u8, limit: u8) -> bool
     ensures { result ≡ count_wrong count limit }
 {
-    if count == 0 {
-        return true;
-    }
-    limit < count
+    count == 0 || limit < count
 }
 
 // Refusal 3: a count, the byte after the counts or the finals.
-fn counts(image: &[u8]) -> Result<(), Refusal>
+#[tactic(auto, unfolding(image::specs::Refusals::counts, image::specs::Image::states, image::specs::Image::classes, image::specs::Image::symbols, refusal::specs::Checking::checked))]
+fn check_counts(image: &[u8]) -> Result<(), Refusal>
     requires { map_offset ≤ length image.now }
-    ensures { result ≡ checked (counts_of image.now) }
+    ensures { result ≡ checked (counts image.now) }
 {
     let states = image[STATES_OFFSET];
     if count_wrong(states, MAX_STATES) {
@@ -93,18 +92,15 @@ fn within(finals: u32, states: u8) -> bool
 }
 
 // Refusal 5: the class map, byte by byte.
-fn class_map(image: &[u8]) -> Result<(), Refusal>
+fn check_class_map(image: &[u8]) -> Result<(), Refusal>
     requires { rules_offset ≤ length image.now }
     ensures { result ≡ checked (map_from map_length map_offset image.now) }
 {
     let classes = image[CLASSES_OFFSET];
-    let mut at: usize = MAP_OFFSET;
-    while at < RULES_OFFSET {
-        let class = image[at];
-        if classes <= class {
+    for at in MAP_OFFSET..RULES_OFFSET {
+        if classes <= image[at] {
             return Err(Refusal::new(Kind::ClassMap, at));
         }
-        at += 1;
     }
     Ok(())
 }
@@ -121,7 +117,8 @@ fn rule_count(image: &[u8]) -> u32
 }
 
 // Refusals 4 to 6, where directory and counts are right: the length, the class map, the rules.
-fn body_refusal(image: &[u8]) -> Result<(), Refusal>
+#[tactic(auto, using(refusal::proofs::Checked::in_turn), unfolding(image::specs::Refusals::body_refusal, refusal::specs::Checking::checked))]
+fn check_body(image: &[u8]) -> Result<(), Refusal>
     requires { CountsChecked image.now }
     ensures { result ≡ checked (body_refusal image.now) }
 {
@@ -131,12 +128,12 @@ fn body_refusal(image: &[u8]) -> Result<(), Refusal>
     if long != expected {
         return Err(Refusal::new(Kind::RulesLength, RULES_SIZE));
     }
-    class_map(image)?;
-    rules(image)
+    check_class_map(image)?;
+    check_rules(image)
 }
 
 // Whether an image is good, and else why not and where.
-#[tactic(auto, unfolding(image::specs::Refusals::image_refusal, refusal::specs::First::or_else))]
+#[tactic(auto, using(refusal::proofs::Checked::in_turn), unfolding(image::specs::Refusals::image_refusal, refusal::specs::Checking::checked))]
 pub fn check_image(image: &[u8]) -> Result<(), Refusal>
     ensures { result ≡ checked (image_refusal image.now) }
 {
@@ -144,14 +141,14 @@ pub fn check_image(image: &[u8]) -> Result<(), Refusal>
     if long < MAP_OFFSET {
         return Err(Refusal::new(Kind::ImageShort, long));
     }
-    directory(image)?;
-    counts(image)?;
-    body_refusal(image)
+    check_directory(image)?;
+    check_counts(image)?;
+    check_body(image)
 }
 
 // Refusal 7, of a capture of n bytes, or number 0.
-#[tactic(auto, unfolding(refusal::specs::First::refuse_if))]
-pub fn length_refusal(n: usize) -> Result<(), Refusal>
+#[tactic(auto, unfolding(refusal::specs::First::refuse_if, refusal::specs::Checking::checked))]
+pub fn check_length(n: usize) -> Result<(), Refusal>
     ensures { result ≡ checked (refuse_if (ltb max_capture n) (refusal 7 n)) }
 {
     if MAX_CAPTURE < n {
@@ -161,9 +158,10 @@ pub fn length_refusal(n: usize) -> Result<(), Refusal>
 }
 
 // The first refusal of 1 to 7, of an image and a capture of n bytes, or number 0.
-pub fn capture_refusal(image: &[u8], n: usize) -> Result<(), Refusal>
+#[tactic(auto, using(refusal::proofs::Checked::in_turn), unfolding(image::specs::Refusals::capture_refusal))]
+pub fn check_capture(image: &[u8], n: usize) -> Result<(), Refusal>
     ensures { result ≡ checked (capture_refusal image.now n) }
 {
     check_image(image)?;
-    length_refusal(n)
+    check_length(n)
 }

@@ -17,49 +17,33 @@ use refusal::{Kind, Refusal};
 fn stops_run(kind: u8) -> bool
     ensures { result ≡ stops kind }
 {
-    if kind == KIND_NONE {
-        return true;
-    }
-    kind == KIND_HALT
+    kind == KIND_NONE || kind == KIND_HALT
 }
 
 // Whether a rule that stops a run has another byte.
 fn says_more(state: u8, symbol: u8, direction: u8) -> bool
     ensures { result ≡ not (eqb state 0 && (eqb symbol 0 && eqb direction 0)) }
 {
-    if state != 0 {
-        return true;
-    }
-    if symbol != 0 {
-        return true;
-    }
-    direction != 0
+    state != 0 || symbol != 0 || direction != 0
 }
 
 // Whether a pop has a symbol, or a direction that is none of a pop.
 fn pop_wrong(symbol: u8, direction: u8) -> bool
     ensures { result ≡ (not (eqb symbol 0) || ltb pop_return direction) }
 {
-    if symbol != 0 {
-        return true;
-    }
-    POP_RETURN < direction
+    symbol != 0 || POP_RETURN < direction
 }
 
 // Whether a move leaves the tape: left from the left marker, or right from the right one.
+#[tactic(auto, unfolding(image::specs::Refusals::move_off, image::specs::Image::classes))]
 fn move_off(image: &[u8], class: u32, direction: u8) -> bool
     requires { map_offset ≤ length image.now }
     ensures { result ≡ move_off image.now class direction }
 {
-    let left = image[CLASSES_OFFSET] as u32;
-    if class == left {
-        return direction == DIRECTION_LEFT;
-    }
+    let left = u32::from(image[CLASSES_OFFSET]);
     let right = left + 1;
-    if class == right {
-        return direction == DIRECTION_RIGHT;
-    }
-    false
+    (class == left && direction == DIRECTION_LEFT)
+        || (class == right && direction == DIRECTION_RIGHT)
 }
 
 // Whether the rule at a place is bad; class is the one that it stands for.
@@ -96,7 +80,7 @@ fn rule_bad(image: &[u8], at: usize, class: u32) -> bool
 }
 
 // Refusal 6: the rules in order.
-pub fn rules(image: &[u8]) -> Result<(), Refusal>
+pub fn check_rules(image: &[u8]) -> Result<(), Refusal>
     requires { LengthChecked image.now }
     ensures { result ≡ checked (rules_refusal_from (rule_count image.now) 0 image.now) }
 {

@@ -1,12 +1,13 @@
--- `validator::check::check_image` meets its contract: number 0 is no refusal. Assumes nothing.
-use borrow.Author.Tests.{eq-eqb, ne_eqb}
-use Rattle.refusal.specs.Checking.{checked}
+-- `validator::check::check_image` meets its contract: where the counts pass there is some symbol. Assumes nothing.
+use mathlib.Core.Path.{sym, ◌∙◌}
+use native.Mathlib.Omega.{arith}
+use Rattle.image.proofs.CheckGood.{some_symbol}
+use Rattle.refusal.proofs.Checked.{checked-passes}
 use Rattle.validator.proofs.check.check_image.Goals as goal
 
-pub returns-then-refusal-eq0 : goal.returns-then-refusal-eq0
-unfolding checked
-returns-then-refusal-eq0 c = simp (← c.first_refusal-refusal.ensures, eq-eqb _ _ c.if-refusal-eq0.true)
-
-pub returns-else-refusal-eq0 : goal.returns-else-refusal-eq0
-unfolding checked
-returns-else-refusal-eq0 c = simp (← c.first_refusal-refusal.ensures, ne_eqb _ _ c.if-refusal-eq0.false)
+pub check_body-requires : goal.check_body-requires
+check_body-requires c =
+    record {
+      header = omega arith;
+      some_symbol = some_symbol _ (checked-passes _ (sym c.check_counts.ensures ∙ c.in_ok-check_counts.was));
+    }

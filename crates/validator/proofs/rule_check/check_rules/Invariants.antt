@@ -2,7 +2,7 @@
 use Rattle.validator.proofs.CheckLoops.{RulesLeft}
 use lib.ListN.{length}
 use Prim.Native.Nat.{◌-◌}
-use Rattle.validator.proofs.rule_check.rules.Given as goal
+use Rattle.validator.proofs.rule_check.check_rules.Given as goal
 
 abbrev pub invariant-loop-at : goal.invariant-loop-at
 invariant-loop-at l = RulesLeft l.image l.s l.at

@@ -5,8 +5,10 @@ use Rattle.validator.proofs.CheckParts.{three_counts}
 use Rattle.image.specs.Refusals.{rule_count}
 use Rattle.image.specs.Image.{states, classes, symbols}
 use native.Mathlib.Omega.{arith}
-use mathlib.Core.Path.{sym, ◌∙◌}
-use Rattle.validator.proofs.rule_check.rules.Goals as goal
+use Rattle.refusal.specs.Checking.{checked}
+use Rattle.refusal.proofs.Checked.{refuses-made}
+use mathlib.Core.Path.{refl, sym, ap, ◌∙◌}
+use Rattle.validator.proofs.rule_check.check_rules.Goals as goal
 
 pub overflow_cast-columns : goal.overflow_cast-columns
 overflow_cast-columns c = omega (arith, c.type_inv.image Format.classes_offset)
@@ -27,7 +29,8 @@ rule_bad-requires c =
 
 pub returns-then-rule_bad : goal.returns-then-rule_bad
 returns-then-rule_bad c =
-    rules_stop _ _ _ c.loop-at.invariant c.requires.length_is c.loop-at-test.true (sym c.if-rule_bad.true ∙ c.rule_bad.ensures)
+    refuses-made _ _ c.new.ensures refl
+    ∙ ap checked (rules_stop _ _ _ c.loop-at.invariant c.requires.length_is c.loop-at-test.true (sym c.if-rule_bad.true ∙ c.rule_bad.ensures))
 
 pub overflow_add-at : goal.overflow_add-at
 overflow_add-at c =
@@ -47,5 +50,6 @@ loop-at-preserved c =
     left_as c.next-s.ensures (rules_next _ _ _ c.loop-at.invariant c.requires.length_is c.loop-at-test.true good)
 
 pub returns : goal.returns
+unfolding checked
 returns c =
-    rules_end _ _ _ c.loop-at.invariant c.requires.length_is c.loop-at-test.false
+    ap checked (rules_end _ _ _ c.loop-at.invariant c.requires.length_is c.loop-at-test.false)
