@@ -1,13 +1,11 @@
 -- A check's answer, of one refusal after another: the first refuses, or it passes and the second decides. Assumes nothing.
-use mathlib.Core.Path.{◌≡◌, refl, sym, ap, ◌∙◌}
+use mathlib.Core.Path.{◌≡◌, refl, sym}
 use mathlib.Core.Bool.{Bool, true, false, cond}
-use Prim.Native.Nat.{ℕ, suc}
-use native.Mathlib.Omega.{arith}
 use lib.Dec.{eqb}
-use borrow.Author.Tests.{eqb-true, eqb-false}
+use borrow.Author.Tests.{eqb-true}
 use Rattle.std.specs.Prelude.{Result, Ok, Err}
 use Rattle.refusal.specs.declared.Refusal.{Refusal}
-use Rattle.refusal.specs.First.{refusal, no_refusal, or_else, refuse_if}
+use Rattle.refusal.specs.First.{or_else, refuse_if}
 use Rattle.refusal.specs.Checking.{checked}
 
 abbrev Checks : (a b : Result Unit Refusal) → Type 0

@@ -1,6 +1,5 @@
 -- `validator::check::check_class_map` meets its contract: the loop's invariant says that what is left of the map decides. Assumes nothing.
 use mathlib.Core.Path.{refl, ap, ◌∙◌}
-use native.Mathlib.Omega.{arith}
 use Rattle.refusal.specs.Checking.{checked}
 use Rattle.refusal.proofs.Checked.{refuses-made}
 use Rattle.image.specs.Image.{classes}
