@@ -4,9 +4,12 @@ use mathlib.Core.List.{List, [], ◌∷◌, ◌++◌}
 use Prim.Native.Nat.{ℕ, zero, suc, ◌+◌, ◌*◌, ◌<◌}
 use native.Mathlib.Nat.{zero-add, suc-add}
 use native.Mathlib.Omega.{arith}
-use lib.ListN.{length, get_or-append}
+use lib.ListN.{length, drop, get_or-append}
 use lib.Seq.{get_or-append-add}
-use Rattle.codec.specs.Bytes.{byte}
+use Rattle.std.specs.Prelude.{slice_index}
+use Rattle.std.specs.Int.{w32, w64, from_le_bytes}
+use Rattle.std.proofs.lemmas.List.{get_or-take, get_or-drop}
+use Rattle.codec.specs.Bytes.{byte, section}
 use Rattle.codec.specs.Numbers.{number_at, u32_at, u64_at}
 
 pub byte_past : (xs ys : List ℕ) (n o : ℕ) → n ≡ length xs + o → byte (xs ++ ys) n ≡ byte ys o
@@ -45,3 +48,30 @@ unfolding number_at
 u64_halves bs i =
     let four : i + 4 ≡ suc (suc (suc (suc i))) = omega arith in
     rw four (omega arith)
+
+-- AND AS THE LIBRARY READS THEM, from the bytes taken out
+section_byte : (bs : List ℕ) (n i k j : ℕ) → k < n → i + k ≡ j → slice_index (section bs i n) k ≡ byte bs j
+section_byte bs n i k j h e = get_or-take n (drop i bs) k 0 h ∙ get_or-drop i bs k 0 ∙ ap (byte bs) e
+
+pub u32_section : (bs : List ℕ) (i : ℕ) → from_le_bytes w32 (section bs i 4) ≡ u32_at bs i
+u32_section bs i =
+    let b = λ (k : ℕ) (j : ℕ) (h : k < 4) (e : i + k ≡ j). section_byte bs 4 i k j h e in
+    omega (arith, u32_bytes bs i, b 0 i (omega arith) (omega arith), b 1 (i + 1) (omega arith) refl, b 2 (i + 2) (omega arith) refl, b 3 (i + 3) (omega arith) refl)
+
+pub u64_section : (bs : List ℕ) (i : ℕ) → from_le_bytes w64 (section bs i 8) ≡ u64_at bs i
+u64_section bs i =
+    let b = λ (k : ℕ) (j : ℕ) (h : k < 8) (e : i + k ≡ j). section_byte bs 8 i k j h e in
+    omega (
+      arith,
+      u64_halves bs i,
+      u32_bytes bs i,
+      u32_bytes bs (i + 4),
+      b 0 i (omega arith) (omega arith),
+      b 1 (i + 1) (omega arith) refl,
+      b 2 (i + 2) (omega arith) refl,
+      b 3 (i + 3) (omega arith) refl,
+      b 4 (i + 4) (omega arith) refl,
+      b 5 (i + 4 + 1) (omega arith) (omega arith),
+      b 6 (i + 4 + 2) (omega arith) (omega arith),
+      b 7 (i + 4 + 3) (omega arith) (omega arith),
+    )

@@ -1,8 +1,11 @@
 -- A buffer after a part was written: its front, one part after another, and the stores that write four bytes. Assumes nothing.
-use mathlib.Core.Path.{◌≡◌, sym, ap, ◌∙◌}
+use mathlib.Core.Path.{◌≡◌, refl, sym, ap, ◌∙◌}
 use mathlib.Core.List.{List, [], ◌∷◌, ◌++◌, append_assoc}
-use Prim.Native.Nat.{ℕ, suc, ◌+◌, ◌≤◌}
+use Prim.Native.Nat.{ℕ, suc, ◌+◌, ◌*◌, ◌-◌, ◌≤◌}
 use native.Mathlib.Omega.{arith}
+use borrow.Rule.Slice.PartMut.{put_mid, Post-is}
+use Rattle.std.specs.Int.{w32, to_le_bytes}
+use Rattle.std.proofs.Math.Nat.{div-div-eq-div-mul}
 use lib.ListN.{length, take, drop, set, length-append}
 use lib.Seq.{sets-eq, take_at, drop_at, drop-drop, length-take-le}
 use Rattle.codec.specs.declared.Pair.{Pair}
@@ -20,6 +23,18 @@ four_stored bs i w x y z h =
     let two : i + 2 ≡ suc (suc i) = omega arith in
     let three : i + 3 ≡ suc (suc (suc i)) = omega arith in
     rw (one, two, three) (sets-eq (w ∷ x ∷ y ∷ z ∷ []) bs i h)
+
+-- a number's bytes as the library gives them, in place of as many
+given : (v : ℕ) → to_le_bytes w32 v ≡ little_endian u32_width v
+unfolding little_endian
+given v = rw (div-div-eq-div-mul v 256 256, div-div-eq-div-mul v (256 * 256) 256) refl
+
+pub u32_written :
+    (bs b part : List ℕ) (i v : ℕ) → b ≡ to_le_bytes w32 v → part ≡ b → put_mid i (i + 4 - i) bs part ≡ written bs i (little_endian u32_width v)
+unfolding written
+u32_written bs b part i v e f =
+    let digits : part ≡ little_endian 4 v = f ∙ e ∙ given v in
+    rw (Post-is i (i + 4) bs (omega arith), digits, little_endian_length 4 v) (sym (append_assoc (take i bs) (little_endian 4 v) (drop (i + 4) bs)))
 
 module _ (bs : List ℕ) (i : ℕ) (part : List ℕ) (h : i + length part ≤ length bs) where
   front_length : length (take i bs ++ part) ≡ i + length part

@@ -1,12 +1,12 @@
 // Numbers in bytes, as images and the program's input have them: little-endian numbers, and pairs of offset and length.
 #![tactic(auto)]
 
-ghost use Rattle.std.specs.Prelude.{◌≡◌, ◌∷◌, [], ◌+◌, ◌*◌, ◌≤◌, length};
-ghost use Rattle.codec.specs.Bytes.{written};
+ghost use Rattle.std.specs.Prelude.{◌≡◌, ◌∷◌, [], ◌+◌, ◌≤◌, length};
+ghost use Rattle.codec.specs.Bytes.{section, written};
 ghost use Rattle.codec.specs.Numbers.{u32_width, u64_width, pair_width, u32_at, u64_at, little_endian, pair_at, pair_bytes};
 
 // An offset and a length, as a directory has them.
-#[derive(Clone, Copy)]
+#[derive(Clone, Copy, Debug, PartialEq, Eq)]
 pub struct Pair {
     pub offset: u32,
     pub long: u32,
@@ -15,11 +15,12 @@ pub struct Pair {
 // A number's width in bytes.
 const U32_WIDTH: usize = 4;
 
-// Four bytes as one number, the lowest first.
-fn little(a: u8, b: u8, c: u8, d: u8) -> u32
-    ensures { result ≡ a + 256 * b + 65536 * c + 16777216 * d }
+// So many bytes from a place on.
+fn bytes_at<const N: usize>(bytes: &[u8], at: usize) -> [u8; N]
+    requires { at + N ≤ length bytes.now }
+    ensures { result ≡ section bytes.now at N }
 {
-    (a as u32) + 256 * (b as u32) + 65536 * (c as u32) + 16777216 * (d as u32)
+    bytes[at..at + N].try_into().unwrap()
 }
 
 // The number of 32 bits at a place.
@@ -27,7 +28,7 @@ pub fn read_u32(bytes: &[u8], at: usize) -> u32
     requires { at + u32_width ≤ length bytes.now }
     ensures { result ≡ u32_at bytes.now at }
 {
-    little(bytes[at], bytes[at + 1], bytes[at + 2], bytes[at + 3])
+    u32::from_le_bytes(bytes_at(bytes, at))
 }
 
 // The number of 64 bits at a place: its lower half stands first.
@@ -35,9 +36,7 @@ pub fn read_u64(bytes: &[u8], at: usize) -> u64
     requires { at + u64_width ≤ length bytes.now }
     ensures { result ≡ u64_at bytes.now at }
 {
-    let low = read_u32(bytes, at) as u64;
-    let high = read_u32(bytes, at + U32_WIDTH) as u64;
-    low + 4294967296 * high
+    u64::from_le_bytes(bytes_at(bytes, at))
 }
 
 // The pair at a place.
@@ -51,6 +50,7 @@ pub fn read_pair(bytes: &[u8], at: usize) -> Pair
 }
 
 // Four bytes written at a place.
+// kept: four stores, since by copy_from_slice the bytes go through memory and their places are compared first.
 pub fn write_four(bytes: &mut [u8], at: usize, a: u8, b: u8, c: u8, d: u8)
     requires { at + 4 ≤ length bytes.old }
     ensures { bytes.new ≡ written bytes.old at (a ∷ b ∷ c ∷ d ∷ []) }
@@ -66,11 +66,7 @@ pub fn write_u32(bytes: &mut [u8], at: usize, value: u32)
     requires { at + u32_width ≤ length bytes.old }
     ensures { bytes.new ≡ written bytes.old at (little_endian u32_width value) }
 {
-    let a = value % 256;
-    let b = value / 256 % 256;
-    let c = value / 256 / 256 % 256;
-    let d = value / 256 / 256 / 256 % 256;
-    write_four(bytes, at, a as u8, b as u8, c as u8, d as u8);
+    bytes[at..at + U32_WIDTH].copy_from_slice(&value.to_le_bytes());
 }
 
 // A pair written at a place.

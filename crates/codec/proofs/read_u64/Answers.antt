@@ -1,7 +1,6 @@
--- `codec::read_u64` meets its contract: the two halves make the number. Assumes nothing.
-use Rattle.codec.proofs.Reading.{u64_halves}
-use native.Mathlib.Omega.{arith}
+-- `codec::read_u64` meets its contract: the library reads the bytes taken out as the number that is defined. Assumes nothing.
+use Rattle.codec.proofs.Reading.{u64_section}
 use Rattle.codec.proofs.read_u64.Goals as goal
 
 pub returns : goal.returns
-returns c = omega (arith, u64_halves c.args.bytes.now c.args.at, c.read_u32-low.ensures, c.read_u32-high.ensures)
+returns c = rw (c.from_le_bytes.ensures, c.bytes_at.ensures) (u64_section _ _)
