@@ -3,10 +3,9 @@ ghost use Rattle.std.specs.Prelude.{◌≡◌};
 ghost use Rattle.grammar.specs.Grammar.{grammar_refusal};
 
 use crate::Expression;
-use crate::check::{RULE_BYTES, check_grammar, expression_of};
-use refusal::Refusal;
+use crate::check::{RULE_BYTES, expression_of};
 
-// The bytes of a grammar that is right: what needs one takes this.
+// The bytes of a grammar that is right, as check_grammar says: what needs one takes this.
 #[derive(Clone, Copy)]
 pub struct Grammar<'a> {
     pub bytes: &'a [u8],
@@ -14,17 +13,8 @@ pub struct Grammar<'a> {
 }
 
 impl<'a> Grammar<'a> {
-    ghost use Rattle.std.specs.Prelude.{◌≡◌, ◌<◌, MatchResult};
-    ghost use Rattle.refusal.specs.Checking.{checked};
-    ghost use Rattle.grammar.specs.Grammar.{rules, expression, grammar_refusal};
-
-    // The check: a grammar that is right, and else why not and where.
-    pub fn new(bytes: &'a [u8]) -> Result<Grammar<'a>, Refusal>
-        ensures { MatchResult result (λ g. g.bytes.now ≡ bytes.now) (λ f. checked (grammar_refusal bytes.now) ≡ Err f) }
-    {
-        check_grammar(bytes)?;
-        Ok(Grammar { bytes })
-    }
+    ghost use Rattle.std.specs.Prelude.{◌≡◌, ◌<◌};
+    ghost use Rattle.grammar.specs.Grammar.{rules, expression};
 
     // m, the count of rules.
     #[tactic(auto, unfolding(crate::specs::Grammar::rules))]
