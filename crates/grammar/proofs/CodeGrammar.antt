@@ -1,24 +1,12 @@
 -- The loop over a grammar's rules that checks them: what a turn leaves to be looked at. Assumes nothing.
 use mathlib.Core.Path.{◌≡◌, refl, sym, ap, ◌∙◌}
-use mathlib.Core.Bool.{Bool, true, false, ◌||◌, not}
+use mathlib.Core.Bool.{true, false}
 use mathlib.Core.List.{List}
-use Prim.Native.Nat.{ℕ, suc, ◌+◌, ◌*◌, ◌-◌, ◌%◌, ◌<◌, ◌≤◌}
-use native.Mathlib.Nat.{sub-zero}
+use Prim.Native.Nat.{ℕ, suc, ◌+◌, ◌*◌, ◌-◌, ◌<◌, ◌≤◌}
 use native.Mathlib.Omega.{arith}
-use lib.Dec.{ltb, eqb}
-use borrow.Author.Tests.{ltb-false}
 use Rattle.refusal.specs.First.{refusal, no_refusal}
-use Rattle.grammar.specs.Grammar.{max_rules, rules, grammar_rules_from}
+use Rattle.grammar.specs.Grammar.{rules, grammar_rules_from}
 use Rattle.grammar.proofs.GrammarGood.{right_at}
-
--- a length that passes is that of few rules
-pub length_passes : (long : ℕ) → false ≡ (eqb long 0 || (ltb (4 * max_rules) long || not (eqb (long % 4) 0))) → long ≤ 4 * max_rules
-length_passes long e = go (eqb long 0) (ltb (4 * max_rules) long) refl e
-  where
-    go : (s u : Bool) → ltb (4 * max_rules) long ≡ u → false ≡ (s || (u || not (eqb (long % 4) 0))) → long ≤ 4 * max_rules
-    go false false q e = ltb-false (4 * max_rules) long q
-    go false true q e = let z : ◌≡◌ {A = ℕ} 0 1 = cc in omega arith
-    go true u q e = let z : ◌≡◌ {A = ℕ} 0 1 = cc in omega arith
 
 -- THE CHECK, with the rules from k on still to be checked
 from_wrong : (n k : ℕ) (gs : List ℕ) → right_at gs k ≡ false → grammar_rules_from (suc n) k gs ≡ refusal 12 (4 * k)
@@ -35,9 +23,6 @@ from_none k gs = refl
 
 abbrev pub RulesLeft : List ℕ → (k : ℕ) → Type 0
 RulesLeft gs k = grammar_rules_from (rules gs) 0 gs ≡ grammar_rules_from (rules gs - k) k gs
-
-pub check_start : (gs : List ℕ) → RulesLeft gs 0
-check_start gs = rw (sub-zero (rules gs))
 
 module _ (gs : List ℕ) (k : ℕ) (left : RulesLeft gs k) where
   pub check_end : rules gs ≤ k → no_refusal ≡ grammar_rules_from (rules gs) 0 gs

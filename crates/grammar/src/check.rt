@@ -3,8 +3,9 @@ ghost use Rattle.std.specs.Prelude.{◌≡◌, not, ◌&&◌, ◌||◌, ◌+◌,
 ghost use Rattle.refusal.specs.Checking.{checked};
 ghost use Rattle.grammar.specs.Grammar.{max_rules, rules, expression, expression_by, range_of, rule_right, grammar_rules_from, grammar_refusal};
 
+use crate::kind::RuleKind;
 use crate::{ByteRange, Expression};
-use refusal::{Checked, Refusal};
+use refusal::{Kind, Refusal};
 
 // The bytes of a grammar rule: kind, b, c and 0.
 pub const RULE_BYTES: usize = 4;
@@ -12,84 +13,38 @@ pub const RULE_BYTES: usize = 4;
 // The most bytes that a grammar has: those of 31 rules.
 const MAX_LENGTH: usize = 124;
 
-// The kinds of a rule.
-const SEQUENCE: u8 = 1;
-
-const CHOICE: u8 = 2;
-
-const NOT: u8 = 3;
-
-const EMPTY: u8 = 4;
-
-const RANGE: u8 = 5;
-
 // Refusal 11: no rule, too many rules, or a part of a rule.
 fn length_wrong(long: usize) -> bool
     ensures { result ≡ (eqb long 0 || (ltb (4 * max_rules) long || not (eqb (long % 4) 0))) }
 {
-    if long == 0 {
-        return true;
-    }
-    if MAX_LENGTH < long {
-        return true;
-    }
-    let part = long % RULE_BYTES;
-    part != 0
-}
-
-// Whether both named rules are there.
-fn both_below(m: u8, b: u8, c: u8) -> bool
-    ensures { result ≡ (ltb b m && ltb c m) }
-{
-    if m <= b {
-        return false;
-    }
-    c < m
-}
-
-fn below_and_zero(m: u8, b: u8, c: u8) -> bool
-    ensures { result ≡ (ltb b m && eqb c 0) }
-{
-    if m <= b {
-        return false;
-    }
-    c == 0
-}
-
-fn both_zero(b: u8, c: u8) -> bool
-    ensures { result ≡ (eqb b 0 && eqb c 0) }
-{
-    if b != 0 {
-        return false;
-    }
-    c == 0
+    long == 0 || MAX_LENGTH < long || long % RULE_BYTES != 0
 }
 
 // Whether a rule's four bytes are right in a grammar of m rules.
+#[tactic(auto, unfolding(crate::specs::Grammar::rule_right))]
 fn right(m: u8, kind: u8, b: u8, c: u8, last: u8) -> bool
     ensures { result ≡ rule_right m kind b c last }
 {
-    if last != 0 {
+    let Ok(kind) = RuleKind::try_from(kind) else {
         return false;
-    }
-    match kind {
-        SEQUENCE => both_below(m, b, c),
-        CHOICE => both_below(m, b, c),
-        NOT => below_and_zero(m, b, c),
-        EMPTY => both_zero(b, c),
-        _ => kind == RANGE, // any two bytes: with b above c it matches nothing
-    }
+    };
+    last == 0
+        && match kind {
+            RuleKind::Sequence | RuleKind::Choice => b < m && c < m,
+            RuleKind::Not => b < m && c == 0,
+            RuleKind::Empty => b == 0 && c == 0,
+            RuleKind::Range => true, // any two bytes: with b above c it matches nothing
+        }
 }
 
 // Refusal 12: the first rule that is not right.
-fn rules_refusal(grammar: &[u8]) -> Refusal
+fn check_rules(grammar: &[u8]) -> Result<(), Refusal>
     requires { length grammar.now ≤ 4 * max_rules }
-    ensures { result ≡ grammar_rules_from (rules grammar.now) 0 grammar.now }
+    ensures { result ≡ checked (grammar_rules_from (rules grammar.now) 0 grammar.now) }
 {
     let count = grammar.len() / RULE_BYTES;
     let m = count as u8;
-    let mut k: usize = 0;
-    while k < count {
+    for k in 0..count {
         let at = RULE_BYTES * k;
         if !right(
             m,
@@ -98,59 +53,39 @@ fn rules_refusal(grammar: &[u8]) -> Refusal
             grammar[at + 2],
             grammar[at + 3],
         ) {
-            return Refusal {
-                number: 12,
-                place: at,
-            };
+            return Err(Refusal::new(Kind::GrammarRule, at));
         }
-        k += 1;
     }
-    Refusal {
-        number: 0,
-        place: 0,
-    }
-}
-
-// The first refusal of a grammar, or number 0.
-pub fn refusal_of(grammar: &[u8]) -> Refusal
-    ensures { result ≡ grammar_refusal grammar.now }
-{
-    let long = grammar.len();
-    if length_wrong(long) {
-        return Refusal {
-            number: 11,
-            place: long,
-        };
-    }
-    rules_refusal(grammar)
+    Ok(())
 }
 
 // Whether a grammar is good, and else why not and where.
-pub fn check_grammar(grammar: &[u8]) -> Checked
+pub fn check_grammar(grammar: &[u8]) -> Result<(), Refusal>
     ensures { result ≡ checked (grammar_refusal grammar.now) }
 {
-    let refusal = refusal_of(grammar);
-    if refusal.number == 0 {
-        Checked::Good
-    } else {
-        Checked::Refused(refusal)
+    let long = grammar.len();
+    if length_wrong(long) {
+        return Err(Refusal::new(Kind::GrammarLength, long));
     }
+    check_rules(grammar)
 }
 
-// What a rule's kind, b and c say.
+// What a rule's kind, b and c say. A kind that is none is refused before, and taken for a range here.
+#[tactic(auto, unfolding(crate::specs::Grammar::expression_by))]
 fn expression_by(kind: u8, b: u8, c: u8) -> Expression
     ensures { result ≡ expression_by kind b c }
 {
-    match kind {
-        SEQUENCE => Expression::Sequence(b, c),
-        CHOICE => Expression::Choice(b, c),
-        NOT => Expression::Not(b),
-        EMPTY => Expression::Empty,
-        _ => Expression::Range(b, c),
+    match RuleKind::try_from(kind) {
+        Ok(RuleKind::Sequence) => Expression::Sequence(b, c),
+        Ok(RuleKind::Choice) => Expression::Choice(b, c),
+        Ok(RuleKind::Not) => Expression::Not(b),
+        Ok(RuleKind::Empty) => Expression::Empty,
+        Ok(RuleKind::Range) | Err(_) => Expression::Range(b, c),
     }
 }
 
 // What rule k is.
+#[tactic(auto, unfolding(crate::specs::Grammar::rules, crate::specs::Grammar::expression, crate::specs::Grammar::kind_of, crate::specs::Grammar::b_of, crate::specs::Grammar::c_of))]
 pub fn expression_of(grammar: &[u8], k: usize) -> Expression
     requires { k < rules grammar.now }
     ensures { result ≡ expression grammar.now k }
@@ -160,14 +95,12 @@ pub fn expression_of(grammar: &[u8], k: usize) -> Expression
 }
 
 // The bytes that a rule is a range of, if it is a range.
-pub fn range_of(e: Expression) -> ByteRange
+#[tactic(auto, unfolding(crate::specs::Grammar::range_of))]
+pub fn range_of(e: Expression) -> Option<ByteRange>
     ensures { result ≡ range_of e }
 {
     match e {
-        Expression::Sequence(_, _) => ByteRange::Nothing,
-        Expression::Choice(_, _) => ByteRange::Nothing,
-        Expression::Not(_) => ByteRange::Nothing,
-        Expression::Empty => ByteRange::Nothing,
-        Expression::Range(b, c) => ByteRange::Between(b, c),
+        Expression::Range(low, high) => Some(ByteRange { low, high }),
+        _ => None,
     }
 }

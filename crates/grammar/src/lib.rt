@@ -2,9 +2,14 @@
 #![tactic(auto)]
 
 pub mod check;
+pub mod kind;
+pub mod right;
+
+pub use kind::RuleKind;
+pub use right::Grammar;
 
 // What a grammar rule is. Sequence, Choice and Not name other rules; a Range names its first and last byte, and matches nothing where the first is above the last.
-#[derive(Clone, Copy)]
+#[derive(Clone, Copy, Debug, PartialEq, Eq)]
 pub enum Expression {
     Sequence(u8, u8),
     Choice(u8, u8),
@@ -13,9 +18,9 @@ pub enum Expression {
     Range(u8, u8),
 }
 
-// The first and the last byte of a range, or none where a rule is no range.
-#[derive(Clone, Copy)]
-pub enum ByteRange {
-    Between(u8, u8),
-    Nothing,
+// The first and the last byte of a range.
+#[derive(Clone, Copy, Debug, PartialEq, Eq)]
+pub struct ByteRange {
+    pub low: u8,
+    pub high: u8,
 }

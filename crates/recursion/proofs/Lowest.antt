@@ -1,19 +1,14 @@
 -- The lowest rule that leads back to itself, as the code finds it, and that the rows found so answer as the definition does. Assumes nothing.
-use Rattle.std.specs.Prelude.{Err, Ok}
 use mathlib.Core.Path.{◌≡◌, refl, sym, ap, ◌∙◌}
-use mathlib.Core.Bool.{true, false}
+use mathlib.Core.Bool.{Bool, true, false}
 use mathlib.Core.List.{List}
 use Prim.Native.Nat.{ℕ, zero, suc, ◌+◌, ◌-◌, ◌<◌, ◌≤◌}
-use native.Mathlib.Nat.{sub-zero}
 use native.Mathlib.Omega.{arith}
-use lib.Dec.{eqb}
-use lib.ListN.{get_or}
-use borrow.Author.Tests.{eq-eqb, ne_eqb}
-use Rattle.refusal.specs.declared.Refusal.{Refusal}
-use Rattle.refusal.specs.First.{refusal, no_refusal, or_else}
-use Rattle.refusal.specs.Checking.{checked}
-use Rattle.grammar.specs.Grammar.{rules, grammar_refusal}
-use Rattle.recursion.specs.Computed.{leads_on, recursion_from, recursion_refusal}
+use lib.ListN.{length, get_or}
+use Rattle.std.proofs.lemmas.Grind.{get_or_default_zero}
+use Rattle.refusal.specs.First.{refusal, no_refusal}
+use Rattle.grammar.specs.Grammar.{rules}
+use Rattle.recursion.specs.Computed.{leads_on, recursion_from}
 use Rattle.recursion.specs.Code.Sets.{member, AreSets, lowest_from}
 
 found_here : (left k : ℕ) (rows : List ℕ) → member (get_or rows k 0) k ≡ true → lowest_from (suc left) k rows ≡ refusal 19 k
@@ -28,10 +23,11 @@ none_left : (k : ℕ) (rows : List ℕ) → lowest_from 0 k rows ≡ no_refusal
 unfolding lowest_from
 none_left k rows = refl
 
--- THE SEARCH, with the rows from k on still to be looked at
-pub lowest_start : (count : ℕ) (rows : List ℕ) → lowest_from count 0 rows ≡ lowest_from (count - 0) 0 rows
-lowest_start count rows = rw (sub-zero count)
+-- a row that is there is the same whatever is read where none is
+pub in_row : (rows : List ℕ) (k d : ℕ) {b : Bool} → k < length rows → member (get_or rows k d) k ≡ b → member (get_or rows k 0) k ≡ b
+in_row rows k d below e = ap (λ (n : ℕ). member n k) (sym (get_or_default_zero rows k d below)) ∙ e
 
+-- THE SEARCH, with the rows from k on still to be looked at
 module _ (count k : ℕ) (rows : List ℕ) (left : lowest_from count 0 rows ≡ lowest_from (count - k) k rows) where
   pub lowest_none : count ≤ k → no_refusal ≡ lowest_from count 0 rows
   lowest_none h =
@@ -57,27 +53,3 @@ unfolding lowest_from recursion_from
 lowest_right gs rows are zero k e = refl
 lowest_right gs rows are (suc n) k e =
     simp (are k (omega arith) k (omega arith), lowest_right gs rows are n (suc k) (omega arith))
-
--- THE CHECK: the grammar's own refusal, then the lowest rule
-module _ (gs : List ℕ) (f : Refusal) (first : f ≡ grammar_refusal gs) where
-  pub at_number : f.number ≡ 0 → (grammar_refusal gs).number ≡ 0
-  at_number e = sym (ap (λ (g : Refusal). g.number) first) ∙ e
-
-  pub first_refuses : (f.number ≡ 0 → ⊥) → Err f ≡ checked (recursion_refusal gs)
-  unfolding checked recursion_refusal or_else
-  first_refuses some =
-      let no : eqb (grammar_refusal gs).number 0 ≡ false = ne_eqb _ 0 (λ e. some (ap (λ (g : Refusal). g.number) first ∙ e)) in
-      simp (no, no) (ap Err first)
-
-  module _ (g : Refusal) (none : f.number ≡ 0) (second : g ≡ recursion_from (rules gs) 0 gs) where
-    then_second : recursion_refusal gs ≡ g
-    unfolding recursion_refusal or_else
-    then_second = simp (eq-eqb (grammar_refusal gs).number 0 (at_number none)) (sym second)
-
-    pub recursion_refuses : (g.number ≡ 0 → ⊥) → Err g ≡ checked (recursion_refusal gs)
-    unfolding checked
-    recursion_refuses some = rw then_second (simp (ne_eqb g.number 0 some))
-
-    pub passes_both : g.number ≡ 0 → (Ok tt) ≡ checked (recursion_refusal gs)
-    unfolding checked
-    passes_both e = rw then_second (simp (eq-eqb g.number 0 e))

@@ -1,26 +1,12 @@
 -- The parts of a grammar's rules: they are few, so that a set has a bit for each. Assumes nothing.
-use mathlib.Core.Path.{◌≡◌, refl, sym, subst}
+use mathlib.Core.Path.{◌≡◌, sym, subst}
 use mathlib.Core.List.{List}
-use Prim.Native.Nat.{ℕ, ◌/◌, ◌<◌, ◌≤◌}
+use Prim.Native.Nat.{ℕ, ◌<◌, ◌≤◌}
 use native.Mathlib.Omega.{arith}
-use lib.ListN.{length}
 use Rattle.grammar.specs.declared.Expression.{Expression}
 use Rattle.grammar.specs.declared.Expression.TheVariants.{Sequence, Choice, Not, Empty, Range}
 use Rattle.grammar.specs.Grammar.{max_rules, rules, expression, PartsBelow, grammar_refusal}
 use Rattle.grammar.proofs.GrammarGood.{good_grammar}
-
--- the count of rules, as the code has it
-pub count_few : (gs : List ℕ) → (grammar_refusal gs).number ≡ 0 → length gs / 4 ≤ 31
-unfolding rules
-count_few gs good = (good_grammar gs good).rules_most
-
-pub count_is : (gs : List ℕ) → length gs / 4 ≡ rules gs
-unfolding rules
-count_is gs = refl
-
-pub below_count : (gs : List ℕ) (k : ℕ) → k < length gs / 4 → k < rules gs
-unfolding rules
-below_count gs k h = h
 
 -- parts below m are below any larger number
 parts_wider : {m n : ℕ} (e : Expression) → m ≤ n → PartsBelow m e → PartsBelow n e

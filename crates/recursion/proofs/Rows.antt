@@ -2,6 +2,7 @@
 use mathlib.Core.Path.{◌≡◌, refl, sym, ap, subst, ◌∙◌}
 use mathlib.Core.Bool.{Bool, true, false, ◌||◌, ◌&&◌}
 use mathlib.Core.List.{List}
+use mathlib.Core.Logic.{◌⊎◌, inl, inr}
 use Prim.Native.Nat.{ℕ, suc, ◌+◌, ◌<◌, ◌≤◌}
 use native.Mathlib.Omega.{arith}
 use native.Mathlib.Decide.{dec_lt}
@@ -36,13 +37,11 @@ module _ (s : Set) (e : Expression) (r : ℕ) where
   unfolding leads_by
   not_leads is single l = rw is (single l)
 
-  pub empty_leads : e ≡ Empty → ((l : ℕ) → member r l ≡ false) → LeadsSo
-  unfolding leads_by
-  empty_leads is none l = rw is (none l)
-
-  pub range_leads : {b c : ℕ} → e ≡ Range b c → ((l : ℕ) → member r l ≡ false) → LeadsSo
-  unfolding leads_by
-  range_leads is none l = rw is (none l)
+-- what is empty or a range leads to none
+pub neither_leads : (s : Set) (e : Expression) → (e ≡ Empty) ⊎ ((b : ℕ) × (c : ℕ) × (e ≡ Range b c)) → (l : ℕ) → member 0 l ≡ leads_by s e l
+unfolding leads_by
+neither_leads s e (inl is) l = rw is (no_members l)
+neither_leads s e (inr (b, c, is)) l = rw is (no_members l)
 
 -- a row of an expression that is another
 pub row_of : (s : Set) (row : ℕ) (e f : Expression) → e ≡ f → ((l : ℕ) → member row l ≡ leads_by s e l) → (l : ℕ) → member row l ≡ leads_by s f l
@@ -52,9 +51,6 @@ row_of s row e f is leads l = leads l ∙ ap (λ (x : Expression). leads_by s x 
 pub record RowsSoFar (R : ℕ → Set) (k : ℕ) (rows : List ℕ) : Type 0 where
   pub room : length rows ≡ row_count
   pub made : (l : ℕ) → l < k → (j : ℕ) → member (get_or rows l 0) j ≡ R l j
-
-pub rows_start : (R : ℕ → Set) (rows : List ℕ) → length rows ≡ row_count → RowsSoFar R 0 rows
-rows_start R rows room = record { room = room; made = λ l h. absurd (omega arith) }
 
 pub rows_next :
     (R : ℕ → Set) (k : ℕ) (rows : List ℕ) (row : ℕ) → k < row_count → RowsSoFar R k rows → ((j : ℕ) → member row j ≡ R k j) → RowsSoFar R (k + 1) (set rows k row)
@@ -75,34 +71,6 @@ pub record Passing (before : List ℕ) (n onward k : ℕ) (rows : List ℕ) : Ty
   pub room : length rows ≡ row_count
   pub done : (l : ℕ) → l < k → (j : ℕ) → member (get_or rows l 0) j ≡ through before n onward l j
   pub ahead : (l : ℕ) → k ≤ l → get_or rows l 0 ≡ get_or before l 0
-
-pub passing_start : (before : List ℕ) (n onward : ℕ) → length before ≡ row_count → Passing before n onward 0 before
-passing_start before n onward room = record { room = room; done = λ l h. absurd (omega arith); ahead = λ l h. refl }
-
-pub passing_next :
-    (before : List ℕ) (n onward k : ℕ) (rows : List ℕ) (row : ℕ) → k < row_count → Passing before n onward k rows →
-    ((j : ℕ) → member row j ≡ through rows n onward k j) → Passing before n onward (k + 1) (set rows k row)
-passing_next before n onward k rows row few p now =
-    record {
-      room = length-set rows k row ∙ p.room;
-      done = λ l h j. go l h j (dec_lt l k);
-      ahead = λ l h. get_or-set_other rows k l row 0 (omega arith) ∙ p.ahead l (omega arith);
-    }
-  where
-    go : (l : ℕ) → l < k + 1 → (j : ℕ) → Dec (l < k) → member (get_or (set rows k row) l 0) j ≡ through before n onward l j
-    go l h j (yes q) = ap (λ (m : ℕ). member m j) (get_or-set_other rows k l row 0 (omega arith)) ∙ p.done l q j
-    go l h j (no q) =
-        let here : l ≡ k = omega arith in
-        let was : get_or rows k 0 ≡ get_or before k 0 = p.ahead k (omega arith) in
-        rw here
-        (ap (λ (m : ℕ). member m j) (get_or-set_same rows k row 0 (omega (arith, p.room))) ∙ now j
-        ∙ ap (λ (m : ℕ). member m j || (member m n && member onward j)) was)
-
-pub passing_end :
-    (before : List ℕ) (n onward k : ℕ) (rows : List ℕ) → onward ≡ get_or before n 0 → row_count ≤ k → Passing before n onward k rows →
-    PassedThrough n before rows
-passing_end before n onward k rows is end p =
-    record { room = p.room; passed = λ l h j. p.done l (omega arith) j ∙ ap (λ (m : ℕ). through before n m l j) is }
 
 -- a rule that leads to none changes no row
 pub passing_none : (before : List ℕ) (n : ℕ) → length before ≡ row_count → get_or before n 0 ≡ 0 → PassedThrough n before before

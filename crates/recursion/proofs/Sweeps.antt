@@ -56,10 +56,6 @@ before_or_at k l h = go (dec_lt l k)
     go (yes g) = inl g
     go (no g) = inr (omega arith)
 
-pub sweep_starts : (gs : List ℕ) (known : ℕ) (Seen : ℕ → Type 0) → Sweepable gs known → ((k : ℕ) → k < rules gs → Seen k → ⊥) → Sweeping gs known known Seen
-sweep_starts gs known Seen s none =
-    record { grown = omega arith; kept = λ l t. t; only = s.only; no_more = λ same k h seen. absurd (none k h seen) }
-
 module _ (gs : List ℕ) (good : (grammar_refusal gs).number ≡ 0) where
   closed : (k : ℕ) → k < rules gs → PartsBelow (rules gs) (expression gs k)
   closed = (good_grammar gs good).parts

@@ -1,61 +1,43 @@
 // The check for left recursion: refusals 11 and 12, then 19 with the lowest rule that leads back to itself.
 ghost use Rattle.std.specs.Prelude.{◌≡◌, ◌≤◌};
 ghost use Rattle.refusal.specs.Checking.{checked};
-ghost use Rattle.grammar.specs.Grammar.{max_rules, rules, grammar_refusal};
+ghost use Rattle.grammar.specs.Grammar.{max_rules, rules};
 ghost use Rattle.recursion.specs.Computed.{recursion_from, recursion_refusal};
 ghost use Rattle.recursion.specs.Code.Sets.{lowest_from};
 
-use crate::closure::closure_of;
+use crate::closure::{ROWS, closure_of};
 use crate::nothing::nothing_of;
-use crate::sets::contains;
-use grammar::check::{RULE_BYTES, refusal_of};
-use refusal::{Checked, Refusal};
+use crate::sets::RuleSet;
+use grammar::Grammar;
+use grammar::check::check_grammar;
+use refusal::{Kind, Refusal};
 
-// Refusal 19: a rule leads back to itself.
-pub const LEFT_RECURSION: u32 = 19;
-
-// The lowest of so many rules whose own bit its row has, as refusal 19; or number 0.
-fn lowest_of(rows: &[u32; 32], count: usize) -> Refusal
+// Refusal 19: the lowest of so many rules whose own bit its row has.
+fn check_rows(rows: &[RuleSet; ROWS], count: usize) -> Result<(), Refusal>
     requires { count ≤ max_rules }
-    ensures { result ≡ lowest_from count 0 rows.now }
+    ensures { result ≡ checked (lowest_from count 0 rows.now) }
 {
-    let mut k: usize = 0;
-    while k < count {
-        if contains(rows[k], k as u8) {
-            return Refusal {
-                number: LEFT_RECURSION,
-                place: k,
-            };
+    for k in 0..count {
+        if rows[k].contains(k as u8) {
+            return Err(Refusal::new(Kind::LeftRecursion, k));
         }
-        k += 1;
     }
-    Refusal {
-        number: 0,
-        place: 0,
-    }
+    Ok(())
 }
 
-// The lowest rule that leads back to itself, of a grammar that 11 and 12 do not refuse.
-pub fn recursion_of(grammar: &[u8]) -> Refusal
-    requires { (grammar_refusal grammar.now).number ≡ 0 }
-    ensures { result ≡ recursion_from (rules grammar.now) 0 grammar.now }
+// Whether a rule of a grammar leads back to itself, and else the lowest one that does.
+pub fn find_recursion(grammar: Grammar) -> Result<(), Refusal>
+    ensures { result ≡ checked (recursion_from (rules grammar.entry.bytes.now) 0 grammar.entry.bytes.now) }
 {
     let nothing = nothing_of(grammar);
     let rows = closure_of(grammar, nothing);
-    lowest_of(&rows, grammar.len() / RULE_BYTES)
+    check_rows(&rows, grammar.count())
 }
 
 // Whether a grammar is right and no rule of it leads back to itself, and else why not and where.
-pub fn check_recursion(grammar: &[u8]) -> Checked
+pub fn check_recursion(grammar: &[u8]) -> Result<(), Refusal>
     ensures { result ≡ checked (recursion_refusal grammar.now) }
 {
-    let refusal = refusal_of(grammar);
-    if refusal.number != 0 {
-        return Checked::Refused(refusal);
-    }
-    let recursion = recursion_of(grammar);
-    if recursion.number != 0 {
-        return Checked::Refused(recursion);
-    }
-    Checked::Good
+    check_grammar(grammar)?;
+    find_recursion(Grammar { bytes: grammar })
 }

@@ -1,6 +1,5 @@
 -- `recursion::closure::leads_to` meets its contract, kind by kind. Assumes nothing.
-use Rattle.recursion.proofs.Members.{no_members}
-use Rattle.recursion.proofs.Rows.{sequence_leads, choice_leads, not_leads, empty_leads, range_leads}
+use Rattle.recursion.proofs.Rows.{sequence_leads, choice_leads, not_leads, neither_leads}
 use Rattle.recursion.proofs.Parts.{sequence_parts, choice_parts, not_part}
 use Rattle.recursion.proofs.closure.leads_to.Goals as goal
 
@@ -33,7 +32,4 @@ pub returns-in-Not : goal.returns-in-Not
 returns-in-Not c = not_leads _ _ _ c.in-Not.is c.single-in-Not.ensures
 
 pub returns-in-Empty : goal.returns-in-Empty
-returns-in-Empty c = empty_leads _ _ _ c.in-Empty.is no_members
-
-pub returns-in-Range : goal.returns-in-Range
-returns-in-Range c = range_leads _ _ _ c.in-Range.is no_members
+returns-in-Empty c l = rw c.empty.ensures (neither_leads _ _ c.in-Empty.is l)

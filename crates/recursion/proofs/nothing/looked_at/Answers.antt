@@ -5,17 +5,14 @@ use Rattle.recursion.proofs.Parts.{parts_few}
 use Rattle.grammar.proofs.GrammarGood.{good_grammar}
 use Rattle.recursion.proofs.nothing.looked_at.Goals as goal
 
-pub expression_of-requires : goal.expression_of-requires
-expression_of-requires c = c.requires.1
-
 pub matches_nothing-matches-requires : goal.matches_nothing-matches-requires
-matches_nothing-matches-requires c = parts_few _ _ c.requires.0 c.requires.1 _ c.expression_of.ensures
+matches_nothing-matches-requires c = parts_few _ _ c.args.grammar.right c.requires _ c.expression.ensures
 
 pub overflow_cast-k : goal.overflow_cast-k
-overflow_cast-k c = let few = (good_grammar _ c.requires.0).rules_most in omega (arith, c.requires.1)
+overflow_cast-k c = omega (arith, c.requires, (good_grammar _ c.args.grammar.right).rules_most)
 
 pub added-requires : goal.added-requires
-added-requires c = let few = (good_grammar _ c.requires.0).rules_most in omega (arith, c.requires.1)
+added-requires c = omega (arith, c.requires, (good_grammar _ c.args.grammar.right).rules_most)
 
 pub returns : goal.returns
-returns c = looked_right _ _ _ _ _ _ c.expression_of.ensures c.matches_nothing-matches.ensures c.added.ensures
+returns c = looked_right _ _ _ _ _ _ c.expression.ensures c.matches_nothing-matches.ensures c.added.ensures

@@ -1,6 +1,0 @@
--- `recursion::sets::single` meets its contract: one bit alone. Assumes nothing.
-use Rattle.recursion.proofs.Members.{single_members}
-use Rattle.recursion.proofs.sets.single.Goals as goal
-
-pub returns : goal.returns
-returns c = single_members _ c.requires
