@@ -12,7 +12,8 @@ use Rattle.image.specs.Image.{machine}
 use Rattle.image.specs.Refusals.{capture_refusal}
 use Rattle.refusal.proofs.Refused.{neither, not_refused}
 use Rattle.interpreter.specs.Answers.{Ran}
-use Rattle.interpreter.specs.PlainRun.{RunEnd, run_on, TrueEnd}
+use Rattle.interpreter.specs.declared.RunEnd.{RunEnd}
+use Rattle.interpreter.specs.PlainRun.{run_on, TrueEnd}
 use Rattle.interpreter.specs.Calls.{run_refusal, answer, RunAs, RunSays}
 use Rattle.interpreter.proofs.TrueEnd.{plain_run_true}
 

@@ -11,5 +11,4 @@ pub mod StepLaws
 pub mod CodeLaws
 pub mod MachineLaws
 pub mod WalkLaws
-pub mod ClearLaws
 pub mod RefusalLaws

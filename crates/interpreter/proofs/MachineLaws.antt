@@ -1,5 +1,5 @@
 -- The machine of an image and a capture that are not refused can be run on the cells. Assumes nothing.
-use mathlib.Core.Path.{◌≡◌}
+use mathlib.Core.Path.{◌≡◌, sym, ◌∙◌}
 use mathlib.Core.Bool.{Bool}
 use mathlib.Core.List.{List}
 use Prim.Native.Nat.{ℕ, ◌≤◌, ◌<◌}
@@ -7,12 +7,13 @@ use native.Mathlib.Omega.{arith}
 use lib.ListN.{length}
 use Rattle.machine.specs.declared.Config.{Config}
 use Rattle.image.specs.declared.Sizes.{Sizes}
+use Rattle.machine.specs.declared.Action.{Action}
 use Rattle.machine.specs.declared.Action.TheVariants.{Pop}
 use Rattle.image.specs.Format
 use Rattle.machine.specs.Run.{ValidConfig}
 use Rattle.image.specs.Image.{machine, action}
 use Rattle.image.specs.Refusals.{Unrefused}
-use Rattle.interpreter.specs.declared.RunState.{RunState}
+use Rattle.interpreter.specs.declared.step.RunState.{RunState}
 use Rattle.interpreter.specs.Code.Stepping.{max_steps, TakeReady, PlainStepReady}
 use Rattle.image.proofs.Rules.{good}
 use Rattle.image.proofs.Inside.{inside}
@@ -42,10 +43,10 @@ pop_state bs cs c p t u h e =
 
 -- with some budget left, what a step needs is enough to take it
 pub take_ready :
-    {bs cs : List ℕ} {z : Sizes} {f b : ℕ} {s : RunState} {ks : List ℕ} → PlainStepReady bs cs z f b s ks → s.steps < max_steps →
-    TakeReady (action bs cs s.at) s ks
-take_ready {bs} {cs} {s = s} {ks} r more =
+    {bs cs : List ℕ} {z : Sizes} {f b : ℕ} {s : RunState} {ks : List ℕ} {a : Action} → a ≡ action bs cs s.at →
+    PlainStepReady bs cs z f b s ks → s.steps < max_steps → TakeReady a s ks
+take_ready {bs} {cs} {s = s} {ks} is r more =
     record {
       ready = entry_ready (machine bs cs) (runnable bs cs r.unrefused) s ks r.ready more;
-      pops = λ p t e. pop_state bs cs s.at p t r.unrefused r.ready.there e;
+      pops = λ p t e. pop_state bs cs s.at p t r.unrefused r.ready.there (sym is ∙ e);
     }

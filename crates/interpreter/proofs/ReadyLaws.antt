@@ -13,7 +13,7 @@ use Rattle.machine.specs.declared.Action.TheVariants.{Change, Push, Pop}
 use Rattle.image.specs.Format
 use Rattle.machine.specs.Run.{Machine, config, returned}
 use Rattle.machine.proofs.Reach.{Inside}
-use Rattle.interpreter.specs.declared.RunState.{RunState}
+use Rattle.interpreter.specs.declared.step.RunState.{RunState}
 use Rattle.interpreter.specs.Code.Stepping.{cell_symbols, cell_of, run_state, StackReady, max_steps, PushReady}
 use Rattle.interpreter.proofs.CellLaws.{cell_symbol, cell_pointer}
 

@@ -1,5 +1,8 @@
 -- The plain run's refusals, and its contract by them. Assumes nothing.
-use mathlib.Core.Path.{◌≡◌, refl}
+use Rattle.std.specs.Prelude.{Ok, Err}
+use Rattle.std.specs.Result.{IsErrAnd}
+use Rattle.std.proofs.lemmas.Result.{err_from_is_err_and}
+use mathlib.Core.Path.{◌≡◌, refl, sym, ap, ◌∙◌}
 use mathlib.Core.Bool.{Bool, true, false}
 use mathlib.Core.List.{List}
 use Prim.Native.Nat.{ℕ, zero, suc, ◌<◌}
@@ -12,29 +15,22 @@ use Rattle.machine.specs.Run.{start}
 use Rattle.codec.specs.Bytes.{byte}
 use Rattle.image.specs.Image.{machine}
 use Rattle.refusal.specs.First.{refusal, no_refusal, or_else, refuse_if}
+use Rattle.refusal.specs.Checking.{checked}
+use Rattle.refusal.proofs.Checked.{checked-passes, checked-refuses, checked-refused}
 use Rattle.image.specs.Refusals.{capture_refusal}
 use Rattle.refusal.proofs.Refused.{neither}
 use Rattle.image.proofs.CaptureRefused.{unrefused_by}
 use Rattle.interpreter.specs.Answers.{Ran}
-use Rattle.interpreter.specs.declared.Ran.TheVariants as ran
-use Rattle.interpreter.specs.PlainRun.{RunEnd, run_on}
+use Rattle.interpreter.specs.declared.RunEnd.{RunEnd}
+use Rattle.interpreter.specs.PlainRun.{run_on}
 use Rattle.interpreter.specs.Calls.{run_refusal, answer, RunAs, RunSays}
 use Rattle.interpreter.specs.Code.Stepping.{RunReady}
 
--- EACH WAY THROUGH THE CHECKS
-module _ (bs cs : List ℕ) (k : ℕ) (f : Refusal) (e : f ≡ capture_refusal bs (length cs)) where
-  pub refused_capture : (f.number ≡ 0 → ⊥) → f ≡ run_refusal bs cs k
-  unfolding run_refusal or_else
-  refused_capture h = simp (← e, ne_eqb _ _ h)
-
-  module _ (none : f.number ≡ 0) where
-    pub refused_cells : k ≡ 0 → refusal 10 0 ≡ run_refusal bs cs k
-    unfolding run_refusal or_else refuse_if
-    refused_cells z = simp (← e, eq-eqb _ _ none, eq-eqb k 0 z)
-
-    pub refused_not : (k ≡ 0 → ⊥) → no_refusal ≡ run_refusal bs cs k
-    unfolding run_refusal or_else refuse_if
-    refused_not z = simp (← e, eq-eqb _ _ none, ne_eqb k 0 z)
+-- where capture and cells are right, nothing is refused
+module _ (bs cs : List ℕ) (k : ℕ) (f : Refusal) (e : f ≡ capture_refusal bs (length cs)) (none : f.number ≡ 0) where
+  pub refused_not : (k ≡ 0 → ⊥) → no_refusal ≡ run_refusal bs cs k
+  unfolding run_refusal or_else refuse_if
+  refused_not z = simp (← e, eq-eqb _ _ none, ne_eqb k 0 z)
 
 -- with no refusal the run can go
 some_cell_by : (k : ℕ) (t : Bool) → eqb k 0 ≡ t → (refuse_if t (refusal 10 0)).number ≡ 0 → 0 < k
@@ -43,23 +39,26 @@ some_cell_by k true q h = absurd (omega (arith, h))
 some_cell_by k false q h = omega (arith, eqb-false k 0 q)
 
 pub run_ready :
-    (bs cs ks : List ℕ) → (run_refusal bs cs (length ks)).number ≡ 0 → ((i : ℕ) → byte cs i < 256) → RunReady bs cs ks
+    (bs cs ks : List ℕ) → checked (run_refusal bs cs (length ks)) ≡ Ok tt → ((i : ℕ) → byte cs i < 256) → RunReady bs cs ks
 unfolding run_refusal
 run_ready bs cs ks e h =
-    let (capture, cell) = neither _ _ (record { none_such = e }) in
+    let (capture, cell) = neither _ _ (record { none_such = checked-passes _ e }) in
     record { unrefused = unrefused_by bs cs h capture.none_such; some_cell = some_cell_by (length ks) _ refl cell.none_such }
 
 -- THE CONTRACT
-says_as_refused : (n : ℕ) (f : Refusal) (e : RunEnd) (a : List ℕ) → (n ≡ 0 → ⊥) → RunAs n f e (ran.Refused f) a a
+says_as_refused : (n : ℕ) (f : Refusal) (e : RunEnd) (r : Ran) (a : List ℕ) → eqb n 0 ≡ false → r ≡ Err f → RunAs n f e r a a
 unfolding RunAs
-says_as_refused zero f e a h = absurd (h refl)
-says_as_refused (suc n) f e a h = (refl, refl)
+says_as_refused zero f e r a h g = cc
+says_as_refused (suc n) f e r a h g = (g, refl)
 
 pub says_refused :
-    (bs cs : List ℕ) (n : ℕ) (f : Refusal) (a : List ℕ) → f ≡ run_refusal bs cs (length a) → (f.number ≡ 0 → ⊥) →
-    RunSays bs cs n (ran.Refused f) a a
+    (bs cs : List ℕ) (n : ℕ) (f : Refusal) (r : Ran) (a : List ℕ) → Err f ≡ checked (run_refusal bs cs (length a)) →
+    IsErrAnd r (λ e. e ≡ f) → RunSays bs cs n r a a
 unfolding RunSays
-says_refused bs cs n f a e h = rw (← e) (says_as_refused f.number f _ a h)
+says_refused bs cs n f r a e h =
+    let (g, is, same) = err_from_is_err_and r h in
+    let told : f ≡ run_refusal bs cs (length a) = checked-refuses _ f (sym e) in
+    says_as_refused _ _ _ r a (checked-refused _ f (sym e)) (is ∙ ap Err (same ∙ told))
 
 says_as_answer :
     (n : ℕ) (f : Refusal) (e : RunEnd) (r : Ran) (a b : List ℕ) → n ≡ 0 → r ≡ answer e → b ≡ replicate (length a) 0 → RunAs n f e r a b

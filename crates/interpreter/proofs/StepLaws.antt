@@ -8,6 +8,7 @@ use native.Mathlib.Numerals.{add-one}
 use lib.Dec.{leb, eqb}
 use lib.ListN.{length, get_or, set, length-set}
 use borrow.Author.Tests.{leb-true, leb-false, eqb-true, eqb-false}
+use Rattle.std.specs.declared.ops.ControlFlow.TheVariants.{Continue, Break}
 use Rattle.machine.specs.declared.Config.{Config}
 use Rattle.machine.specs.declared.Action.{Action}
 use Rattle.machine.specs.declared.Action.TheVariants.{Stop, Change, Push, Pop}
@@ -17,11 +18,10 @@ use Rattle.machine.specs.Run.{Machine, Entry, over, next, step, config, config_o
 use Rattle.machine.specs.Verdicts.{over_base}
 use Rattle.machine.proofs.Runs.{config_over, step_stop, step_change, step_push, step_pop, step_pop_last}
 use Rattle.interpreter.specs.declared.Exit.TheVariants.{Terminated, Deep}
-use Rattle.interpreter.specs.declared.RunState.{RunState}
-use Rattle.interpreter.specs.declared.StepResult.{StepResult}
-use Rattle.interpreter.specs.declared.StepResult.TheVariants.{On, Exited}
-use Rattle.interpreter.specs.PlainRun.{RunEnd, run_end, spent_or, run_on}
-use Rattle.interpreter.specs.Code.Stepping.{cell_symbols, cell_of, stack_of, description_of, run_state, change_result, push_result, popped_to, pop_head, pop_result, take_result, spent_exit, result_by, cells_pushed, cells_taken, cells_by, StackReady}
+use Rattle.interpreter.specs.declared.step.RunState.{RunState}
+use Rattle.interpreter.specs.declared.RunEnd.{RunEnd}
+use Rattle.interpreter.specs.PlainRun.{run_end, spent_or, run_on}
+use Rattle.interpreter.specs.Code.Stepping.{cell_symbols, cell_of, stack_of, description_of, run_state, StepResult, exited, change_result, push_result, popped_to, pop_head, pop_result, take_result, spent_exit, result_by, cells_pushed, cells_taken, cells_by, StackReady}
 use Rattle.interpreter.proofs.CellLaws.{stack_length, stack_push, stack_pop}
 use Rattle.interpreter.proofs.ReadyLaws.{Runnable, symbol_small, ready_change, ready_push, ready_pop}
 use Rattle.interpreter.proofs.RunSteps.{run_spent, run_stopped, run_over, run_deep, run_next}
@@ -39,8 +39,8 @@ pub record Goes (M : Machine) (b : ℕ) (s : RunState) (ks : List ℕ) (t : RunS
   pub long : length ks' ≡ length ks
 
 abbrev pub Told : Machine → (budget : ℕ) → RunState → (cells cells_now : List ℕ) → StepResult → Type 0
-Told M b s ks ks' (On t) = Goes M b s ks t ks'
-Told M b s ks ks' (Exited e n) = run_from M b s ks ≡ run_end e n s.at
+Told M b s ks ks' (Continue t) = Goes M b s ks t ks'
+Told M b s ks ks' (Break e) = run_from M b s ks ≡ e
 
 at_of : (s : RunState) (ks : List ℕ) → config_of (description_of s ks) ≡ s.at
 at_of s ks = config_over s.at s.pointer (stack_of s.below ks)
@@ -78,7 +78,7 @@ module _ (M : Machine) (fit : Runnable M) (b : ℕ) (s : RunState) (ks : List �
             (omega (arith, height_of t ks', q.room)));
       }
 
-  stop_told : (why : Reason) → M.action s.at ≡ Stop why → Told M b s ks ks (Exited (Terminated (Stopped why)) s.steps)
+  stop_told : (why : Reason) → M.action s.at ≡ Stop why → Told M b s ks ks (exited s (Terminated (Stopped why)) s.steps)
   stop_told why e =
       let stops = step_stop M s.at s.pointer (stack_of s.below ks) e in
       rw fuel
@@ -103,7 +103,7 @@ module _ (M : Machine) (fit : Runnable M) (b : ℕ) (s : RunState) (ks : List �
 
   push_told :
       (c : Config) → M.action s.at ≡ Push c → (t : Bool) → leb (s.below + 2) (length ks) ≡ t →
-      Told M b s ks (cond t with_top ks) (cond t (On (run_state c c.head (s.below + 1) (s.steps + 1))) (Exited Deep s.steps))
+      Told M b s ks (cond t with_top ks) (cond t (Continue (run_state c c.head (s.below + 1) (s.steps + 1))) (exited s Deep s.steps))
   push_told c e true q =
       let l : s.below + 2 ≤ length ks = leb-true (s.below + 2) (length ks) q in
       goes_to (run_state c c.head (s.below + 1) (s.steps + 1)) with_top (push_step c (s.steps + 1) e) refl
@@ -133,7 +133,7 @@ module _ (M : Machine) (fit : Runnable M) (b : ℕ) (s : RunState) (ks : List �
   pop_told :
       (p : ℕ) (t : Bool) → M.action s.at ≡ Pop p t → (u : Bool) → eqb s.below 0 ≡ u →
       Told M b s ks ks
-      (cond u (Exited (Terminated (Over (M.accepting p (pop_head s t)))) (s.steps + 1)) (On (without_top p (pop_head s t) (s.steps + 1))))
+      (cond u (exited s (Terminated (Over (M.accepting p (pop_head s t)))) (s.steps + 1)) (Continue (without_top p (pop_head s t) (s.steps + 1))))
   pop_told p t e true q =
       rw (fuel, add-one s.steps)
       (run_over M s.steps (length ks) (description_of s ks) (b - suc s.steps) p (pop_head s t) (over_step p t e (eqb-true s.below 0 q)) ∙
@@ -154,7 +154,7 @@ module _ (M : Machine) (fit : Runnable M) (b : ℕ) (s : RunState) (ks : List �
 module _ (M : Machine) (fit : Runnable M) (b : ℕ) (s : RunState) (ks : List ℕ) (r : StackReady M s ks) (w : s.steps ≤ b) where
   told_as :
       (a : Action) → M.action s.at ≡ a → (t : Bool) → eqb s.steps b ≡ t →
-      Told M b s ks (cond t ks (cells_taken s ks a)) (cond t (Exited (spent_exit a) s.steps) (take_result M.accepting s ks a))
+      Told M b s ks (cond t ks (cells_taken s ks a)) (cond t (exited s (spent_exit a) s.steps) (take_result M.accepting s ks a))
   told_as a e true q =
       let z : b - s.steps ≡ 0 = omega (arith, eqb-true s.steps b q) in
       rw z

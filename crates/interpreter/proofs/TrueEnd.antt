@@ -14,7 +14,8 @@ use Rattle.machine.specs.declared.Termination.TheVariants.{Stopped}
 use Rattle.machine.specs.Run.{Machine, Description, Outcome, stopped, over, next, step, start, after, config_of}
 use Rattle.interpreter.specs.declared.Exit.{Exit}
 use Rattle.interpreter.specs.declared.Exit.TheVariants.{Terminated, Spent, Deep}
-use Rattle.interpreter.specs.PlainRun.{RunEnd, run_end, spent_or, run_step, run_on, ExitsAs, last_pop, TrueEnd}
+use Rattle.interpreter.specs.declared.RunEnd.{RunEnd}
+use Rattle.interpreter.specs.PlainRun.{run_end, spent_or, run_step, run_on, ExitsAs, last_pop, TrueEnd}
 use Rattle.machine.proofs.Runs.{after_next, some_same}
 use Rattle.machine.proofs.Terminates.{termination_stopped, termination_over}
 use Rattle.interpreter.proofs.Heights.{pushes}

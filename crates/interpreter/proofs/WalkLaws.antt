@@ -1,23 +1,20 @@
 -- The loop of the code walks along the plain run. Assumes nothing.
-use mathlib.Core.Path.{◌≡◌, refl, ap, sym, ◌∙◌}
+use mathlib.Core.Path.{◌≡◌, refl, sym, ◌∙◌}
 use mathlib.Core.List.{List}
 use Prim.Native.Nat.{ℕ, ◌-◌, ◌<◌}
 use native.Mathlib.Omega.{arith}
 use lib.ListN.{length}
+use Rattle.std.specs.declared.ops.ControlFlow.TheVariants.{Continue, Break}
 use Rattle.image.specs.declared.Sizes.{Sizes}
 use Rattle.image.specs.Format
 use Rattle.machine.specs.Run.{Machine, config, start}
 use Rattle.codec.specs.Numbers.{u32_at}
 use Rattle.image.specs.Image.{sizes_of, machine}
 use Rattle.image.specs.Refusals.{Unrefused}
-use Rattle.interpreter.specs.declared.Exit.{Exit}
-use Rattle.interpreter.specs.declared.RunState.{RunState}
-use Rattle.interpreter.specs.declared.StepResult.{StepResult}
-use Rattle.interpreter.specs.declared.StepResult.TheVariants.{On, Exited}
-use Rattle.interpreter.specs.declared.Ran.TheVariants.{Answer}
-use Rattle.interpreter.specs.PlainRun.{run_end, run_on}
-use Rattle.interpreter.specs.Calls.{answer}
-use Rattle.interpreter.specs.Code.Stepping.{stack_of, run_state, StackReady, PlainStepReady, PlainStepSays, RunReady, RunAnswers}
+use Rattle.interpreter.specs.declared.RunEnd.{RunEnd}
+use Rattle.interpreter.specs.declared.step.RunState.{RunState}
+use Rattle.interpreter.specs.PlainRun.{run_on}
+use Rattle.interpreter.specs.Code.Stepping.{stack_of, run_state, StepResult, StackReady, PlainStepReady, PlainStepSays, RunReady, RunAnswers}
 use Rattle.interpreter.proofs.StepLaws.{run_from, Goes, Told, told}
 use Rattle.interpreter.proofs.MachineLaws.{runnable}
 
@@ -69,15 +66,14 @@ module _ {bs cs : List ℕ} {z : Sizes} {f b : ℕ} {ks₀ : List ℕ} {s : RunS
       rw (h.result, h.cells) (told (machine bs cs) (runnable bs cs n.unrefused) b s ks n.ready n.within)
 
   pub goes_on :
-      {t : RunState} {r : StepResult} {ks' : List ℕ} → r ≡ On t → PlainStepSays bs cs b s ks r ks' → Goes (machine bs cs) b s ks t ks'
-  goes_on {t} {r} {ks'} e h = told_of (On t) ks' (rw e at h)
+      {t : RunState} {r : StepResult} {ks' : List ℕ} → r ≡ Continue t → PlainStepSays bs cs b s ks r ks' → Goes (machine bs cs) b s ks t ks'
+  goes_on {t} {r} {ks'} e h = told_of (Continue t) ks' (rw e at h)
 
   pub answers :
-      {x : Exit} {n : ℕ} {r : StepResult} {ks' : List ℕ} → r ≡ Exited x n → PlainStepSays bs cs b s ks r ks' →
-      RunAnswers bs cs b (length ks₀) (Answer x n s.at)
-  answers {x} {n} {r} {ks'} e h =
-      let t : run_from (machine bs cs) b s ks ≡ run_end x n s.at = told_of (Exited x n) ks' (rw e at h) in
-      sym (ap answer (here.same ∙ t))
+      {x : RunEnd} {r : StepResult} {ks' : List ℕ} → r ≡ Break x → PlainStepSays bs cs b s ks r ks' → RunAnswers bs cs b (length ks₀) x
+  answers {x} {r} {ks'} e h =
+      let t : run_from (machine bs cs) b s ks ≡ x = told_of (Break x) ks' (rw e at h) in
+      sym (here.same ∙ t)
 
   pub walks_on : {t : RunState} {ks' : List ℕ} → Goes (machine bs cs) b s ks t ks' → Walked bs cs z f b ks₀ t ks'
   walks_on g =

@@ -8,13 +8,9 @@ use Rattle.machine.specs.declared.Action.TheVariants.{Push}
 use Rattle.machine.specs.Run.{Machine, Description, Outcome, stopped, over, next, step, start, termination, after, config_of}
 use Rattle.interpreter.specs.declared.Exit.{Exit}
 use Rattle.interpreter.specs.declared.Exit.TheVariants.{Terminated, Spent, Deep}
+use Rattle.interpreter.specs.declared.RunEnd.{RunEnd}
 
 -- what a plain run answers: how it is left, the steps taken, the configuration reached
-pub record RunEnd : Type 0 where
-  pub exit : Exit
-  pub steps : ℕ
-  pub reached : Config
-
 abbrev pub run_end : Exit → (steps : ℕ) → Config → RunEnd
 run_end e n c = record { exit = e; steps = n; reached = c }
 

@@ -1,15 +1,35 @@
 // One step of the plain run on the lent cells. The budget is asked once, before the step is taken.
 ghost use Rattle.std.specs.Prelude.{◌≡◌};
 ghost use Rattle.machine.specs.Terminating.{accepts_by};
-ghost use Rattle.interpreter.specs.Code.Stepping.{spent_exit, pop_result, PushSays, TakeSays, PlainStepSays, PushReady, PopReady, TakeReady, PlainStepReady};
+ghost use Rattle.interpreter.specs.Code.Stepping.{spent_exit};
 
-use crate::{Exit, RunState, StepResult};
+use crate::{Exit, RunEnd};
 use image::Sizes;
 use image::lookup::{accepts, action_of, returned};
 use machine::{Action, Config, Termination};
+use std::ops::ControlFlow;
 
 // A cell of the stack holds pointer * CELL_SYMBOLS + symbol.
 const CELL_SYMBOLS: u32 = 128;
+
+// Where a run is: its configuration with the top symbol, the pointer of the top entry, how many entries lie below it, the steps taken.
+#[derive(Clone, Copy)]
+pub struct RunState {
+    pub at: Config,
+    pub pointer: u32,
+    pub below: usize,
+    pub steps: u32,
+}
+
+// What a run reads at each step: image and capture, what is read of them once, and the budget of steps.
+#[derive(Clone, Copy)]
+pub struct Run<'a> {
+    pub image: &'a [u8],
+    pub capture: &'a [u8],
+    pub sizes: Sizes,
+    pub finals: u32,
+    pub budget: u32,
+}
 
 // With the budget spent: a rule that stops the run comes first.
 fn spent_exit(action: Action) -> Exit
@@ -21,110 +41,124 @@ fn spent_exit(action: Action) -> Exit
     }
 }
 
-// A push to c: the entry that was on top goes to its cell, and the new one's pointer is the head's place.
-fn push(c: Config, here: RunState, stack: &mut [u32]) -> StepResult
-    requires { PushReady here stack.old }
-    ensures { PushSays here c stack.old result stack.new }
-{
-    let below = here.below;
-    let depth = below + 2;
-    if depth <= stack.len() {
-        stack[below] = here.pointer * CELL_SYMBOLS + here.at.symbol;
-        let above = below + 1;
-        let after = here.steps + 1;
-        return StepResult::On(RunState {
+impl RunState {
+    ghost use Rattle.std.specs.declared.ops.ControlFlow.TheVariants.{Break};
+    ghost use Rattle.interpreter.specs.PlainRun.{run_end};
+    ghost use Rattle.interpreter.specs.Code.Stepping.{PushReady, PushSays};
+
+    // Every run starts in state 0 on the left marker, with one entry on the stack.
+    pub const START: RunState = RunState {
+        at: Config {
+            state: 0,
+            head: 0,
+            symbol: 0,
+        },
+        pointer: 0,
+        below: 0,
+        steps: 0,
+    };
+
+    // The run is left here, after so many steps.
+    fn left(self, exit: Exit, steps: u32) -> ControlFlow<RunEnd, RunState>
+        ensures { result ≡ Break (run_end exit steps self.at) }
+    {
+        ControlFlow::Break(RunEnd {
+            exit,
+            steps,
+            reached: self.at,
+        })
+    }
+
+    // A push to c: the entry that was on top goes to its cell, and the new one's pointer is the head's place.
+    #[tactic(auto, unfolding(crate::specs::Code::Stepping::push_result, crate::specs::Code::Stepping::cells_pushed, crate::specs::Code::Stepping::cell_of))]
+    fn push(self, c: Config, stack: &mut [u32]) -> ControlFlow<RunEnd, RunState>
+        requires { PushReady self stack.old }
+        ensures { PushSays self c stack.old result stack.new }
+    {
+        if stack.len() < self.below + 2 {
+            return self.left(Exit::Deep, self.steps);
+        }
+        stack[self.below] = self.pointer * CELL_SYMBOLS + self.at.symbol;
+        ControlFlow::Continue(RunState {
             at: c,
             pointer: c.head,
-            below: above,
-            steps: after,
-        });
-    }
-    StepResult::Exited {
-        exit: Exit::Deep,
-        steps: here.steps,
+            below: self.below + 1,
+            steps: self.steps + 1,
+        })
     }
 }
 
-// A pop: the entry below comes back from its cell; with none below the run is over.
-fn pop(
-    state: u32,
-    returns: bool,
-    finals: u32,
-    places: u32,
-    here: RunState,
-    stack: &[u32],
-) -> StepResult
-    requires { PopReady state here stack.now }
-    ensures { result ≡ pop_result (accepts_by finals places) here stack.now state returns }
-{
-    let below = here.below;
-    let after = here.steps + 1;
-    let head = returned(returns, here.pointer, here.at.head);
-    if below == 0 {
-        let accepting = accepts(finals, places, state, head);
-        return StepResult::Exited {
-            exit: Exit::Terminated(Termination::Over { accepting }),
-            steps: after,
-        };
-    }
-    let last = below - 1;
-    let cell = stack[last];
-    let at = Config {
-        state,
-        head,
-        symbol: cell % CELL_SYMBOLS,
-    };
-    StepResult::On(RunState {
-        at,
-        pointer: cell / CELL_SYMBOLS,
-        below: last,
-        steps: after,
-    })
-}
+impl<'a> Run<'a> {
+    ghost use Rattle.interpreter.specs.Code.Stepping.{pop_result, TakeSays, PlainStepSays, PopReady, TakeReady, PlainStepReady};
 
-// A step by its action, with some budget left. A changed entry keeps its pointer.
-fn take(action: Action, finals: u32, places: u32, here: RunState, stack: &mut [u32]) -> StepResult
-    requires { TakeReady action here stack.old }
-    ensures { TakeSays (accepts_by finals places) here stack.old action result stack.new }
-{
-    match action {
-        Action::Stop(reason) => StepResult::Exited {
-            exit: Exit::Terminated(Termination::Stopped(reason)),
-            steps: here.steps,
-        },
-        Action::Change(c) => {
-            let after = here.steps + 1;
-            StepResult::On(RunState {
-                at: c,
-                pointer: here.pointer,
-                below: here.below,
-                steps: after,
-            })
+    // A pop: the entry below comes back from its cell; with none below the run is over.
+    #[tactic(auto, using(crate::proofs::CodeLaws::returned_below), unfolding(crate::specs::Code::Stepping::pop_result, crate::specs::Code::Stepping::popped_to))]
+    fn pop(
+        &self,
+        state: u32,
+        returns: bool,
+        here: RunState,
+        stack: &[u32],
+    ) -> ControlFlow<RunEnd, RunState>
+        requires { PopReady state here stack.now }
+        ensures { result ≡ pop_result (accepts_by self.now.finals self.now.sizes.places) here stack.now state returns }
+    {
+        let steps = here.steps + 1;
+        let head = returned(returns, here.pointer, here.at.head);
+        if here.below == 0 {
+            let accepting = accepts(self.finals, self.sizes.places, state, head);
+            return here.left(Exit::Terminated(Termination::Over { accepting }), steps);
         }
-        Action::Push(c) => push(c, here, stack),
-        Action::Pop { state, returns } => pop(state, returns, finals, places, here, stack),
+        let below = here.below - 1;
+        let cell = stack[below];
+        ControlFlow::Continue(RunState {
+            at: Config {
+                state,
+                head,
+                symbol: cell % CELL_SYMBOLS,
+            },
+            pointer: cell / CELL_SYMBOLS,
+            below,
+            steps,
+        })
     }
-}
 
-// One step, or how the run is left where there is none.
-pub fn step(
-    image: &[u8],
-    capture: &[u8],
-    sizes: Sizes,
-    finals: u32,
-    budget: u32,
-    here: RunState,
-    stack: &mut [u32],
-) -> StepResult
-    requires { PlainStepReady image.now capture.now sizes finals budget here stack.old }
-    ensures { PlainStepSays image.now capture.now budget here stack.old result stack.new }
-{
-    let steps = here.steps;
-    if steps == budget {
-        let terminates = action_of(image, capture, sizes, here.at);
-        let exit = spent_exit(terminates);
-        return StepResult::Exited { exit, steps };
+    // A step by its action, with some budget left. A changed entry keeps its pointer.
+    #[tactic(auto, unfolding(crate::specs::Code::Stepping::take_result, crate::specs::Code::Stepping::cells_taken))]
+    fn take(
+        &self,
+        action: Action,
+        here: RunState,
+        stack: &mut [u32],
+    ) -> ControlFlow<RunEnd, RunState>
+        requires { TakeReady action here stack.old }
+        ensures { TakeSays (accepts_by self.now.finals self.now.sizes.places) here stack.old action result stack.new }
+    {
+        match action {
+            Action::Stop(reason) => {
+                here.left(Exit::Terminated(Termination::Stopped(reason)), here.steps)
+            }
+            Action::Change(c) => ControlFlow::Continue(RunState {
+                at: c,
+                steps: here.steps + 1,
+                ..here
+            }),
+            Action::Push(c) => here.push(c, stack),
+            Action::Pop { state, returns } => self.pop(state, returns, here, stack),
+        }
     }
-    let action = action_of(image, capture, sizes, here.at);
-    take(action, finals, sizes.places, here, stack)
+
+    // One step, or how the run is left where there is none.
+    #[tactic(auto, using(crate::proofs::CodeLaws::accepts_as), unfolding(crate::specs::Code::Stepping::result_by, crate::specs::Code::Stepping::cells_by))]
+    pub fn step(&self, here: RunState, stack: &mut [u32]) -> ControlFlow<RunEnd, RunState>
+        requires { PlainStepReady self.now.image.now self.now.capture.now self.now.sizes self.now.finals self.now.budget here stack.old }
+        ensures { PlainStepSays self.now.image.now self.now.capture.now self.now.budget here stack.old result stack.new }
+    {
+        if here.steps == self.budget {
+            let action = action_of(self.image, self.capture, self.sizes, here.at);
+            return here.left(spent_exit(action), here.steps);
+        }
+        let action = action_of(self.image, self.capture, self.sizes, here.at);
+        self.take(action, here, stack)
+    }
 }

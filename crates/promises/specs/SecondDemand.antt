@@ -17,7 +17,8 @@ use Rattle.simulator.specs.Answers.{Judged}
 use Rattle.simulator.specs.Calls.{cells_needed, judgement, judge_refusal, JudgeSays}
 use Rattle.simulator.specs.Replies.{of_judged}
 use Rattle.interpreter.specs.Answers.{Ran}
-use Rattle.interpreter.specs.PlainRun.{RunEnd, run_on, TrueEnd}
+use Rattle.interpreter.specs.declared.RunEnd.{RunEnd}
+use Rattle.interpreter.specs.PlainRun.{run_on, TrueEnd}
 use Rattle.interpreter.specs.Calls.{run_refusal, RunSays}
 use Rattle.interpreter.specs.Replies.{exit_number, of_ran}
 use Rattle.builder.specs.declared.Matching.{Matching}

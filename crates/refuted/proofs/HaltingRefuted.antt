@@ -20,7 +20,8 @@ use Rattle.image.specs.Conditions.{halt_right}
 use Rattle.image.specs.WithoutHalting.{rule_bad_before}
 use Rattle.image.proofs.CaptureRefused.{then_fine}
 use Rattle.image.proofs.Rules.{class_below}
-use Rattle.interpreter.specs.PlainRun.{RunEnd, run_on}
+use Rattle.interpreter.specs.declared.RunEnd.{RunEnd}
+use Rattle.interpreter.specs.PlainRun.{run_on}
 use Rattle.interpreter.specs.Calls.{run_refusal, answer}
 use Rattle.interpreter.proofs.RefusalLaws.{refused_not, says_answer}
 use Rattle.builder.specs.declared.Matching.TheVariants.{Whole}

@@ -21,7 +21,8 @@ use Rattle.image.specs.Refusals.{Unrefused, image_refusal, capture_refusal}
 use Rattle.image.proofs.CaptureRefused.{then_length}
 use Rattle.simulator.specs.Calls.{judge_refusal, JudgeAs, JudgeSays}
 use Rattle.interpreter.specs.declared.Exit.TheVariants.{Terminated, Spent}
-use Rattle.interpreter.specs.PlainRun.{RunEnd, run_end, run_on}
+use Rattle.interpreter.specs.declared.RunEnd.{RunEnd}
+use Rattle.interpreter.specs.PlainRun.{run_end, run_on}
 use Rattle.interpreter.specs.Calls.{run_refusal, answer, RunAs, RunSays}
 use Rattle.grammar.specs.Grammar as Grammar
 use Rattle.builder.specs.declared.Matching.{Matching}

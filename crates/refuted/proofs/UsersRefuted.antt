@@ -17,7 +17,7 @@ use Rattle.machine.specs.Replies.{verdict_number}
 use Rattle.image.specs.Refusals.{image_refusal, capture_refusal}
 use Rattle.simulator.specs.Calls.{judge_refusal, JudgeAs, JudgeSays}
 use Rattle.simulator.specs.Replies.{of_judged}
-use Rattle.interpreter.specs.PlainRun.{RunEnd}
+use Rattle.interpreter.specs.declared.RunEnd.{RunEnd}
 use Rattle.builder.specs.declared.Matching.TheVariants.{Whole}
 use Rattle.answer_line.specs.Line.{digits, decimal, field, verdict_word, refused_word, refusal_line, answer_line, written, Lined}
 use Rattle.answer.specs.Input.{input_grammar}

@@ -23,7 +23,8 @@ use Rattle.machine.proofs.Runs.{some_same}
 use Rattle.machine.proofs.Terminates.{says_looping}
 use Rattle.interpreter.specs.declared.Exit.{Exit}
 use Rattle.interpreter.specs.declared.Exit.TheVariants.{Terminated, Spent, Deep}
-use Rattle.interpreter.specs.PlainRun.{RunEnd, run_end, run_on, TrueEnd}
+use Rattle.interpreter.specs.declared.RunEnd.{RunEnd}
+use Rattle.interpreter.specs.PlainRun.{run_end, run_on, TrueEnd}
 use Rattle.interpreter.proofs.TrueEnd.{plain_run_true}
 use Rattle.chain.specs.declared.Registers.{Registers}
 use Rattle.chain.specs.Step.{ProgramState}

@@ -14,7 +14,8 @@ use Rattle.image.specs.Encoding.{Parts, encode}
 use Rattle.image.specs.Refusals.{Unrefused}
 use Rattle.machine.specs.Verdicts.{Says, GoesOn, AllEntered}
 use Rattle.interpreter.specs.declared.Exit.TheVariants.{Terminated, Spent, Deep}
-use Rattle.interpreter.specs.PlainRun.{RunEnd, run_end, run_on, TrueEnd}
+use Rattle.interpreter.specs.declared.RunEnd.{RunEnd}
+use Rattle.interpreter.specs.PlainRun.{run_end, run_on, TrueEnd}
 use Rattle.grammar.specs.Grammar.{grammar_refusal}
 use Rattle.builder.specs.declared.Matching.{Matching}
 use Rattle.builder.specs.declared.Matching.TheVariants.{Whole, Leading}
