@@ -7,13 +7,15 @@ use native.Mathlib.Omega.{arith}
 use lib.Dec.{ltb}
 use lib.ListN.{length, take, drop}
 use lib.Seq.{length-take-le}
-use borrow.Author.Tests.{lt-ltb, le-ltb, eq-eqb, ne_eqb}
+use borrow.Author.Tests.{lt-ltb, le-ltb, eq-eqb, ne_eqb, eqb-false}
 use Rattle.refusal.specs.declared.Refusal.{Refusal}
 use Rattle.machine.specs.Run.{how_many}
 use Rattle.codec.specs.Bytes.{byte}
 use Rattle.image.specs.Image.{machine}
 use Rattle.image.proofs.CaptureRefused.{unrefused_by, image_first, capture_fine, then_length}
 use Rattle.refusal.specs.First.{refusal, no_refusal, or_else, refuse_if}
+use Rattle.refusal.specs.Checking.{checked as checks}
+use Rattle.refusal.proofs.Checked.{checked-passes, checked-refuses, checked-refused}
 use Rattle.image.specs.Format
 use Rattle.image.specs.Refusals.{image_refusal, capture_refusal}
 use Rattle.simulator.specs.declared.Judgement.{Judgement}
@@ -77,9 +79,9 @@ checked bs cs x y {n} sized bytes h k =
     }
 
 -- image and capture are not refused, and so many cells are needed for them
-module _ (bs : List ℕ) (n : ℕ) (good : (image_refusal bs).number ≡ 0) {f : Refusal} (q : f ≡ refuse_if (ltb Format.max_capture n) (refusal 7 n)) (none : f.number ≡ 0) where
+module _ (bs : List ℕ) (n : ℕ) (good : (image_refusal bs).number ≡ 0) (passed : checks (refuse_if (ltb Format.max_capture n) (refusal 7 n)) ≡ Ok tt) where
   length_fine : (capture_refusal bs n).number ≡ 0
-  length_fine = ap (λ (g : Refusal). g.number) (sym (then_length bs n (image_refusal bs) refl good q)) ∙ none
+  length_fine = ap (λ (f : Refusal). f.number) (sym (then_length bs n (image_refusal bs) refl good refl)) ∙ checked-passes _ passed
 
   pub length_short : ((image_refusal bs).number ≡ 0) × (n ≤ Format.max_capture)
   length_short = capture_fine bs n length_fine
@@ -87,20 +89,24 @@ module _ (bs : List ℕ) (n : ℕ) (good : (image_refusal bs).number ≡ 0) {f :
   pub sized : (cs : List ℕ) → n ≡ length cs → {k : ℕ} → k ≡ cells_needed bs n → Sized bs cs k
   sized cs e counted = record { no_refusal = rw (← e) length_fine; counted = rw (← e) counted }
 
-module _ (bs cs x y : List ℕ) {r : Judged} where
-  early_says : {f : Refusal} → f ≡ capture_refusal bs (length cs) → (f.number ≡ 0 → ⊥) → r ≡ Err f → JudgeSays bs cs r x x y y
-  early_says {f} e some q =
-      let h : (capture_refusal bs (length cs)).number ≡ 0 → ⊥ = λ z. some (ap (λ (g : Refusal). g.number) e ∙ z) in
-      refused_says bs cs x y (cells_refused bs cs (length x) (length y) h ∙ sym e) some q
+module _ (bs cs x y : List ℕ) {r : Judged} {e : Refusal} (q : r ≡ Err e) where
+  capture_says : (f : Refusal) → f ≡ capture_refusal bs (length cs) → (f.number ≡ 0 → ⊥) → e ≡ f → JudgeSays bs cs r x x y y
+  capture_says f is some z =
+      let h : (capture_refusal bs (length cs)).number ≡ 0 → ⊥ = λ none. some (ap (λ (g : Refusal). g.number) is ∙ none) in
+      refused_says bs cs x y (cells_refused bs cs (length x) (length y) h ∙ sym is) some (q ∙ ap Err z)
 
-  pub image_says : {f : Refusal} → f ≡ image_refusal bs → (f.number ≡ 0 → ⊥) → r ≡ Err f → JudgeSays bs cs r x x y y
-  image_says {f} e some q = early_says (image_first bs (length cs) f e some) some q
+  pub image_says : checks (image_refusal bs) ≡ Err e → JudgeSays bs cs r x x y y
+  image_says h =
+      let some = eqb-false _ _ (checked-refused _ _ h) in
+      capture_says (image_refusal bs) (image_first bs (length cs) _ refl some) some (checked-refuses _ _ h)
 
   pub long_says :
-      (image_refusal bs).number ≡ 0 → {f : Refusal} → f ≡ refuse_if (ltb Format.max_capture (length cs)) (refusal 7 (length cs)) →
-      (f.number ≡ 0 → ⊥) → r ≡ Err f → JudgeSays bs cs r x x y y
-  long_says good {f} q some e = early_says (then_length bs (length cs) (image_refusal bs) refl good q) some e
+      (image_refusal bs).number ≡ 0 → checks (refuse_if (ltb Format.max_capture (length cs)) (refusal 7 (length cs))) ≡ Err e →
+      JudgeSays bs cs r x x y y
+  long_says good h =
+      capture_says _ (then_length bs (length cs) (image_refusal bs) refl good refl) (eqb-false _ _ (checked-refused _ _ h)) (checked-refuses _ _ h)
 
+module _ (bs cs x y : List ℕ) {r : Judged} where
   module _ {n : ℕ} (sized : Sized bs cs n) where
     pub notes_says : length x < n → r ≡ Err (refusal 8 n) → JudgeSays bs cs r x x y y
     notes_says h q =

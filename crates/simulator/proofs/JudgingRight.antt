@@ -40,7 +40,7 @@ verdict_there bs cs u =
     let j = chain_judges bs cs u in
     (j.verdict, chain.end (reached chain bs cs j.steps).state, j.says)
 
-answer_same : {v w : Verdict} {n m : ℕ} {d e : Config} → Ok (judgement v n d) ≡ Ok (judgement w m e) → (v ≡ w) × (n ≡ m) × (d ≡ e)
+answer_same : {v w : Verdict} {n m : ℕ} {d e : Config} → ◌≡◌ {A = Judged} (Ok (judgement v n d)) (Ok (judgement w m e)) → (v ≡ w) × (n ≡ m) × (d ≡ e)
 answer_same {v} {w} {n} {m} {d} {e} q =
     let same : judgement v n d ≡ judgement w m e = cc in (
       ap (λ (j : Judgement). j.verdict) same,

@@ -2,8 +2,8 @@
 pub mod Starting
 pub mod Needing
 pub mod JudgeMode
+pub mod StepsLeft
 pub mod JudgeLoop
-pub mod JudgeCells
 pub mod JudgeRefusals
 pub mod Determined
 pub mod ConditionsMet

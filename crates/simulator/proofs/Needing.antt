@@ -1,17 +1,18 @@
 -- How many cells judging needs, by the capture's length alone; and the answer of the call `cells`, by its tests. Assumes nothing.
 use Rattle.std.specs.Prelude.{Err, Ok}
-use mathlib.Core.Path.{◌≡◌, refl, ap}
+use mathlib.Core.Path.{◌≡◌, refl}
 use mathlib.Core.List.{List}
 use Prim.Native.Nat.{ℕ, ◌+◌, ◌*◌, ◌≤◌}
 use native.Mathlib.Omega.{arith}
 use lib.ListN.{length, replicate, length-replicate}
-use borrow.Author.Tests.{eq-eqb, ne_eqb}
 use Rattle.refusal.specs.declared.Refusal.{Refusal}
+use Rattle.refusal.specs.Checking.{checked}
+use Rattle.refusal.proofs.Checked.{checked-passes, checked-refuses, checked-refused}
 use Rattle.image.specs.Format
 use Rattle.machine.specs.Run.{how_many}
 use Rattle.image.specs.Image.{machine, states, symbols}
 use Rattle.image.specs.Refusals.{image_refusal, Unrefused}
-use Rattle.simulator.specs.Answers.{Needs}
+use Rattle.image.proofs.Rules.{good}
 use Rattle.simulator.specs.Calls.{cells_needed, needs}
 use Rattle.chain.proofs.StepSafe.{few_cells, few_places}
 use Rattle.chain_theory.proofs.Finish.{zeros}
@@ -30,6 +31,9 @@ module _ (bs : List ℕ) (n : ℕ) (g : (image_refusal bs).number ≡ 0) (s : n 
         bytes = λ i. let z = zeros n i in omega (arith, z);
       }
 
+  pub counts_there : Format.map_offset ≤ length bs
+  counts_there = omega (arith, (good some_capture).long)
+
   pub few_places_of : states bs * (n + 2) ≤ Format.max_states * Format.max_places
   few_places_of = let f = few_places some_capture in rw (length-replicate {A = ℕ} n 0) at f
 
@@ -39,13 +43,10 @@ module _ (bs : List ℕ) (n : ℕ) (g : (image_refusal bs).number ≡ 0) (s : n 
 
 -- the answer of the call
 module _ (f : Refusal) (n : ℕ) where
-  pub needs_none : (f.number ≡ 0 → ⊥) → Err f ≡ needs f n
+  pub needs_none : {e : Refusal} → checked f ≡ Err e → Err e ≡ needs f n
   unfolding needs
-  needs_none h = rw (ne_eqb _ _ h)
+  needs_none {e} h = rw (checked-refuses f e h, checked-refused f e h) refl
 
-  pub needs_cells : f.number ≡ 0 → {k : ℕ} → k ≡ n → Ok k ≡ needs f n
+  pub needs_cells : checked f ≡ Ok tt → Ok n ≡ needs f n
   unfolding needs
-  needs_cells h q = rw (eq-eqb _ _ h) (ap Ok q)
-
-pub needs_as : {f g : Refusal} (n : ℕ) {r : Needs} → f ≡ g → r ≡ needs f n → r ≡ needs g n
-needs_as n e h = rw (← e) h
+  needs_cells h = rw (checked-passes f h) refl

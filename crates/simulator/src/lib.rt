@@ -5,7 +5,6 @@ pub mod judge;
 pub mod replies;
 
 use machine::{Config, Verdict};
-use refusal::Refusal;
 
 // What judging comes to: the run's verdict, how many configurations it enters, and its end configuration.
 #[derive(Clone, Copy)]
@@ -13,18 +12,4 @@ pub struct Judgement {
     pub verdict: Verdict,
     pub readings: u32,
     pub end: Config,
-}
-
-// The answer of the call `judge`.
-#[derive(Clone, Copy)]
-pub enum Judged {
-    Refused(Refusal),
-    Answer(Judgement),
-}
-
-// How many notes and how many work cells judging needs.
-#[derive(Clone, Copy)]
-pub enum Needs {
-    Refused(Refusal),
-    Cells(usize),
 }

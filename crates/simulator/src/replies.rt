@@ -2,27 +2,27 @@
 ghost use Rattle.std.specs.Prelude.{◌≡◌};
 ghost use Rattle.simulator.specs.Replies.{of_needs, of_judged};
 
-use crate::{Judged, Needs};
+use crate::Judgement;
 use machine::Reply;
 use machine::replies::{answer_reply, count_reply, refusal_reply, verdict_number};
+use refusal::Refusal;
 
-pub fn cells_reply(needs: Needs) -> Reply
+#[tactic(auto, unfolding(crate::specs::Replies::of_needs))]
+pub fn cells_reply(needs: Result<usize, Refusal>) -> Reply
     ensures { result ≡ of_needs needs }
 {
     match needs {
-        Needs::Refused(refusal) => refusal_reply(refusal),
-        Needs::Cells(count) => count_reply(count),
+        Ok(count) => count_reply(count),
+        Err(refusal) => refusal_reply(refusal),
     }
 }
 
-pub fn judge_reply(judged: Judged) -> Reply
+#[tactic(auto, unfolding(crate::specs::Replies::of_judged))]
+pub fn judge_reply(judged: Result<Judgement, Refusal>) -> Reply
     ensures { result ≡ of_judged judged }
 {
     match judged {
-        Judged::Refused(refusal) => refusal_reply(refusal),
-        Judged::Answer(j) => {
-            let verdict = j.verdict;
-            answer_reply(verdict_number(verdict), j.readings as usize, j.end)
-        }
+        Ok(j) => answer_reply(verdict_number(j.verdict), j.readings as usize, j.end),
+        Err(refusal) => refusal_reply(refusal),
     }
 }
