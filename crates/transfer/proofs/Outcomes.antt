@@ -1,76 +1,57 @@
--- What holds between two calls of a loop that reads or writes, and what a call that moved bytes adds to it. Assumes nothing.
-use Rattle.std.proofs.Common.{◌≡◌, Bool, true, false, not, cond, eqb, ltb, refl, length, ℤ, pos, negsuc, ℕ, zero, suc, ◌+◌, ◌≤◌, ◌<◌, List, ◌++◌, take, drop, None, Some, Ok, Err, sym, ap, subst, ◌∙◌, append_assoc, arith}
+-- What one more call adds to the bytes that were moved, and what writing bytes leaves. Assumes nothing.
+use Rattle.std.proofs.Common.{◌≡◌, Bool, true, false, not, ltb, refl, length, ℕ, zero, suc, ◌+◌, ◌-◌, ◌≤◌, ◌<◌, List, ◌++◌, take, drop, None, Some, Ok, Err, sym, ap, subst, ◌∙◌, arith}
 use Rattle.std.proofs.Math.Seq.{take-add, take-append-add, take-length}
-use Rattle.std.proofs.lemmas.List.{take-append-le, length-append}
+use Rattle.std.proofs.lemmas.List.{take-append-le, take_all, length-append, length-drop, length-take-le}
+use Rattle.std.proofs.KnownBytes.{Appends-kept, Appends-trans, Consumes-kept, Consumes-trans}
 use borrow.Author.Tests.{ltb-false, not-true}
+use Rattle.std.specs.Io.{ReadsAtMost}
 use Rattle.std.specs.Io.KnownBytes.{Appends, Consumes, ReadConsumes, WriteAppends}
 use Rattle.std.specs.declared.io.Error.{Error}
 use Rattle.std.specs.declared.option.Option.{Option}
 use Rattle.std.specs.declared.result.Result.{Result}
-use Rattle.transfer.specs.declared.Outcome.{Outcome}
-use Rattle.transfer.specs.declared.Outcome.TheVariants.{Bytes, Nothing, Interrupted, Failed}
-use Rattle.transfer.specs.Transfers.{Stopped, WritesFront, errno_of, failure_of, outcome_of}
+use Rattle.transfer.specs.Transfers.{Outcome, Stopped, WritesFront, with_moved}
 
 -- between two calls: where the last one moved nothing, bytes are left
 abbrev pub Going : Outcome → (count long : ℕ) → Type 0
-Going (Bytes n) count long = (n ≤ count) × (count ≤ long)
-Going Nothing count long = count < long
-Going Interrupted count long = count < long
-Going Failed count long = count < long
+Going None count long = count ≤ long
+Going (Some (Ok zero)) count long = count < long
+Going (Some (Ok (suc k))) count long = (suc k ≤ count) × (count ≤ long)
+Going (Some (Err e)) count long = count < long
 
 -- a loop stops within the bytes that it has
 pub stops_within : (o : Outcome) (count long : ℕ) → Stopped o count long → count ≤ long
-stops_within (Bytes n) count long s = omega (arith, s.1)
-stops_within Nothing count long s = omega (arith, s)
-stops_within Interrupted count long s = omega (arith, s)
-stops_within Failed count long s = omega (arith, s)
+stops_within None count long s = omega (arith, s)
+stops_within (Some (Ok zero)) count long s = omega (arith, s)
+stops_within (Some (Ok (suc k))) count long s = omega (arith, s.1)
+stops_within (Some (Err e)) count long s = omega (arith, s)
 
--- what a reader gives twice it gives in all, and what a writer takes twice it takes in all
-Consumes-trans : (a b c : Option (List ℕ)) (xs ys : List ℕ) → Consumes a b xs → Consumes b c ys → Consumes a c (xs ++ ys)
-Consumes-trans None b c xs ys p q = tt
-Consumes-trans (Some u) None c xs ys p q = absurd p
-Consumes-trans (Some u) (Some v) None xs ys p q = absurd q
-Consumes-trans (Some u) (Some v) (Some w) xs ys p q = p ∙ ap (λ l. xs ++ l) q ∙ sym (append_assoc xs ys w)
+-- a buffer whose free part a read began to fill
+filled : (count n : ℕ) (old got rest : List ℕ) → count ≤ length old → n ≤ length got → take (count + n) (take count old ++ (got ++ rest)) ≡ take count old ++ take n got
+filled count n old got rest h fits =
+    ap (λ k. take (k + n) (take count old ++ (got ++ rest))) (sym (length-take-le count old h))
+    ∙ take-append-add (take count old) (got ++ rest) n
+    ∙ ap (λ l. take count old ++ l) (take-append-le n got rest fits)
 
-Appends-trans : (a b c : Option (List ℕ)) (xs ys : List ℕ) → Appends a b xs → Appends b c ys → Appends a c (xs ++ ys)
-Appends-trans None b c xs ys p q = tt
-Appends-trans (Some u) None c xs ys p q = absurd p
-Appends-trans (Some u) (Some v) None xs ys p q = absurd q
-Appends-trans (Some u) (Some v) (Some w) xs ys p q = q ∙ ap (λ l. l ++ ys) p ∙ append_assoc u xs ys
-
--- a call that failed moved none
-no_bytes : (b : Bool) (n : ℕ) → Bytes n ≡ cond b Interrupted Failed → ⊥
-no_bytes true n h = cc
-no_bytes false n h = cc
-
-failed_moves_none : (e : ℤ) (n : ℕ) → Bytes n ≡ failure_of e → ⊥
-failed_moves_none (pos k) n h = no_bytes (eqb k 4) n h
-failed_moves_none (negsuc k) n h = cc
-
--- a call that moved n bytes answered so many
-moved_read : (r : Result ℕ Error) (n : ℕ) (a b : Option (List ℕ)) (xs : List ℕ) → Bytes n ≡ outcome_of r → ReadConsumes a b r xs → Consumes a b (take n xs)
-moved_read (Ok zero) n a b xs h m = absurd cc
-moved_read (Ok (suc k)) n a b xs h m = let same : n ≡ suc k = cc in subst (λ i. Consumes a b (take i xs)) (sym same) m.0
-moved_read (Err e) n a b xs h m = absurd (failed_moves_none (errno_of e) n h)
-
-moved_written : (r : Result ℕ Error) (n : ℕ) (a b : Option (List ℕ)) (xs : List ℕ) → Bytes n ≡ outcome_of r → WriteAppends a b r xs → Appends a b (take n xs)
-moved_written (Ok zero) n a b xs h m = absurd cc
-moved_written (Ok (suc k)) n a b xs h m = let same : n ≡ suc k = cc in subst (λ i. Appends a b (take i xs)) (sym same) m
-moved_written (Err e) n a b xs h m = absurd (failed_moves_none (errno_of e) n h)
+unfilled : (count : ℕ) (old rest : List ℕ) → count ≤ length old → take count (take count old ++ rest) ≡ take count old
+unfilled count old rest h =
+    let long = length-take-le count old h in
+    take-append-le count (take count old) rest (omega (arith, long)) ∙ take_all count (take count old) (omega (arith, long))
 
 -- the bytes that one more call moved stand behind those that were moved before
 pub read_more :
-    (r : Result ℕ Error) (n count : ℕ) (old new : List ℕ) (a b c : Option (List ℕ)) → Bytes n ≡ outcome_of r → take count new ≡ take count old →
-    Consumes a b (take count old) → ReadConsumes b c r (drop count new) → Consumes a c (take (count + n) new)
-read_more r n count old new a b c h same before m =
-    subst (λ l. Consumes a c l) (ap (λ l. l ++ take n (drop count new)) (sym same) ∙ sym (take-add count n new))
-    (Consumes-trans a b c _ _ before (moved_read r n b c _ h m))
+    (r : Result ℕ Error) (count : ℕ) (old got rest : List ℕ) (a b c : Option (List ℕ)) → count ≤ length old → ReadsAtMost r got →
+    Consumes a b (take count old) → ReadConsumes b c r got → Consumes a c (take (with_moved count r) (take count old ++ (got ++ rest)))
+read_more (Ok n) count old got rest a b c h fits before m =
+    subst (Consumes a c) (sym (filled count n old got rest h fits.0)) (Consumes-trans a b c _ _ before m.0)
+read_more (Err e) count old got rest a b c h fits before m = subst (Consumes a c) (sym (unfilled count old _ h)) (Consumes-kept a b c _ before m)
 
 pub write_more :
-    (r : Result ℕ Error) (n count : ℕ) (line : List ℕ) (a b c : Option (List ℕ)) → Bytes n ≡ outcome_of r →
-    Appends a b (take count line) → WriteAppends b c r (drop count line) → Appends a c (take (count + n) line)
-write_more r n count line a b c h before m =
-    subst (λ l. Appends a c l) (sym (take-add count n line)) (Appends-trans a b c _ _ before (moved_written r n b c _ h m))
+    (r : Result ℕ Error) (count : ℕ) (line : List ℕ) (a b c : Option (List ℕ)) →
+    Appends a b (take count line) → WriteAppends b c r (take (length line - count) (drop count line)) → Appends a c (take (with_moved count r) line)
+write_more (Ok n) count line a b c before m =
+    let all : take (length line - count) (drop count line) ≡ drop count line = take_all _ _ (omega (arith, length-drop count line)) in
+    subst (Appends a c) (sym (take-add count n line)) (Appends-trans a b c _ _ before (subst (λ l. Appends b c (take n l)) all m))
+write_more (Err e) count line a b c before m = Appends-kept a b c _ before m
 
 -- what writing bytes leaves: all of them were written where it stopped no sooner
 pub front_written :

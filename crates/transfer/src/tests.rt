@@ -1,7 +1,7 @@
 // What no clause says: which calls are made again, and what is told of one that failed.
 ghost use Rattle.std.specs.Prelude.{◌≤◌, IfOk};
 
-use super::{complain, cut_short, read_whole, write_on};
+use super::{complain, read_whole, write_on};
 use std::io;
 use std::io::{Read, Write};
 use std::test::Fail;
@@ -93,7 +93,7 @@ fn writes(rt: HostRuntime) -> Result<(), Fail> {
     for (steps, count, told) in WRITES {
         let mut errors = Vec::new(rt.alloc());
         let stop = write_on(&mut Stepped { steps, bytes: b"" }, b"looping\n");
-        if cut_short(stop, 8) {
+        if stop.cut_short(8) {
             complain(&mut errors, b"it", stop);
         }
         assert_eq!(rt; stop.count, count);
