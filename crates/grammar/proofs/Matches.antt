@@ -6,14 +6,14 @@ use lib.Dec.{ltb}
 use lib.ListN.{length}
 use Rattle.codec.specs.Bytes.{byte}
 use Rattle.grammar.specs.declared.ByteRange.{ByteRange}
-use Rattle.grammar.specs.declared.ByteRange.TheVariants.{Between, Nothing}
+use Rattle.std.specs.Prelude.{Option, Some, None}
 use Rattle.grammar.specs.Grammar.{range_of}
 use Rattle.grammar.specs.Parsing.{Rules, in_range}
 
 -- whether a range has the value
-unfoldable pub matches : ByteRange → (value : ℕ) → Bool
-matches Nothing v = false
-matches (Between b c) v = in_range b c v
+unfoldable pub matches : Option ByteRange → (value : ℕ) → Bool
+matches None v = false
+matches (Some r) v = in_range r.low r.high v
 
 -- whether rule k is a range that has the byte at capture place i
 abbrev pub passes : Rules → List ℕ → (k i : ℕ) → Bool

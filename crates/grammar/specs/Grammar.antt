@@ -1,10 +1,9 @@
 -- A grammar's bytes: four a rule, kind, b, c and 0; and when they are refused, by 11 or 12. Assumes nothing: these are definitions.
-use Rattle.std.specs.Prelude.{Bool, ◌&&◌, ◌||◌, not, cond, List, [], ◌∷◌, ◌≡◌, ℕ, zero, suc, ◌+◌, ◌*◌, ◌/◌, ◌%◌, ◌<◌, ltb, eqb, length}
+use Rattle.std.specs.Prelude.{Option, Some, None, Bool, ◌&&◌, ◌||◌, not, cond, List, [], ◌∷◌, ◌≡◌, ℕ, zero, suc, ◌+◌, ◌*◌, ◌/◌, ◌%◌, ◌<◌, ltb, eqb, length}
 use Rattle.refusal.specs.declared.Refusal.{Refusal}
 use Rattle.codec.specs.Bytes.{byte}
 use Rattle.refusal.specs.First.{refusal, no_refusal}
 use Rattle.grammar.specs.declared.ByteRange.{ByteRange}
-use Rattle.grammar.specs.declared.ByteRange.TheVariants.{Between, Nothing}
 use Rattle.grammar.specs.declared.Expression.{Expression}
 use Rattle.grammar.specs.declared.Expression.TheVariants.{Sequence, Choice, Not, Empty, Range}
 
@@ -54,12 +53,12 @@ unfoldable pub expression : List ℕ → (k : ℕ) → Expression
 expression gs k = expression_by (kind_of gs k) (b_of gs k) (c_of gs k)
 
 -- the bytes that a rule is a range of, if it is a range
-unfoldable pub range_of : Expression → ByteRange
-range_of (Sequence b c) = Nothing
-range_of (Choice b c) = Nothing
-range_of (Not b) = Nothing
-range_of Empty = Nothing
-range_of (Range b c) = Between b c
+unfoldable pub range_of : Expression → Option ByteRange
+range_of (Sequence b c) = None
+range_of (Choice b c) = None
+range_of (Not b) = None
+range_of Empty = None
+range_of (Range b c) = Some (record { low = b; high = c })
 
 -- A RANGE THAT MATCHES NOTHING: rule k is a range with its low byte above its high byte. Generators write it for 004's failure, F = !ε
 pub record Inverted (gs : List ℕ) (k : ℕ) : Type 0 where

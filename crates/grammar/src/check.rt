@@ -4,7 +4,7 @@ ghost use Rattle.refusal.specs.Checking.{checked};
 ghost use Rattle.grammar.specs.Grammar.{max_rules, rules, expression, expression_by, range_of, rule_right, grammar_rules_from, grammar_refusal};
 
 use crate::{ByteRange, Expression};
-use refusal::{Checked, Refusal};
+use refusal::{Kind, Refusal};
 
 // The bytes of a grammar rule: kind, b, c and 0.
 pub const RULE_BYTES: usize = 4;
@@ -82,9 +82,9 @@ fn right(m: u8, kind: u8, b: u8, c: u8, last: u8) -> bool
 }
 
 // Refusal 12: the first rule that is not right.
-fn rules_refusal(grammar: &[u8]) -> Refusal
+fn check_rules(grammar: &[u8]) -> Result<(), Refusal>
     requires { length grammar.now ≤ 4 * max_rules }
-    ensures { result ≡ grammar_rules_from (rules grammar.now) 0 grammar.now }
+    ensures { result ≡ checked (grammar_rules_from (rules grammar.now) 0 grammar.now) }
 {
     let count = grammar.len() / RULE_BYTES;
     let m = count as u8;
@@ -98,43 +98,22 @@ fn rules_refusal(grammar: &[u8]) -> Refusal
             grammar[at + 2],
             grammar[at + 3],
         ) {
-            return Refusal {
-                number: 12,
-                place: at,
-            };
+            return Err(Refusal::new(Kind::GrammarRule, at));
         }
         k += 1;
     }
-    Refusal {
-        number: 0,
-        place: 0,
-    }
-}
-
-// The first refusal of a grammar, or number 0.
-pub fn refusal_of(grammar: &[u8]) -> Refusal
-    ensures { result ≡ grammar_refusal grammar.now }
-{
-    let long = grammar.len();
-    if length_wrong(long) {
-        return Refusal {
-            number: 11,
-            place: long,
-        };
-    }
-    rules_refusal(grammar)
+    Ok(())
 }
 
 // Whether a grammar is good, and else why not and where.
-pub fn check_grammar(grammar: &[u8]) -> Checked
+pub fn check_grammar(grammar: &[u8]) -> Result<(), Refusal>
     ensures { result ≡ checked (grammar_refusal grammar.now) }
 {
-    let refusal = refusal_of(grammar);
-    if refusal.number == 0 {
-        Checked::Good
-    } else {
-        Checked::Refused(refusal)
+    let long = grammar.len();
+    if length_wrong(long) {
+        return Err(Refusal::new(Kind::GrammarLength, long));
     }
+    check_rules(grammar)
 }
 
 // What a rule's kind, b and c say.
@@ -160,14 +139,14 @@ pub fn expression_of(grammar: &[u8], k: usize) -> Expression
 }
 
 // The bytes that a rule is a range of, if it is a range.
-pub fn range_of(e: Expression) -> ByteRange
+pub fn range_of(e: Expression) -> Option<ByteRange>
     ensures { result ≡ range_of e }
 {
     match e {
-        Expression::Sequence(_, _) => ByteRange::Nothing,
-        Expression::Choice(_, _) => ByteRange::Nothing,
-        Expression::Not(_) => ByteRange::Nothing,
-        Expression::Empty => ByteRange::Nothing,
-        Expression::Range(b, c) => ByteRange::Between(b, c),
+        Expression::Sequence(_, _) => None,
+        Expression::Choice(_, _) => None,
+        Expression::Not(_) => None,
+        Expression::Empty => None,
+        Expression::Range(low, high) => Some(ByteRange { low, high }),
     }
 }

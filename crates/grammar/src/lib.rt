@@ -13,9 +13,9 @@ pub enum Expression {
     Range(u8, u8),
 }
 
-// The first and the last byte of a range, or none where a rule is no range.
+// The first and the last byte of a range.
 #[derive(Clone, Copy)]
-pub enum ByteRange {
-    Between(u8, u8),
-    Nothing,
+pub struct ByteRange {
+    pub low: u8,
+    pub high: u8,
 }
