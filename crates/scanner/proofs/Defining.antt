@@ -2,13 +2,17 @@
 use mathlib.Core.Path.{◌≡◌, refl, sym, ap, ◌∙◌}
 use mathlib.Core.Bool.{Bool, true, false, cond}
 use mathlib.Core.List.{List, [], ◌∷◌}
-use Prim.Native.Nat.{ℕ, suc, ◌+◌, ◌-◌, ◌<◌, ◌≤◌}
+use Prim.Native.Nat.{ℕ, zero, suc, ◌+◌, ◌-◌, ◌<◌, ◌≤◌}
 use native.Mathlib.Numerals.{add-one}
 use native.Mathlib.Omega.{arith}
-use lib.Dec.{eqb, eqb-zero-suc, eqb-suc-suc}
-use lib.ListN.{length, drop}
-use Rattle.codec.specs.Bytes.{byte, section}
+use lib.Dec.{leb, leb-suc-suc}
+use lib.ListN.{length, take, drop}
+use lib.Seq.{take-length}
+use borrow.Author.Tests.{le-leb, lt-leb}
+use Rattle.codec.specs.Bytes.{byte}
+use Rattle.std.specs.Prelude.{Ok, Err}
 use Rattle.refusal.specs.First.{refusal, no_refusal}
+use Rattle.refusal.specs.Checking.{checked}
 use Rattle.syntax.specs.Tokens.{Token, letter, letters, same, word, width_at, skipped, lexemes}
 use Rattle.syntax.specs.Faults.{not_in, undefined_in, first_undefined}
 use Rattle.syntax.specs.Compile.{index_of}
@@ -18,26 +22,28 @@ use Rattle.scanner.specs.Code.Naming.{PassesNames}
 use Rattle.scanner.proofs.Lexing.{letters_more, lexemes_end, lexemes_skipped, lexemes_token, width_there}
 use Rattle.scanner.proofs.Tokenizing.{word_is, NoName, a_sign, a_range, no_token, no_name_there, range_first, sign_token, lexemes_word}
 
--- A NAME IS UNDEFINED where its line is the count of lines
-undefined_name : (n : List ℕ) (hs : List (List ℕ)) → eqb (index_of n hs) (length hs) ≡ not_in n hs
+-- A NAME IS NEW where none of the first k lines has it
+new_name : (n : List ℕ) (k : ℕ) (hs : List (List ℕ)) → k ≤ length hs → leb k (index_of n hs) ≡ not_in n (take k hs)
 unfolding not_in index_of
-undefined_name n [] = refl
-undefined_name n (m ∷ ms) = go (same n m) (undefined_name n ms)
+new_name n zero hs h = le-leb 0 (index_of n hs) (omega arith)
+new_name n (suc k) [] h = absurd (omega (arith, h))
+new_name n (suc k) (m ∷ ms) h = go (same n m) (new_name n k ms (omega (arith, h)))
   where
-    go : (t : Bool) → eqb (index_of n ms) (length ms) ≡ not_in n ms →
-        eqb (cond t 0 (suc (index_of n ms))) (suc (length ms)) ≡ cond t false (not_in n ms)
-    go true e = eqb-zero-suc (length ms)
-    go false e = eqb-suc-suc (index_of n ms) (length ms) ∙ e
+    go : (t : Bool) → leb k (index_of n ms) ≡ not_in n (take k ms) →
+        leb (suc k) (cond t 0 (suc (index_of n ms))) ≡ cond t false (not_in n (take k ms))
+    go true e = lt-leb (suc k) 0 (omega arith)
+    go false e = leb-suc-suc k (index_of n ms) ∙ e
 
-module _ (hs : List (List ℕ)) (ls : List ℕ) where
-  pub reserved_defined : true ≡ reserved ls → false ≡ undefined_in hs (word ls)
+module _ (w : List ℕ) where
+  pub reserved_old : (ms : List (List ℕ)) → true ≡ reserved w → false ≡ undefined_in ms (word w)
   unfolding undefined_in
-  reserved_defined e = rw (word_is ls, ← e)
+  reserved_old ms e = rw (word_is w, ← e)
 
-  pub named_undefined :
-      false ≡ reserved ls → (line lines : ℕ) → line ≡ index_of ls hs → lines ≡ length hs → eqb line lines ≡ undefined_in hs (word ls)
+  pub named_new :
+      (hs : List (List ℕ)) (k : ℕ) → k ≤ length hs → false ≡ reserved w → (line : ℕ) → line ≡ index_of w hs →
+      leb k line ≡ undefined_in (take k hs) (word w)
   unfolding undefined_in
-  named_undefined e line lines p q = rw (word_is ls, ← e, p, q) (undefined_name ls hs)
+  named_new hs k h e line q = rw (word_is w, ← e, q) (new_name w k hs h)
 
 -- PASSING WHAT IS NO WORD
 never_undefined : (ms : List (List ℕ)) {t : Token} → NoName t → undefined_in ms t ≡ false
@@ -89,26 +95,37 @@ unfolding lexemes lexemes_at
 undefined_start text to p = record { left = p.0.left (heads text); starts = p.1 }
 
 module _ (text : List ℕ) (at : ℕ) (come : UndefinedLeft text at) where
-  pub undefined_end : length text ≤ at → no_refusal ≡ first_undefined (heads text) (lexemes text)
-  unfolding first_undefined
-  undefined_end h = sym (come.left ∙ rw (lexemes_end text at h))
+  pub undefined_end : length text ≤ at → Ok tt ≡ checked (first_undefined (heads text) (lexemes text))
+  unfolding first_undefined checked
+  undefined_end h =
+      let e : first_undefined (heads text) (lexemes text) ≡ no_refusal = come.left ∙ rw (lexemes_end text at h) in
+      rw e
 
-  module _ (more : at < length text) (long : ℕ) (q : long ≡ length (letters (drop at text))) where
-    pub undefined_here :
-        true ≡ undefined_in (heads text) (word (section text at long)) → refusal 15 at ≡ first_undefined (heads text) (lexemes text)
-    unfolding first_undefined
-    undefined_here e = sym (come.left ∙ rw (lexemes_word text at long more (come.starts more) q, ← e))
+  module _
+      (lines : ℕ) (all : lines ≡ length (heads text)) (more : at < length text) (w : List ℕ) (q : w ≡ letters (drop at text))
+    where
+      all_lines : take lines (heads text) ≡ heads text
+      all_lines = rw all (take-length (heads text))
 
-    pub undefined_next :
-        false ≡ undefined_in (heads text) (word (section text at long)) → (to : ℕ) →
-        PassesNames text (at + long) to × (to < length text → letter (byte text to) ≡ true) → UndefinedLeft text to
-    unfolding first_undefined
-    undefined_next e to p =
-        record {
-          left = come.left ∙ rw (lexemes_word text at long more (come.starts more) q, ← e) (p.0.left (heads text));
-          starts = p.1;
-        }
+      pub undefined_here :
+          true ≡ undefined_in (take lines (heads text)) (word w) → Err (refusal 15 at) ≡ checked (first_undefined (heads text) (lexemes text))
+      unfolding first_undefined checked
+      undefined_here new =
+          let e : true ≡ undefined_in (heads text) (word w) = new ∙ ap (λ (hs : List (List ℕ)). undefined_in hs (word w)) all_lines in
+          let found : first_undefined (heads text) (lexemes text) ≡ refusal 15 at = come.left ∙ rw (lexemes_word text at w more (come.starts more) q, ← e) in
+          rw found
 
-    -- a word has a letter
-    pub word_some : 0 < long
-    word_some = omega (arith, letters_more text at more (come.starts more))
+      pub undefined_next :
+          false ≡ undefined_in (take lines (heads text)) (word w) → (to : ℕ) →
+          PassesNames text (at + length w) to × (to < length text → letter (byte text to) ≡ true) → UndefinedLeft text to
+      unfolding first_undefined
+      undefined_next old to p =
+          let e : false ≡ undefined_in (heads text) (word w) = old ∙ ap (λ (hs : List (List ℕ)). undefined_in hs (word w)) all_lines in
+          record {
+            left = come.left ∙ rw (lexemes_word text at w more (come.starts more) q, ← e) (p.0.left (heads text));
+            starts = p.1;
+          }
+
+      -- a word has a letter
+      pub word_some : 0 < length w
+      word_some = omega (arith, ap length q, letters_more text at more (come.starts more))

@@ -2,7 +2,7 @@
 use mathlib.Core.Path.{◌≡◌, refl, sym, ap, ◌∙◌}
 use mathlib.Core.Bool.{Bool, true, false, cond}
 use mathlib.Core.List.{List, [], ◌∷◌}
-use Prim.Native.Nat.{ℕ, zero, suc, ◌+◌, ◌-◌, ◌<◌, ◌≤◌}
+use Prim.Native.Nat.{ℕ, zero, suc, ◌+◌, ◌-◌, ◌<◌, ◌≤◌, min}
 use native.Mathlib.Nat.{add-zero}
 use native.Mathlib.Numerals.{add-one}
 use native.Mathlib.Decide.{dec_lt}
@@ -150,12 +150,27 @@ pub count_start : (text : List ℕ) (at : ℕ) → LettersLeft text at at
 count_start text at = (omega arith, omega arith)
 
 module _ (text : List ℕ) (at i : ℕ) (come : LettersLeft text at i) where
-  pub count_end : length text ≤ i → i - at ≡ length (letters (drop at text))
-  count_end h = omega (arith, no_letters text i h)
+  pub letters_whole :
+      length text ≤ i → (from : ℕ) → from ≡ min at (length text) → take (length text - from) (drop from text) ≡ letters (drop at text)
+  unfolding letters
+  letters_whole h from q = go (dec_lt at (length text))
+    where
+      go : Dec (at < length text) → take (length text - from) (drop from text) ≡ letters (drop at text)
+      go (yes l) =
+          let same : from ≡ at = omega arith in
+          let all : length text - at ≡ length (letters (drop at text)) =
+          omega (arith, come.0, no_letters text i h, letters_fit (drop at text), length-drop at text)
+          in
+          rw (same, all) (letters_taken (drop at text))
+      go (no l) =
+          let none : length text - from ≡ 0 = omega arith in
+          rw (none, drop_of_length-le text {i = at} (omega arith)) refl
 
   module _ (more : i < length text) where
-    pub count_stop : letter (byte text i) ≡ false → i - at ≡ length (letters (drop at text))
-    count_stop e = omega (arith, letters_stop text i more e)
+    pub letters_stopped : letter (byte text i) ≡ false → take (i - at) (drop at text) ≡ letters (drop at text)
+    letters_stopped e =
+        let passed : i - at ≡ length (letters (drop at text)) = omega (arith, letters_stop text i more e) in
+        rw passed (letters_taken (drop at text))
 
     pub count_next : letter (byte text i) ≡ true → LettersLeft text at (i + 1)
     count_next e = (rw add-one (omega (arith, letters_more text i more e)), omega arith)

@@ -1,6 +1,5 @@
 -- What is proved of the scanner's code, by topic.
 pub mod Lexing
-pub mod Comparing
 pub mod Tokenizing
 pub mod Passing
 pub mod Searching

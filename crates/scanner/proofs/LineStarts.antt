@@ -1,27 +1,17 @@
 -- Where the lines of a text begin: past one line after another, by the scanner's lexemes. Assumes nothing.
-use mathlib.Core.Path.{◌≡◌, refl, sym, ap, subst, ◌∙◌}
+use mathlib.Core.Path.{◌≡◌, refl, sym, ap, ◌∙◌}
 use mathlib.Core.Bool.{Bool, true, false}
 use mathlib.Core.List.{List, [], ◌∷◌}
 use Prim.Native.Nat.{ℕ, suc, ◌-◌, ◌<◌, ◌≤◌}
 use native.Mathlib.Omega.{arith}
 use lib.ListN.{length, get_or}
-use Rattle.syntax.specs.Tokens.{ends_line, lexemes}
+use Rattle.syntax.specs.Tokens.{Lexeme, ends_line, lexemes}
 use Rattle.syntax.specs.RuleLines.{line_offsets}
 use Rattle.syntax.specs.declared.Token as Code
 use Rattle.syntax.specs.declared.Token.TheVariants.{Name, Sign, Range, Unknown}
 use Rattle.scanner.specs.declared.Lexeme as Scanner
-use Rattle.scanner.specs.declared.Scanned.{Scanned}
-use Rattle.scanner.specs.declared.Scanned.TheVariants.{Found, End}
-use Rattle.scanner.specs.Code.Scanning.{lexemes_at, token_of, ends, Scans, ScansTo}
+use Rattle.scanner.specs.Code.Scanning.{lexemes_at, token_of, ends, ScansTo}
 use Rattle.scanner.proofs.Lexing.{lexemes_end}
-
--- what the scanner found
-module _ (text : List ℕ) (at : ℕ) (s : Scanned) (scans : Scans text at s) where
-  pub scanned_to : (l : Scanner.Lexeme) → s ≡ Found l → ScansTo text at l
-  scanned_to l e = subst (λ (x : Scanned). Scans text at x) e scans
-
-  pub scanned_end : s ≡ End → lexemes_at text at ≡ []
-  scanned_end e = subst (λ (x : Scanned). Scans text at x) e scans
 
 -- THE LINES THAT BEGIN FROM A PLACE ON, inside a line or not
 abbrev offsets_at : (text : List ℕ) → (begins : Bool) → (at : ℕ) → List ℕ
@@ -77,6 +67,12 @@ module _ (text : List ℕ) (at i : ℕ) (come : InsideLine text at i) where
     pub token_further : i < length text → length text - l.next < length text - i
     token_further more = omega (arith, s.from, s.some, s.within)
 
+-- past the first line from a place on
+second : (ls : List Lexeme) (n : ℕ) → get_or (line_offsets true ls) (suc n) 0 ≡ get_or (line_offsets false ls) n 0
+unfolding line_offsets
+second [] n = refl
+second (l ∷ ls) n = refl
+
 -- LINE AFTER LINE: the offset sought is that of a line from a place on, past so many other lines
 abbrev pub OffsetLeft : (text : List ℕ) → (line at left : ℕ) → Type 0
 OffsetLeft text line at n = get_or (line_offsets true (lexemes text)) line 0 ≡ get_or (offsets_at text true at) n 0
@@ -89,18 +85,10 @@ module _ (text : List ℕ) (line at left : ℕ) (come : OffsetLeft text line at 
   pub offset_none : lexemes_at text at ≡ [] → 0 ≡ get_or (line_offsets true (lexemes text)) line 0
   offset_none e = sym (come ∙ ap (λ (os : List ℕ). get_or os left 0) (no_offsets text at true e))
 
-  module _ (l : Scanner.Lexeme) (s : ScansTo text at l) where
-    -- the line that begins here is the first of those left
-    abbrev among : (n : ℕ) → ℕ
-    among n = get_or (l.offset ∷ offsets_at text false at) n 0
+  pub offset_found : (l : Scanner.Lexeme) → ScansTo text at l → left ≡ 0 → l.offset ≡ get_or (line_offsets true (lexemes text)) line 0
+  offset_found l s z =
+      sym (come ∙ ap (λ (os : List ℕ). get_or os left 0) (offsets_first text at l s) ∙ ap (λ (n : ℕ). get_or (l.offset ∷ offsets_at text false at) n 0) z)
 
-    by_first : get_or (line_offsets true (lexemes text)) line 0 ≡ among left
-    by_first = come ∙ ap (λ (os : List ℕ). get_or os left 0) (offsets_first text at l s)
-
-    pub offset_found : left ≡ 0 → l.offset ≡ get_or (line_offsets true (lexemes text)) line 0
-    offset_found z = sym (by_first ∙ ap among z)
-
-    pub offset_next : (left ≡ 0 → ⊥) → (to : ℕ) → NextLine text at to → OffsetLeft text line to (left - 1)
-    offset_next some to n =
-        let one_less : left ≡ suc (left - 1) = omega arith in
-        by_first ∙ ap among one_less ∙ ap (λ (os : List ℕ). get_or os (left - 1) 0) n.0
+  pub offset_next : (n : ℕ) → left ≡ suc n → (to : ℕ) → NextLine text at to → OffsetLeft text line to n
+  offset_next n q to e =
+      come ∙ ap (λ (k : ℕ). get_or (offsets_at text true at) k 0) q ∙ second (lexemes_at text at) n ∙ ap (λ (os : List ℕ). get_or os n 0) e.0

@@ -4,14 +4,18 @@ use mathlib.Core.Bool.{Bool, true, false, cond}
 use mathlib.Core.List.{List}
 use Prim.Native.Nat.{ℕ, ◌+◌}
 use lib.ListN.{length, take, drop}
-use Rattle.codec.specs.Bytes.{byte, section}
-use Rattle.syntax.specs.Tokens.{Token, range, letter, letters, word, sign_of, range_there}
-use Rattle.syntax.specs.Faults.{Spot, at_line, at_equals, inside, Next, to, wrong, to_if, by_sign, is_equals, not_in, next}
+use Rattle.codec.specs.Bytes.{byte}
+use Rattle.syntax.specs.Tokens.{Token, name, sign, range, unknown, letter, letters, word, sign_of, range_there}
+use Rattle.syntax.specs.Faults.{Spot, at_line, at_equals, inside, Next, to, wrong, to_if, by_sign, is_equals, undefined_in, next}
 use Rattle.syntax.specs.Code.Heads.{heads}
-use Rattle.scanner.specs.declared.Step.{Step}
-use Rattle.scanner.specs.Code.Scanning.{reserved}
+use Rattle.std.specs.Prelude.{Result}
+use Rattle.refusal.specs.declared.Kind.{Kind}
+use Rattle.scanner.specs.declared.Spot as Code
+use Rattle.syntax.specs.declared.Token as CodeToken
+use Rattle.syntax.specs.declared.Token.TheVariants.{Name, Sign, Range, Unknown}
+use Rattle.scanner.specs.Code.Scanning.{token_of, equals}
 use Rattle.scanner.specs.Code.Stepping.{next_of, Moves}
-use Rattle.scanner.proofs.Tokenizing.{word_is, NoName, a_sign, a_range, no_token, no_name, word_there, range_token, sign_token}
+use Rattle.scanner.proofs.Tokenizing.{NoName, a_sign, a_range, no_token, no_name, word_there, range_token, sign_token}
 
 -- A WORD is a name or an operand: at a line's start a reserved word is refused, elsewhere no word differs from another
 next_cond : (ns : List (List ℕ)) (s : Spot) (c : Bool) (t u : Token) → next ns s (cond c t u) ≡ cond c (next ns s t) (next ns s u)
@@ -22,15 +26,22 @@ cond_next : (c : Bool) (n : Next) → cond c n n ≡ n
 cond_next true n = refl
 cond_next false n = refl
 
+pub line_token : (ns : List (List ℕ)) (t : Token) → to_if (undefined_in ns t) at_equals ≡ next ns at_line t
+unfolding next to_if undefined_in
+line_token ns (name n) = refl
+line_token ns (sign s) = refl
+line_token ns (range l h) = refl
+line_token ns unknown = refl
+
+pub equals_token :
+    (ns : List (List ℕ)) (text : List ℕ) (o : ℕ) (t : CodeToken.Token) → to_if (equals t) (inside false 0) ≡ next ns at_equals (token_of text o t)
+unfolding next to_if token_of
+equals_token ns text o (Name k) = refl
+equals_token ns text o (Sign s) = refl
+equals_token ns text o (Range r) = refl
+equals_token ns text o Unknown = refl
+
 module _ (ns : List (List ℕ)) (ls : List ℕ) where
-  pub line_reserved : true ≡ reserved ls → next ns at_line (word ls) ≡ wrong 15
-  unfolding next
-  line_reserved e = rw (word_is ls, ← e)
-
-  pub line_named : false ≡ reserved ls → next ns at_line (word ls) ≡ to_if (not_in ls ns) at_equals
-  unfolding next
-  line_named e = rw (word_is ls, ← e)
-
   pub equals_word : next ns at_equals (word ls) ≡ wrong 15
   unfolding word next to_if is_equals
   equals_word = simp (next_cond, cond_next)
@@ -50,12 +61,12 @@ pub line_byte : (ns : List (List ℕ)) (b : ℕ) → next ns at_line (sign_of b)
 line_byte ns b = other_wrong ns (no_name b)
 
 -- THE STEP AT A PLACE: of a word, of a range, of any other byte
-module _ (text : List ℕ) (lines : ℕ) (s : Spot) (o : ℕ) (r : Step) where
+module _ (text : List ℕ) (lines : ℕ) (s : Spot) (o : ℕ) (r : Result Code.Spot Kind) where
   pub move_word :
-      true ≡ letter (byte text o) → (long : ℕ) → long ≡ length (letters (drop o text)) →
-      next_of r ≡ next (take lines (heads text)) s (word (section text o long)) → Moves text lines s o (record { step = r; next = o + long })
-  move_word e long q is =
-      let there = word_there text o long e q in
+      true ≡ letter (byte text o) → (w : List ℕ) → w ≡ letters (drop o text) →
+      next_of r ≡ next (take lines (heads text)) s (word w) → Moves text lines s o (record { step = r; next = o + length w })
+  move_word e w q is =
+      let there = word_there text o w e q in
       record { led = is ∙ ap (next (take lines (heads text)) s) (sym there.0); wide = ap (λ (n : ℕ). o + n) (sym there.1) }
 
   module _ (other : false ≡ letter (byte text o)) where

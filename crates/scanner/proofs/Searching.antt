@@ -7,9 +7,10 @@ use native.Mathlib.Nat.{add-zero}
 use native.Mathlib.Decide.{dec_lt}
 use native.Mathlib.Omega.{arith}
 use lib.ListN.{length, drop}
+use lib.Dec.{eqb}
 use borrow.Author.Tests.{eq-eqb, ne_eqb}
-use Rattle.codec.specs.Bytes.{byte, section}
-use Rattle.syntax.specs.Tokens.{Token, name, sign, range, unknown, letter, letters, same, word, skipped, lexemes, tokens}
+use Rattle.codec.specs.Bytes.{byte}
+use Rattle.syntax.specs.Tokens.{Token, name, sign, range, unknown, letter, letters, same, skipped, lexemes, tokens}
 use Rattle.syntax.specs.Compile.{index_of}
 use Rattle.syntax.specs.Code.Heads.{head_of, heads_from, heads}
 use Rattle.scanner.specs.declared.Lexeme as Scanner
@@ -19,7 +20,7 @@ use Rattle.scanner.specs.Code.Scanning.{lexemes_at, token_of, reserved, ScansTo,
 use Rattle.scanner.specs.Code.Scanning.{tokens_at}
 use Rattle.scanner.specs.Code.Naming.{head_by, head_in, PassesHeads}
 use Rattle.scanner.proofs.Lexing.{no_letters, letters_more, letters_stop}
-use Rattle.scanner.proofs.Tokenizing.{word_is, letters_section}
+use Rattle.scanner.proofs.Tokenizing.{word_is}
 use Rattle.scanner.proofs.Passing.{start_word, start_other, start_end}
 
 -- THE TOKENS FROM A PLACE ON
@@ -57,25 +58,23 @@ index_of_head n (range l h) hs = refl
 index_of_head n unknown hs = refl
 
 -- THE LETTERS WHERE A LINE BEGINS, as the code compares them
-module _ (text sought : List ℕ) (o wide : ℕ) (q : wide ≡ length (letters (drop o text))) where
-  pub head_none : wide ≡ 0 → Nothing ≡ head_in sought (letters (drop o text))
+module _ (sought w : List ℕ) where
+  pub head_none : length w ≡ 0 → Nothing ≡ head_in sought w
   unfolding head_in
-  head_none z = rw (eq-eqb _ _ (sym q ∙ z))
+  head_none z = rw (eq-eqb _ _ z)
 
-  module _ (some : wide ≡ 0 → ⊥) where
-    head_some : head_in sought (letters (drop o text)) ≡ head_by sought (word (section text o wide))
-    unfolding head_in
-    head_some = rw (ne_eqb _ _ (λ z. some (q ∙ z)), letters_section text o wide q)
+  pub head_reserved : true ≡ reserved w → Nothing ≡ head_in sought w
+  unfolding head_in head_by
+  head_reserved e = rw (word_is, ← e) (sym (either (eqb (length w) 0)))
+    where
+      either : (t : Bool) → cond t Nothing Nothing ≡ Nothing
+      either true = refl
+      either false = refl
 
-    pub head_reserved : true ≡ reserved (section text o wide) → Nothing ≡ head_in sought (letters (drop o text))
-    unfolding head_by
-    head_reserved e = sym (head_some ∙ rw (word_is, ← e))
-
-    pub head_named :
-        false ≡ reserved (section text o wide) → (b : Bool) → b ≡ same sought (section text o wide) →
-        cond b Sought Other ≡ head_in sought (letters (drop o text))
-    unfolding head_by
-    head_named e b t = sym (head_some ∙ rw (word_is, ← e, ← t))
+  pub head_named :
+      (length w ≡ 0 → ⊥) → false ≡ reserved w → (b : Bool) → b ≡ same sought w → cond b Sought Other ≡ head_in sought w
+  unfolding head_in head_by
+  head_named some e b t = rw (ne_eqb _ _ some, word_is, ← e, ← t)
 
 -- what they are to the search, before the heads left
 index_line :
@@ -109,11 +108,10 @@ module _ (text sought : List ℕ) where
     search_end e = sym (come.left ∙ rw (tokens_end text at e) (omega arith))
 
     module _
-        (o : ℕ) (s : Skips text at o) (wide : ℕ) (q : wide ≡ length (letters (drop o text)))
-        (h : Head) (is : h ≡ head_in sought (letters (drop o text)))
+        (o : ℕ) (s : Skips text at o) (w : List ℕ) (q : w ≡ letters (drop o text)) (h : Head) (is : h ≡ head_in sought w)
       where
         rest : ℕ
-        rest = index_of sought (heads_from false (tokens_at text (o + wide)))
+        rest = index_of sought (heads_from false (tokens_at text (o + length w)))
 
         by : (k : Head) → h ≡ k → index_of sought (heads text) ≡ line + by_head k rest
         unfolding rest tokens
@@ -125,7 +123,7 @@ module _ (text sought : List ℕ) where
         unfolding by_head
         search_found e = omega (arith, by Sought e)
 
-        module _ (to : ℕ) (p : PassesHeads text false (o + wide) true to) (on : at < to) where
+        module _ (to : ℕ) (p : PassesHeads text false (o + length w) true to) (on : at < to) where
           after : rest ≡ index_of sought (heads_from true (tokens_at text to))
           unfolding rest
           after = ap (index_of sought) p.left

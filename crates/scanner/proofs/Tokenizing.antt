@@ -1,13 +1,15 @@
 -- What the scanner's functions find, a range, a word or a sign; and that the lexeme found is the first from a place on. Assumes nothing.
 use mathlib.Core.Path.{◌≡◌, refl, sym, ap, subst, ◌∙◌}
-use mathlib.Core.Bool.{Bool, true, false, ◌||◌, cond}
-use mathlib.Core.List.{List, ◌∷◌}
+use mathlib.Core.Bool.{Bool, true, false, ◌&&◌, ◌||◌, cond}
+use mathlib.Core.List.{List, [], ◌∷◌}
 use Prim.Native.Nat.{ℕ, ◌+◌, ◌-◌, ◌<◌, ◌≤◌}
 use native.Mathlib.Omega.{arith}
 use lib.Dec.{eqb, leb}
 use lib.ListN.{length, drop, length-drop}
 use lib.Seq.{get_or-drop}
-use borrow.Author.Tests.{leb-true, eq-eqb, ne_eqb}
+use Rattle.std.specs.Cmp.Lexicographic.{pointwise}
+use Rattle.std.specs.Prelude.{nat_eq}
+use borrow.Author.Tests.{leb-true, ne_eqb}
 use Rattle.codec.specs.Bytes.{byte, section}
 use Rattle.syntax.specs.Tokens.{Token, name, sign, range, unknown, letter, letters, same, empty_word, fail_word, word, sign_of, range_there, token_at, width_at, skipped}
 use Rattle.syntax.specs.declared.Token as Code
@@ -33,35 +35,38 @@ module _ (text : List ℕ) (i : ℕ) where
   unfolding range_there
   range_first d = rw (front text i, ne_eqb _ _ d)
 
-  module _ (quote : byte text i ≡ 39) where
-    pub range_second : (byte text (i + 2) ≡ 45 → ⊥) → false ≡ range_there (drop i text)
-    unfolding range_there
-    range_second d = rw (front text i, eq-eqb _ _ quote, get_or-drop i text 2 0, ne_eqb _ _ d)
-
-    pub range_third : byte text (i + 2) ≡ 45 → eqb (byte text (i + 4)) 39 ≡ range_there (drop i text)
-    unfolding range_there
-    range_third minus = rw (front text i, eq-eqb _ _ quote, get_or-drop i text 2 0, eq-eqb _ _ minus, get_or-drop i text 4 0)
+  pub range_is : (eqb (byte text i) 39 && (eqb (byte text (i + 2)) 45 && eqb (byte text (i + 4)) 39)) ≡ range_there (drop i text)
+  unfolding range_there
+  range_is = rw (front text i, get_or-drop i text 2 0, get_or-drop i text 4 0)
 
 pub range_within : (text : List ℕ) (i : ℕ) → true ≡ range_there (drop i text) → i + 5 ≤ length text
 range_within text i e = omega (arith, range_fits (drop i text) (sym e), length-drop i text)
 
-pub letters_room : (text : List ℕ) (i long : ℕ) → long ≡ length (letters (drop i text)) → long ≤ length text - i
-letters_room text i long q = omega (arith, letters_fit (drop i text), length-drop i text)
+pub letters_room : (text : List ℕ) (i : ℕ) (w : List ℕ) → w ≡ letters (drop i text) → length w ≤ length text - i
+letters_room text i w q = omega (arith, ap length q, letters_fit (drop i text), length-drop i text)
+
+-- THE SAME BYTES, as the code compares them
+pub same_bytes : (xs ys : List ℕ) → pointwise nat_eq xs ys ≡ same xs ys
+unfolding same
+same_bytes [] [] = refl
+same_bytes [] (y ∷ ys) = refl
+same_bytes (x ∷ xs) [] = refl
+same_bytes (x ∷ xs) (y ∷ ys) = ap (λ (t : Bool). eqb x y && t) (same_bytes xs ys)
 
 -- THE RESERVED WORDS, and a name
-module _ (text : List ℕ) (i long : ℕ) where
-  pub word_empty : true ≡ same (section text i long) empty_word → ScansWord text i long (Sign (Operand EmptyString))
+module _ (w : List ℕ) where
+  pub word_empty : true ≡ same w empty_word → ScansWord w (Sign (Operand EmptyString))
   unfolding token_of word
-  word_empty e = record { stands = rw (← e); named = λ k q. cc }
+  word_empty e = record { stands = λ text i s. rw (← e); named = λ k q. cc }
 
-  module _ (other : false ≡ same (section text i long) empty_word) where
-    pub word_fail : true ≡ same (section text i long) fail_word → ScansWord text i long (Sign (Operand Failure))
+  module _ (other : false ≡ same w empty_word) where
+    pub word_fail : true ≡ same w fail_word → ScansWord w (Sign (Operand Failure))
     unfolding token_of word
-    word_fail e = record { stands = rw (← other, ← e); named = λ k q. cc }
+    word_fail e = record { stands = λ text i s. rw (← other, ← e); named = λ k q. cc }
 
-    pub word_name : false ≡ same (section text i long) fail_word → ScansWord text i long (Name long)
+    pub word_name : false ≡ same w fail_word → ScansWord w (Name (length w))
     unfolding token_of word
-    word_name e = record { stands = rw (← other, ← e); named = λ k q. cc }
+    word_name e = record { stands = λ text i s. rw (← other, ← e) (ap name s); named = λ k q. cc }
 
 -- letters are a name exactly where they are not reserved
 pub word_is : (ls : List ℕ) → word ls ≡ cond (reserved ls) (sign (Operand (cond (same ls empty_word) EmptyString Failure))) (name ls)
@@ -106,14 +111,14 @@ no_name_there text i e = rw (front text i, e) (neither (range_there (drop i text
 
 -- THE TOKEN THAT BEGINS AT A PLACE, and how wide it is
 module _ (text : List ℕ) (i : ℕ) where
-  pub letters_section : (long : ℕ) → long ≡ length (letters (drop i text)) → section text i long ≡ letters (drop i text)
-  letters_section long q = ap (section text i) q ∙ letters_taken (drop i text)
+  pub letters_section : (w : List ℕ) → w ≡ letters (drop i text) → section text i (length w) ≡ w
+  letters_section w q = rw q (letters_taken (drop i text))
 
   pub word_there :
-      (long : ℕ) → true ≡ letter (byte text i) → long ≡ length (letters (drop i text)) →
-      (token_at (drop i text) ≡ word (section text i long)) × (width_at (drop i text) ≡ long)
+      (w : List ℕ) → true ≡ letter (byte text i) → w ≡ letters (drop i text) →
+      (token_at (drop i text) ≡ word w) × (width_at (drop i text) ≡ length w)
   unfolding token_at width_at
-  word_there long e q = (rw (front text i, ← e, letters_section long q), rw (front text i, ← e) (sym q))
+  word_there w e q = (rw (q, front text i, ← e), rw (q, front text i, ← e))
 
   module _ (other : false ≡ letter (byte text i)) where
     pub range_token :
@@ -136,24 +141,24 @@ letter_kept b e =
     rw (ne_eqb b 32 (λ q. omega arith), ne_eqb b 10 (λ q. omega arith))
 
 pub lexemes_word :
-    (text : List ℕ) (i long : ℕ) → i < length text → letter (byte text i) ≡ true → long ≡ length (letters (drop i text)) →
-    lexemes_at text i ≡ record { offset = i; token = word (section text i long) } ∷ lexemes_at text (i + long)
-lexemes_word text i long more e q =
-    let w = word_there text i long (sym e) q in
-    lexemes_token text i more (letter_kept _ e) ∙ rw (w.0, w.1)
+    (text : List ℕ) (i : ℕ) (w : List ℕ) → i < length text → letter (byte text i) ≡ true → w ≡ letters (drop i text) →
+    lexemes_at text i ≡ record { offset = i; token = word w } ∷ lexemes_at text (i + length w)
+lexemes_word text i w more e q =
+    let there = word_there text i w (sym e) q in
+    lexemes_token text i more (letter_kept _ e) ∙ rw (there.0, there.1)
 
 -- WHAT THE SCANNER'S LEXEME SAYS of a token that begins at a place
 module _ (text : List ℕ) (i : ℕ) (more : i < length text) where
   pub word_scanned :
-      (long : ℕ) (t : Code.Token) → true ≡ letter (byte text i) → long ≡ length (letters (drop i text)) →
-      ScansWord text i long t → ScansToken text i (record { token = t; offset = i; next = i + long })
-  word_scanned long t e q w =
-      let there = word_there text i long e q in
+      (w : List ℕ) (t : Code.Token) → true ≡ letter (byte text i) → w ≡ letters (drop i text) →
+      ScansWord w t → ScansToken text i (record { token = t; offset = i; next = i + length w })
+  word_scanned w t e q s =
+      let there = word_there text i w e q in
       record {
         there = refl;
-        stands = w.stands ∙ sym there.0;
+        stands = s.stands text i (letters_section text i w q) ∙ sym there.0;
         wide = ap (λ (n : ℕ). i + n) (sym there.1);
-        named = λ k n. omega (arith, w.named k n);
+        named = λ k n. omega (arith, s.named k n);
       }
 
   module _ (other : false ≡ letter (byte text i)) where

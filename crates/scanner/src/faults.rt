@@ -1,206 +1,143 @@
 // The check of a text: its earliest fault, token by token.
-ghost use Rattle.std.specs.Prelude.{◌≡◌, true, false, ◌&&◌, cond, List, ℕ, suc, ◌+◌, ◌-◌, ◌<◌, ◌≤◌, eqb, ltb, length, take};
-ghost use Rattle.codec.specs.Bytes.{section};
-ghost use Rattle.syntax.specs.Tokens.{range, word, sign_of};
+ghost use Rattle.std.specs.Prelude.{◌≡◌, true, false, cond, List, ℕ, suc, ◌<◌, ◌≤◌, ltb, length, take};
+ghost use Rattle.refusal.specs.Checking.{checked};
+ghost use Rattle.syntax.specs.Tokens.{range, word as word_read, sign_of};
 ghost use Rattle.syntax.specs.Faults as faults;
 ghost use Rattle.syntax.specs.Trees.{max_depth};
 ghost use Rattle.syntax.specs.Code.Heads.{heads};
-ghost use Rattle.scanner.specs.Code.Scanning.{token_of};
+ghost use Rattle.scanner.specs.Code.Scanning.{token_of, equals};
 ghost use Rattle.scanner.specs.Code.Stepping.{spot_of, next_of, lines_begun, Moves, TextChecked};
 
-use crate::names::line_of;
-use crate::tokens::{RANGE_BYTES, is_letter, is_reserved, letters_from, range_at, sign_of, skip};
-use crate::{MAX_DEPTH, Spot, Step, TextCheck, UNGRAMMATICAL};
-use refusal::Refusal;
+use crate::names::FirstLines;
+use crate::tokens::{RANGE_BYTES, is_letter, letters_from, range_at, sign_of, skip};
+use crate::{MAX_DEPTH, Spot, TextCheck};
+use refusal::{Kind, Refusal};
 use syntax::{Sign, Token};
 
-// Refusal 17: too many brackets are open.
-const TOO_DEEP: u32 = 17;
-
-// What a token leads to, and the place after it.
+// What a token leads to, another spot or a refusal, and the place after it.
 #[derive(Clone, Copy)]
 pub struct Moved {
-    pub step: Step,
+    pub step: Result<Spot, Kind>,
     pub next: usize,
 }
 
 // A spot where something holds, and else refusal 15.
-fn to_if(holds: bool, spot: Spot) -> Step
+#[tactic(auto, unfolding(crate::specs::Code::Stepping::next_of, syntax::specs::Faults::to_if))]
+fn to_if(holds: bool, spot: Spot) -> Result<Spot, Kind>
     ensures { next_of result ≡ faults.to_if holds (spot_of spot) }
 {
     if holds {
-        Step::To(spot)
+        Ok(spot)
     } else {
-        Step::Wrong(UNGRAMMATICAL)
+        Err(Kind::Ungrammatical)
     }
 }
 
 // One bracket more.
 #[tactic(auto, using(std::proofs::lemmas::Bool::Decides::nat_tests), unfolding(crate::specs::Code::Stepping::next_of, crate::specs::Code::Stepping::spot_of))]
-fn opens(opened: usize) -> Step
+fn opens(opened: usize) -> Result<Spot, Kind>
     ensures { next_of result ≡ cond (ltb opened max_depth) (faults.to (faults.inside false (suc opened))) (faults.wrong 17) }
 {
     if opened < MAX_DEPTH {
-        let more = opened + 1;
-        return Step::To(Spot::Inside(false, more));
+        Ok(Spot::Inside(false, opened + 1))
+    } else {
+        Err(Kind::TooDeep)
     }
-    Step::Wrong(TOO_DEEP)
-}
-
-// One bracket less.
-fn closes(complete: bool, opened: usize) -> Step
-    ensures { next_of result ≡ faults.to_if (complete && ltb 0 opened) (faults.inside true (opened - 1)) }
-{
-    if !complete {
-        return Step::Wrong(UNGRAMMATICAL);
-    }
-    if opened == 0 {
-        return Step::Wrong(UNGRAMMATICAL);
-    }
-    let less = opened - 1;
-    Step::To(Spot::Inside(true, less))
-}
-
-// The end of a line.
-fn end_line(complete: bool, opened: usize) -> Step
-    ensures { next_of result ≡ faults.to_if (complete && eqb opened 0) faults.at_line }
-{
-    if !complete {
-        return Step::Wrong(UNGRAMMATICAL);
-    }
-    if opened != 0 {
-        return Step::Wrong(UNGRAMMATICAL);
-    }
-    Step::To(Spot::AtLine)
 }
 
 // A sign inside an expression.
-fn by_sign(sign: Sign, complete: bool, opened: usize) -> Step
+#[tactic(auto, using(std::proofs::lemmas::Bool::Decides::nat_tests), unfolding(crate::specs::Code::Stepping::next_of, crate::specs::Code::Stepping::spot_of, syntax::specs::Faults::by_sign))]
+fn by_sign(sign: Sign, complete: bool, opened: usize) -> Result<Spot, Kind>
     ensures { next_of result ≡ faults.by_sign sign complete opened }
 {
     match sign {
-        Sign::Operand(_) => Step::To(Spot::Inside(true, opened)),
-        Sign::Before(_) => Step::To(Spot::Inside(false, opened)),
+        Sign::Operand(_) => Ok(Spot::Inside(true, opened)),
+        Sign::Before(_) => Ok(Spot::Inside(false, opened)),
         Sign::After(_) => to_if(complete, Spot::Inside(true, opened)),
         Sign::Slash => to_if(complete, Spot::Inside(false, opened)),
         Sign::Opening => opens(opened),
-        Sign::Closing => closes(complete, opened),
-        Sign::Equals => Step::Wrong(UNGRAMMATICAL),
-        Sign::Semicolon => end_line(complete, opened),
+        Sign::Closing => to_if(
+            complete && 0 < opened,
+            Spot::Inside(true, opened.saturating_sub(1)),
+        ),
+        Sign::Equals => Err(Kind::Ungrammatical),
+        Sign::Semicolon => to_if(complete && opened == 0, Spot::AtLine),
     }
 }
 
-// A sign where = must come.
-fn by_equals(sign: Sign) -> Step
-    ensures { next_of result ≡ faults.to_if (faults.is_equals sign) (faults.inside false 0) }
+#[tactic(auto, unfolding(syntax::specs::Faults::is_equals))]
+fn is_equals(token: Token) -> bool
+    ensures { result ≡ equals token }
 {
-    match sign {
-        Sign::Operand(_) => Step::Wrong(UNGRAMMATICAL),
-        Sign::Before(_) => Step::Wrong(UNGRAMMATICAL),
-        Sign::After(_) => Step::Wrong(UNGRAMMATICAL),
-        Sign::Slash => Step::Wrong(UNGRAMMATICAL),
-        Sign::Opening => Step::Wrong(UNGRAMMATICAL),
-        Sign::Closing => Step::Wrong(UNGRAMMATICAL),
-        Sign::Equals => Step::To(Spot::Inside(false, 0)),
-        Sign::Semicolon => Step::Wrong(UNGRAMMATICAL),
-    }
-}
-
-// A name where a line begins, after so many lines: it must be new.
-fn by_name(text: &[u8], lines: usize, name: usize, long: usize) -> Step
-    requires { (lines ≤ length (heads text.now)) × (name + long ≤ length text.now) }
-    ensures { next_of result ≡
-        faults.to_if (faults.not_in (section text.now name long) (take lines (heads text.now))) faults.at_equals }
-{
-    let line = line_of(text, name, long);
-    if line < lines {
-        return Step::Wrong(UNGRAMMATICAL);
-    }
-    Step::To(Spot::AtEquals)
-}
-
-// A word where a line begins: it must be a name.
-fn from_line(text: &[u8], lines: usize, offset: usize, long: usize) -> Step
-    requires { (lines ≤ length (heads text.now)) × (offset + long ≤ length text.now) }
-    ensures { next_of result ≡ faults.next (take lines (heads text.now)) faults.at_line (word (section text.now offset long)) }
-{
-    if is_reserved(text, offset, long) {
-        return Step::Wrong(UNGRAMMATICAL);
-    }
-    by_name(text, lines, offset, long)
+    matches!(token, Token::Sign(Sign::Equals))
 }
 
 // What a token leads to where = must come.
-fn from_equals(token: Token) -> Step
+fn from_equals(token: Token) -> Result<Spot, Kind>
     ensures { (ns : List (List ℕ)) (text : List ℕ) (o : ℕ) → next_of result ≡ faults.next ns faults.at_equals (token_of text o token) }
 {
-    match token {
-        Token::Name(_) => Step::Wrong(UNGRAMMATICAL),
-        Token::Sign(sign) => by_equals(sign),
-        Token::Range(_) => Step::Wrong(UNGRAMMATICAL),
-        Token::Unknown => Step::Wrong(UNGRAMMATICAL),
-    }
+    to_if(is_equals(token), Spot::Inside(false, 0))
 }
 
 // What a token leads to inside an expression.
-fn from_inside(complete: bool, opened: usize, token: Token) -> Step
+#[tactic(auto, unfolding(crate::specs::Code::Stepping::next_of, crate::specs::Code::Stepping::spot_of, crate::specs::Code::Scanning::token_of, syntax::specs::Faults::next))]
+fn from_inside(complete: bool, opened: usize, token: Token) -> Result<Spot, Kind>
     ensures { (ns : List (List ℕ)) (text : List ℕ) (o : ℕ) →
         next_of result ≡ faults.next ns (faults.inside complete opened) (token_of text o token) }
 {
     match token {
-        Token::Name(_) => Step::To(Spot::Inside(true, opened)),
+        Token::Name(_) | Token::Range(_) => Ok(Spot::Inside(true, opened)),
         Token::Sign(sign) => by_sign(sign, complete, opened),
-        Token::Range(_) => Step::To(Spot::Inside(true, opened)),
-        Token::Unknown => Step::Wrong(UNGRAMMATICAL),
+        Token::Unknown => Err(Kind::Ungrammatical),
     }
 }
 
-// What a word leads to, after so many lines. Inside an expression a name and a reserved word are operands alike.
-fn by_word(text: &[u8], lines: usize, spot: Spot, offset: usize, long: usize) -> Step
-    requires { (lines ≤ length (heads text.now)) × (offset + long ≤ length text.now) }
-    ensures { next_of result ≡ faults.next (take lines (heads text.now)) (spot_of spot) (word (section text.now offset long)) }
+// What a word leads to, after the first lines. Where a line begins it must be a new name; inside an expression a name and a reserved word are operands alike.
+fn by_word(first: FirstLines<'_>, spot: Spot, word: &[u8]) -> Result<Spot, Kind>
+    ensures { next_of result ≡ faults.next (take first.entry.count (heads first.entry.text.now)) (spot_of spot) (word_read word.now) }
 {
     match spot {
-        Spot::AtLine => from_line(text, lines, offset, long),
-        Spot::AtEquals => Step::Wrong(UNGRAMMATICAL),
-        Spot::Inside(_, opened) => Step::To(Spot::Inside(true, opened)),
+        Spot::AtLine => to_if(first.is_new(word), Spot::AtEquals),
+        Spot::AtEquals => Err(Kind::Ungrammatical),
+        Spot::Inside(_, opened) => Ok(Spot::Inside(true, opened)),
     }
 }
 
 // What a range leads to, whatever its ends are.
-fn by_range(spot: Spot) -> Step
+#[tactic(auto, unfolding(crate::specs::Code::Stepping::next_of, crate::specs::Code::Stepping::spot_of, syntax::specs::Faults::next))]
+fn by_range(spot: Spot) -> Result<Spot, Kind>
     ensures { (ns : List (List ℕ)) (low high : ℕ) → next_of result ≡ faults.next ns (spot_of spot) (range low high) }
 {
     match spot {
-        Spot::AtLine => Step::Wrong(UNGRAMMATICAL),
-        Spot::AtEquals => Step::Wrong(UNGRAMMATICAL),
-        Spot::Inside(_, opened) => Step::To(Spot::Inside(true, opened)),
+        Spot::AtLine | Spot::AtEquals => Err(Kind::Ungrammatical),
+        Spot::Inside(_, opened) => Ok(Spot::Inside(true, opened)),
     }
 }
 
 // What a sign, or a byte that begins no token, leads to. The sign is made in the arm that goes by it: so the compiler makes one jump of the two.
-fn by_byte(spot: Spot, byte: u8) -> Step
+fn by_byte(spot: Spot, byte: u8) -> Result<Spot, Kind>
     ensures { (ns : List (List ℕ)) → next_of result ≡ faults.next ns (spot_of spot) (sign_of byte) }
 {
     match spot {
-        Spot::AtLine => Step::Wrong(UNGRAMMATICAL),
+        Spot::AtLine => Err(Kind::Ungrammatical),
         Spot::AtEquals => from_equals(sign_of(byte)),
         Spot::Inside(complete, opened) => from_inside(complete, opened, sign_of(byte)),
     }
 }
 
-// What the token at a place leads to, after so many lines, and the place after it.
-fn step_at(text: &[u8], lines: usize, spot: Spot, offset: usize) -> Moved
-    requires { (lines ≤ length (heads text.now)) × (offset < length text.now) }
-    ensures { Moves text.now lines (spot_of spot) offset result }
+// What the token at a place leads to, after the first lines, and the place after it.
+fn step_at(first: FirstLines<'_>, spot: Spot, offset: usize) -> Moved
+    requires { offset < length first.text.now }
+    ensures { Moves first.entry.text.now first.entry.count (spot_of spot) offset result }
 {
+    let text = first.text;
     let byte = text[offset];
     if is_letter(byte) {
-        let long = letters_from(text, offset);
-        let step = by_word(text, lines, spot, offset, long);
+        let word = letters_from(text, offset);
+        let step = by_word(first, spot, word);
         return Moved {
             step,
-            next: offset + long,
+            next: offset + word.len(),
         };
     }
     if range_at(text, offset) {
@@ -218,76 +155,48 @@ fn step_at(text: &[u8], lines: usize, spot: Spot, offset: usize) -> Moved
 }
 
 // How many lines a token begins that is not wrong.
+#[tactic(auto, unfolding(crate::specs::Code::Stepping::spot_of, crate::specs::Code::Stepping::begins, crate::specs::Code::Stepping::lines_begun))]
 fn begun(spot: Spot) -> usize
     ensures { result ≡ lines_begun (spot_of spot) }
 {
-    match spot {
-        Spot::AtLine => 1,
-        Spot::AtEquals => 0,
-        Spot::Inside(_, _) => 0,
-    }
+    usize::from(matches!(spot, Spot::AtLine))
 }
 
 // A text of so many bytes ends at a spot, after so many lines.
-fn at_end(spot: Spot, lines: usize, long: usize) -> Refusal
-    ensures { (ns : List (List ℕ)) → length ns ≡ lines → result ≡ faults.at_end ns (spot_of spot) long }
+#[tactic(auto, using(std::proofs::lemmas::Bool::Decides::nat_tests), unfolding(crate::specs::Code::Stepping::spot_of, syntax::specs::Faults::at_end, refusal::specs::Checking::checked))]
+fn at_end(spot: Spot, lines: usize, long: usize) -> Result<(), Refusal>
+    ensures { (ns : List (List ℕ)) → length ns ≡ lines → result ≡ checked (faults.at_end ns (spot_of spot) long) }
 {
-    match spot {
-        Spot::AtLine => {
-            if lines == 0 {
-                Refusal {
-                    number: UNGRAMMATICAL,
-                    place: long,
-                }
-            } else {
-                Refusal {
-                    number: 0,
-                    place: 0,
-                }
-            }
-        }
-        Spot::AtEquals => Refusal {
-            number: UNGRAMMATICAL,
-            place: long,
-        },
-        Spot::Inside(_, _) => Refusal {
-            number: UNGRAMMATICAL,
-            place: long,
-        },
+    if matches!(spot, Spot::AtLine) && 0 < lines {
+        Ok(())
+    } else {
+        Err(Refusal::new(Kind::Ungrammatical, long))
     }
 }
 
-// The earliest fault of a text, or number 0 with the count of its lines.
+// The earliest fault of a text, or none with the count of its lines.
 // It looks at the bytes itself: `scan` is too big to be inlined, and its answer would go through memory.
 pub fn check_text(text: &[u8]) -> TextCheck
     ensures { TextChecked text.now result }
 {
-    let mut at: usize = 0;
+    let mut offset = skip(text, 0);
     let mut lines: usize = 0;
     let mut spot = Spot::AtLine;
-    while at < text.len() {
-        let offset = skip(text, at);
-        if text.len() <= offset {
-            let refusal = at_end(spot, lines, text.len());
-            return TextCheck { refusal, lines };
-        }
-        let moved = step_at(text, lines, spot, offset);
-        let step = moved.step;
-        match step {
-            Step::To(after) => {
+    while offset < text.len() {
+        let first = FirstLines { text, count: lines };
+        let moved = step_at(first, spot, offset);
+        match moved.step {
+            Ok(after) => {
                 lines += begun(spot);
                 spot = after;
-                at = moved.next;
+                offset = skip(text, moved.next);
             }
-            Step::Wrong(number) => {
-                let refusal = Refusal {
-                    number,
-                    place: offset,
-                };
-                return TextCheck { refusal, lines };
+            Err(kind) => {
+                let checked = Err(Refusal::new(kind, offset));
+                return TextCheck { checked, lines };
             }
         }
     }
-    let refusal = at_end(spot, lines, text.len());
-    TextCheck { refusal, lines }
+    let checked = at_end(spot, lines, text.len());
+    TextCheck { checked, lines }
 }

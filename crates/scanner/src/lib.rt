@@ -10,9 +10,6 @@ pub mod undefined;
 use refusal::Refusal;
 use syntax::Token;
 
-// Refusal 15: the text is no grammar.
-pub const UNGRAMMATICAL: u32 = 15;
-
 // The brackets that may be open at once.
 pub const MAX_DEPTH: usize = 16;
 
@@ -22,13 +19,6 @@ pub struct Lexeme {
     pub token: Token,
     pub offset: usize,
     pub next: usize,
-}
-
-// What is found from a place on: a lexeme, or no more.
-#[derive(Clone, Copy)]
-pub enum Scanned {
-    Found(Lexeme),
-    End,
 }
 
 // What the letters where a line begins are to the search for a name: the name sought, another name, or none.
@@ -47,16 +37,9 @@ pub enum Spot {
     Inside(bool, usize),
 }
 
-// What a token leads to: another spot, or a refusal of this number.
-#[derive(Clone, Copy)]
-pub enum Step {
-    To(Spot),
-    Wrong(u32),
-}
-
-// The first refusal of a text, or number 0, and the count of lines begun before it.
+// What the check of a text says, and the count of lines begun before the refusal, if there is one.
 #[derive(Clone, Copy)]
 pub struct TextCheck {
-    pub refusal: Refusal,
+    pub checked: Result<(), Refusal>,
     pub lines: usize,
 }

@@ -1,21 +1,30 @@
 // The names of a text: the number of the line that a name names, and where the next word is.
-ghost use Rattle.std.specs.Prelude.{◌≡◌, true, false, ◌+◌, ◌<◌, ◌≤◌, length, drop};
-ghost use Rattle.codec.specs.Bytes.{byte, section};
-ghost use Rattle.syntax.specs.Tokens.{letter, letters, same, width_at};
+ghost use Rattle.std.specs.Prelude.{◌≡◌, true, false, ◌+◌, ◌<◌, ◌≤◌, length, take, drop};
+ghost use Rattle.codec.specs.Bytes.{byte};
+ghost use Rattle.syntax.specs.Tokens.{letter, width_at, word as word_read};
+ghost use Rattle.syntax.specs.Faults.{undefined_in};
 ghost use Rattle.syntax.specs.Compile.{index_of};
 ghost use Rattle.syntax.specs.Code.Heads.{heads};
 ghost use Rattle.scanner.specs.Code.Naming.{head_in, stops, PassesHeads, PassesNames};
 
 use crate::Head;
-use crate::tokens::{RANGE_BYTES, is_letter, is_reserved, letters_from, range_at, same_at, skip};
+use crate::tokens::{RANGE_BYTES, is_letter, is_reserved, letters_from, range_at, skip};
 
-// Whether the `long` letters from `name` on are the `wide` ones from `other` on.
-fn same_letters(text: &[u8], name: usize, long: usize, other: usize, wide: usize) -> bool
-    requires { (name + long ≤ length text.now) × (other + wide ≤ length text.now) }
-    ensures { result ≡ same (section text.now name long) (section text.now other wide) }
-{
-    let end = other + wide;
-    same_at(text, name, long, &text[other..end])
+// So many lines of a text: the first ones.
+#[derive(Clone, Copy)]
+pub struct FirstLines<'a> {
+    pub text: &'a [u8],
+    pub count: usize,
+    ghost few: { count ≤ length (heads text.now) },
+}
+
+impl<'a> FirstLines<'a> {
+    // Whether a word is a name that none of the lines has.
+    pub fn is_new(self, word: &[u8]) -> bool
+        ensures { result ≡ undefined_in (take self.entry.count (heads self.entry.text.now)) (word_read word.now) }
+    {
+        !is_reserved(word) && self.count <= line_of(self.text, word)
+    }
 }
 
 // The place after a quote, or after the range that begins with it.
@@ -30,13 +39,11 @@ fn after_quote(text: &[u8], at: usize) -> usize
 }
 
 // Whether a byte inside a line cannot be passed alone whatever follows: a semicolon ends the line, a quote may begin a range.
+#[tactic(auto, using(std::proofs::lemmas::Bool::Decides::nat_tests), unfolding(crate::specs::Code::Naming::stops))]
 fn is_stop(byte: u8) -> bool
     ensures { result ≡ stops byte }
 {
-    if byte == b';' {
-        return true;
-    }
-    byte == b'\''
+    byte == b';' || byte == b'\''
 }
 
 // The next stop from a place on, or, with no stop before it, a place less than four bytes before the text's end.
@@ -72,16 +79,11 @@ fn after_line(text: &[u8], at: usize) -> usize
     while i < text.len() {
         i = next_stop(text, i);
         // Where no stop is left, this may be the text's end.
-        if i < text.len() {
-            let byte = text[i];
-            if byte == b';' {
-                return i + 1;
-            }
-            if byte == b'\'' {
-                i = after_quote(text, i);
-            } else {
-                i += 1;
-            }
+        match text.get(i) {
+            Some(b';') => return i + 1,
+            Some(b'\'') => i = after_quote(text, i),
+            Some(_) => i += 1,
+            None => return i,
         }
     }
     i
@@ -106,41 +108,35 @@ pub fn next_word(text: &[u8], at: usize) -> usize
     i
 }
 
-// What the `wide` letters where a line begins are to the search for a name: a name there is the line's head.
-fn head_of(text: &[u8], name: usize, long: usize, offset: usize, wide: usize) -> Head
-    requires { (name + long ≤ length text.now) × (wide ≡ length (letters (drop offset text.now))) }
-    ensures { result ≡ head_in (section text.now name long) (letters (drop offset text.now)) }
+// What the letters where a line begins are to the search for a name: a name there is the line's head.
+fn head_of(name: &[u8], word: &[u8]) -> Head
+    ensures { result ≡ head_in name.now word.now }
 {
-    if wide == 0 {
-        return Head::Nothing;
+    if word.is_empty() || is_reserved(word) {
+        Head::Nothing
+    } else if name == word {
+        Head::Sought
+    } else {
+        Head::Other
     }
-    if is_reserved(text, offset, wide) {
-        return Head::Nothing;
-    }
-    if same_letters(text, name, long, offset, wide) {
-        return Head::Sought;
-    }
-    Head::Other
 }
 
-// The number of the line that the `long` letters from `name` on name, or the count of lines where they name none.
-pub fn line_of(text: &[u8], name: usize, long: usize) -> usize
-    requires { name + long ≤ length text.now }
-    ensures { result ≡ index_of (section text.now name long) (heads text.now) }
+// The number of the line that a name names, or the count of lines where it names none.
+pub fn line_of(text: &[u8], name: &[u8]) -> usize
+    ensures { result ≡ index_of name.now (heads text.now) }
 {
     let mut at: usize = 0;
     let mut line: usize = 0;
     while at < text.len() {
         let offset = skip(text, at);
-        let wide = letters_from(text, offset);
-        let head = head_of(text, name, long, offset, wide);
-        match head {
+        let word = letters_from(text, offset);
+        match head_of(name, word) {
             Head::Sought => return line,
             Head::Other => line += 1,
             Head::Nothing => {}
         }
         // A line whose first token is no word is passed from that token on: it may be the semicolon.
-        at = after_line(text, offset + wide);
+        at = after_line(text, offset + word.len());
     }
     line
 }

@@ -1,128 +1,88 @@
 // The scanner: the first token of a text from a place on, for every text and every place.
 ghost use Rattle.std.specs.Prelude.{◌≡◌, List, ℕ, ◌+◌, ◌<◌, ◌≤◌, length, drop};
-ghost use Rattle.codec.specs.Bytes.{section};
-ghost use Rattle.syntax.specs.Tokens.{letter, letters, same, sign_of, range_there, skipped};
+ghost use Rattle.syntax.specs.Tokens.{letter, letters, sign_of, range_there, skipped};
 ghost use Rattle.scanner.specs.Code.Scanning.{token_of, reserved, Scans, Skips, ScansWord, ScansToken};
 
-use crate::{Lexeme, Scanned};
-use syntax::{Ends, Leaf, Prefix, Sign, Suffix, Token};
+use crate::Lexeme;
+use grammar::ByteRange;
+use syntax::{Leaf, Prefix, Sign, Suffix, Token};
 
 // The bytes of a range: quote, low, minus, high, quote.
 pub const RANGE_BYTES: usize = 5;
 
 // Whether a byte is a letter, a to z.
+#[tactic(auto, using(std::proofs::lemmas::Bool::Decides::nat_tests), unfolding(syntax::specs::Tokens::letter))]
 pub fn is_letter(byte: u8) -> bool
     ensures { result ≡ letter byte }
 {
-    if byte < b'a' {
-        return false;
-    }
-    byte <= b'z'
+    byte.is_ascii_lowercase()
 }
 
 // Whether a byte is a space or a line feed.
+#[tactic(auto, using(std::proofs::lemmas::Bool::Decides::nat_tests), unfolding(syntax::specs::Tokens::skipped))]
 fn is_skipped(byte: u8) -> bool
     ensures { result ≡ skipped byte }
 {
-    if byte == b' ' {
-        return true;
-    }
-    byte == b'\n'
+    byte == b' ' || byte == b'\n'
 }
 
 // The first place from `at` on that is not skipped.
 pub fn skip(text: &[u8], at: usize) -> usize
     ensures { Skips text.now at result }
 {
-    let mut i = at;
-    while i < text.len() {
+    for i in at..text.len() {
         if !is_skipped(text[i]) {
             return i;
         }
-        i += 1;
     }
-    i
+    at.max(text.len())
 }
 
-// How many letters stand from `at` on.
-pub fn letters_from(text: &[u8], at: usize) -> usize
-    ensures { result ≡ length (letters (drop at text.now)) }
+// The letters that stand from `at` on.
+pub fn letters_from(text: &[u8], at: usize) -> &[u8]
+    ensures { result.now ≡ letters (drop at text.now) }
 {
-    let mut i = at;
-    while i < text.len() {
+    for i in at..text.len() {
         if !is_letter(text[i]) {
-            return i - at;
+            return &text[at..i];
         }
-        i += 1;
     }
-    i - at
+    &text[at.min(text.len())..]
 }
 
-// Whether the `long` bytes from `at` on are those of `word`.
-pub fn same_at(text: &[u8], at: usize, long: usize, word: &[u8]) -> bool
-    requires { at + long ≤ length text.now }
-    ensures { result ≡ same (section text.now at long) word.now }
+// Whether a run of letters is a reserved word.
+#[tactic(auto, using(crate::proofs::Tokenizing::same_bytes), unfolding(crate::specs::Code::Scanning::reserved))]
+pub fn is_reserved(word: &[u8]) -> bool
+    ensures { result ≡ reserved word.now }
 {
-    if long != word.len() {
-        return false;
-    }
-    let mut i: usize = 0;
-    while i < long {
-        let k = at + i;
-        if text[k] != word[i] {
-            return false;
-        }
-        i += 1;
-    }
-    true
-}
-
-// Whether the `long` letters from `at` on are a reserved word.
-pub fn is_reserved(text: &[u8], at: usize, long: usize) -> bool
-    requires { at + long ≤ length text.now }
-    ensures { result ≡ reserved (section text.now at long) }
-{
-    if same_at(text, at, long, b"empty") {
-        return true;
-    }
-    same_at(text, at, long, b"fail")
+    word == b"empty".as_slice() || word == b"fail".as_slice()
 }
 
 // The token of a run of letters: a reserved word or a name.
-fn word_at(text: &[u8], at: usize, long: usize) -> Token
-    requires { at + long ≤ length text.now }
-    ensures { ScansWord text.now at long result }
+fn word_token(word: &[u8]) -> Token
+    ensures { ScansWord word.now result }
 {
-    if same_at(text, at, long, b"empty") {
-        return Token::Sign(Sign::Operand(Leaf::EmptyString));
+    if word == b"empty".as_slice() {
+        Token::Sign(Sign::Operand(Leaf::EmptyString))
+    } else if word == b"fail".as_slice() {
+        Token::Sign(Sign::Operand(Leaf::Failure))
+    } else {
+        Token::Name(word.len())
     }
-    if same_at(text, at, long, b"fail") {
-        return Token::Sign(Sign::Operand(Leaf::Failure));
-    }
-    Token::Name(long)
 }
 
 // Whether a range stands at a place.
+#[tactic(auto, using(crate::proofs::Tokenizing::range_short, crate::proofs::Tokenizing::range_is))]
 pub fn range_at(text: &[u8], at: usize) -> bool
     requires { at < length text.now }
     ensures { result ≡ range_there (drop at text.now) }
 {
     let left = text.len() - at;
-    if left < RANGE_BYTES {
-        return false;
-    }
-    if text[at] != b'\'' {
-        return false;
-    }
-    let minus = at + 2;
-    if text[minus] != b'-' {
-        return false;
-    }
-    let last = at + 4;
-    text[last] == b'\''
+    left >= RANGE_BYTES && (text[at], text[at + 2], text[at + 4]) == (b'\'', b'-', b'\'')
 }
 
 // The token that is a sign's byte, or the unknown one.
+#[tactic(auto, using(std::proofs::lemmas::Bool::Decides::nat_tests), unfolding(crate::specs::Code::Scanning::token_of, syntax::specs::Tokens::sign_of))]
 pub fn sign_of(byte: u8) -> Token
     ensures { (text : List ℕ) (o : ℕ) → token_of text o result ≡ sign_of byte }
 {
@@ -148,19 +108,19 @@ fn lexeme_at(text: &[u8], at: usize) -> Lexeme
     ensures { ScansToken text.now at result }
 {
     if is_letter(text[at]) {
-        let long = letters_from(text, at);
-        let token = word_at(text, at, long);
+        let word = letters_from(text, at);
+        let token = word_token(word);
         return Lexeme {
             token,
             offset: at,
-            next: at + long,
+            next: at + word.len(),
         };
     }
     if range_at(text, at) {
         let low = text[at + 1];
         let high = text[at + 3];
         return Lexeme {
-            token: Token::Range(Ends { low, high }),
+            token: Token::Range(ByteRange { low, high }),
             offset: at,
             next: at + RANGE_BYTES,
         };
@@ -173,14 +133,14 @@ fn lexeme_at(text: &[u8], at: usize) -> Lexeme
     }
 }
 
-// The first lexeme from a place on, or the end.
-pub fn scan(text: &[u8], at: usize) -> Scanned
+// The first lexeme from a place on.
+pub fn scan(text: &[u8], at: usize) -> Option<Lexeme>
     ensures { Scans text.now at result }
 {
     let offset = skip(text, at);
     if text.len() <= offset {
-        return Scanned::End;
+        return None;
     }
     let lexeme = lexeme_at(text, offset);
-    Scanned::Found(lexeme)
+    Some(lexeme)
 }

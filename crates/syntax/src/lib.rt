@@ -1,7 +1,7 @@
 // Grammars as text: tokens, the check of a text, and reading a text into a grammar's bytes.
 #![tactic(auto)]
 
-use grammar::Expression;
+use grammar::{ByteRange, Expression};
 
 // The operands that are a sign or a reserved word: `.`, `empty`, `fail`.
 #[derive(Clone, Copy)]
@@ -39,19 +39,12 @@ pub enum Sign {
     Semicolon,
 }
 
-// The first and the last byte of a range.
-#[derive(Clone, Copy)]
-pub struct Ends {
-    pub low: u8,
-    pub high: u8,
-}
-
 // A token: a name of so many letters, a sign, a range with its two bytes; or a byte that begins none.
 #[derive(Clone, Copy)]
 pub enum Token {
     Name(usize),
     Sign(Sign),
-    Range(Ends),
+    Range(ByteRange),
     Unknown,
 }
 

@@ -1,12 +1,11 @@
 -- What the scanner finds from a place of a text on. Assumes nothing: these are definitions.
-use Rattle.std.specs.Prelude.{◌≡◌, Bool, false, ◌||◌, List, [], ◌∷◌, ◌⊎◌, ℕ, ◌+◌, ◌<◌, ◌≤◌, length, drop}
+use Rattle.std.specs.Prelude.{Option, Some, None, ◌≡◌, Bool, false, ◌||◌, List, [], ◌∷◌, ◌⊎◌, ℕ, ◌+◌, ◌<◌, ◌≤◌, length, drop}
 use Rattle.codec.specs.Bytes.{byte, section}
 use Rattle.syntax.specs.declared.Token as Code
 use Rattle.syntax.specs.declared.Token.TheVariants.{Name, Sign, Range, Unknown}
 use Rattle.syntax.specs.Tokens.{Token, Lexeme, name, sign, range, unknown, is_semicolon, tokens, lexemes_from, skipped, same, empty_word, fail_word, word, token_at, width_at}
+use Rattle.syntax.specs.Faults.{is_equals}
 use Rattle.scanner.specs.declared.Lexeme as Scanner
-use Rattle.scanner.specs.declared.Scanned.{Scanned}
-use Rattle.scanner.specs.declared.Scanned.TheVariants.{Found, End}
 
 -- the lexemes from a place on, where a token may begin
 unfoldable pub lexemes_at : (text : List ℕ) → (at : ℕ) → List Lexeme
@@ -30,6 +29,13 @@ ends (Sign s) = is_semicolon s
 ends (Range r) = false
 ends Unknown = false
 
+-- whether the scanner's token is =
+abbrev pub equals : Code.Token → Bool
+equals (Name k) = false
+equals (Sign s) = is_equals s
+equals (Range r) = false
+equals Unknown = false
+
 -- whether letters are a reserved word
 unfoldable pub reserved : (letters : List ℕ) → Bool
 reserved ls = same ls empty_word || same ls fail_word
@@ -43,9 +49,9 @@ pub record ScansTo (text : List ℕ) (at : ℕ) (l : Scanner.Lexeme) : Type 0 wh
   pub within : l.next ≤ length text
   pub named : (k : ℕ) → l.token ≡ Name k → l.offset + k ≡ l.next
 
-abbrev pub Scans : (text : List ℕ) → (at : ℕ) → Scanned → Type 0
-Scans text at (Found l) = ScansTo text at l
-Scans text at End = lexemes_at text at ≡ []
+abbrev pub Scans : (text : List ℕ) → (at : ℕ) → Option Scanner.Lexeme → Type 0
+Scans text at (Some l) = ScansTo text at l
+Scans text at None = lexemes_at text at ≡ []
 
 -- from the first place to the second there is nothing but what is skipped, and at the second a token begins, if it is in the text
 pub record Skips (text : List ℕ) (at to : ℕ) : Type 0 where
@@ -53,10 +59,10 @@ pub record Skips (text : List ℕ) (at to : ℕ) : Type 0 where
   pub from : at ≤ to
   pub stops : to < length text → skipped (byte text to) ≡ false
 
--- a token is what a run of so many letters is
-pub record ScansWord (text : List ℕ) (at long : ℕ) (t : Code.Token) : Type 0 where
-  pub stands : token_of text at t ≡ word (section text at long)
-  pub named : (k : ℕ) → t ≡ Name k → k ≡ long
+-- a token is what a run of letters is, in whatever text they stand
+pub record ScansWord (letters : List ℕ) (t : Code.Token) : Type 0 where
+  pub stands : (text : List ℕ) (at : ℕ) → section text at (length letters) ≡ letters → token_of text at t ≡ word letters
+  pub named : (k : ℕ) → t ≡ Name k → k ≡ length letters
 
 -- a lexeme is the token at the place
 pub record ScansToken (text : List ℕ) (at : ℕ) (l : Scanner.Lexeme) : Type 0 where

@@ -1,12 +1,13 @@
 -- The check of a text as the code does it: what its spots and steps stand for, and what it answers. Assumes nothing: these are definitions.
-use Rattle.std.specs.Prelude.{◌≡◌, Bool, true, false, cond, List, ℕ, ◌+◌, length, take, drop}
+use Rattle.std.specs.Prelude.{Result, Ok, Err, ◌≡◌, Bool, true, false, cond, List, ℕ, ◌+◌, length, take, drop}
+use Rattle.refusal.specs.declared.Kind.{Kind}
+use Rattle.refusal.specs.Kinds.{number_of}
+use Rattle.refusal.specs.Checking.{checked}
 use Rattle.syntax.specs.Tokens.{token_at, width_at}
 use Rattle.syntax.specs.Faults.{Spot, at_line, at_equals, inside, Next, to, wrong, next, fault}
 use Rattle.syntax.specs.Code.Heads.{heads}
 use Rattle.scanner.specs.declared.Spot as Code
 use Rattle.scanner.specs.declared.Spot.TheVariants.{AtLine, AtEquals, Inside}
-use Rattle.scanner.specs.declared.Step.{Step}
-use Rattle.scanner.specs.declared.Step.TheVariants.{To, Wrong}
 use Rattle.scanner.specs.declared.TextCheck.{TextCheck}
 use Rattle.scanner.specs.declared.faults.Moved.{Moved}
 
@@ -16,9 +17,9 @@ spot_of AtLine = at_line
 spot_of AtEquals = at_equals
 spot_of (Inside c k) = inside c k
 
-unfoldable pub next_of : Step → Next
-next_of (To s) = to (spot_of s)
-next_of (Wrong n) = wrong n
+unfoldable pub next_of : Result Code.Spot Kind → Next
+next_of (Ok s) = to (spot_of s)
+next_of (Err k) = wrong (number_of k)
 
 -- whether a line begins at a spot, and how many lines then begin
 unfoldable pub begins : Spot → Bool
@@ -36,5 +37,5 @@ pub record Moves (text : List ℕ) (lines : ℕ) (s : Spot) (offset : ℕ) (m : 
 
 -- THE ANSWER: the earliest fault of a text, and where there is none the count of its lines
 pub record TextChecked (text : List ℕ) (r : TextCheck) : Type 0 where
-  pub first : r.refusal ≡ fault text
-  pub counted : r.refusal.number ≡ 0 → r.lines ≡ length (heads text)
+  pub first : r.checked ≡ checked (fault text)
+  pub counted : r.checked ≡ Ok tt → r.lines ≡ length (heads text)

@@ -1,9 +1,9 @@
 -- `scanner::faults::by_byte` meets its contract: one case for each spot. Assumes nothing.
-use Rattle.scanner.proofs.Moving.{line_byte}
-use Rattle.scanner.specs.Code.Stepping.{spot_of, next_of}
-use Rattle.syntax.specs.Faults.{next, at_equals, inside}
-use mathlib.Core.List.{[]}
 use mathlib.Core.Path.{sym, ap, ◌∙◌}
+use mathlib.Core.List.{[]}
+use Rattle.syntax.specs.Faults.{next, at_equals, inside}
+use Rattle.scanner.specs.Code.Stepping.{spot_of, next_of}
+use Rattle.scanner.proofs.Moving.{line_byte}
 use Rattle.scanner.proofs.faults.by_byte.Goals as goal
 
 pub returns-in-AtLine : goal.returns-in-AtLine

@@ -1,15 +1,14 @@
 -- `scanner::faults::by_word` meets its contract: one case for each spot. Assumes nothing.
-use mathlib.Core.Path.{sym}
+use mathlib.Core.Path.{sym, ap, ◌∙◌}
+use mathlib.Core.Bool.{Bool}
+use Rattle.syntax.specs.Faults.{to_if, at_equals}
 use Rattle.scanner.specs.Code.Stepping.{spot_of, next_of}
-use Rattle.scanner.proofs.Moving.{equals_word, inside_word}
+use Rattle.scanner.proofs.Moving.{line_token, equals_word, inside_word}
 use Rattle.scanner.proofs.faults.by_word.Goals as goal
-
-pub from_line-requires : goal.from_line-requires
-from_line-requires c = c.requires
 
 pub returns-in-AtLine : goal.returns-in-AtLine
 unfolding spot_of
-returns-in-AtLine c = simp c.in-AtLine.is c.from_line.ensures
+returns-in-AtLine c = simp c.in-AtLine.is (c.to_if.ensures ∙ ap (λ (t : Bool). to_if t at_equals) c.is_new.ensures ∙ line_token _ _)
 
 pub returns-in-AtEquals : goal.returns-in-AtEquals
 unfolding spot_of next_of

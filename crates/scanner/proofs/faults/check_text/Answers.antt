@@ -1,39 +1,37 @@
 -- `scanner::faults::check_text` meets its contract: the loop's invariant says that the tokens left decide. Assumes nothing.
-use mathlib.Core.Path.{◌∙◌}
 use native.Mathlib.Omega.{arith}
 use Rattle.scanner.specs.Code.Stepping.{spot_of}
-use Rattle.scanner.proofs.Lexing.{lexemes_end}
 use Rattle.scanner.proofs.Faulting.{check_start, check_end, check_further, check_wrong, check_next, begun_few}
 use Rattle.scanner.proofs.faults.check_text.Goals as goal
 
-pub loop-at-init : goal.loop-at-init
+pub loop-offset-init : goal.loop-offset-init
 unfolding spot_of
-loop-at-init c = check_start _
-
-pub returns-then-text-offset : goal.returns-then-text-offset
-returns-then-text-offset c =
-    check_end _ _ _ _ c.loop-at.invariant (c.skip-offset.ensures.rest ∙ lexemes_end _ _ c.if-text-offset.true) _ c.at_end-refusal.ensures
-
-pub step_at-moved-requires : goal.step_at-moved-requires
-step_at-moved-requires c = (c.loop-at.invariant.there, c.if-text-offset.false)
+loop-offset-init c = (check_start _ _ c.skip-offset.ensures, c.skip-offset.ensures.stops)
 
 pub overflow_add-lines : goal.overflow_add-lines
 overflow_add-lines c =
-    omega (arith, begun_few _ _ c.begun-lines.ensures, c.loop-at-test.true, c.loop-at.invariant.few)
+    omega (arith, begun_few _ _ c.begun-lines.ensures, c.loop-offset-test.true, c.loop-offset.invariant.0.few)
 
-pub loop-at-smaller : goal.loop-at-smaller
-loop-at-smaller c =
-    let further = check_further _ _ _ _ c.loop-at.invariant _ c.skip-offset.ensures c.if-text-offset.false _ c.step_at-moved.ensures in
-    omega (arith, further.0, further.1)
+pub loop-offset-smaller : goal.loop-offset-smaller
+loop-offset-smaller c =
+    let come = c.loop-offset.invariant in
+    let more = c.loop-offset-test.true in
+    omega (arith, more, check_further _ _ _ _ come.0 (come.1 more) more _ c.step_at-moved.ensures, c.skip-offset-in-Ok.ensures.from)
 
-pub loop-at-preserved : goal.loop-at-preserved
-loop-at-preserved c =
-    check_next _ _ _ _ c.loop-at.invariant _ c.skip-offset.ensures c.if-text-offset.false _ c.step_at-moved.ensures _ c.in-To.is _
-    c.begun-lines.ensures
+pub loop-offset-preserved : goal.loop-offset-preserved
+loop-offset-preserved c =
+    let come = c.loop-offset.invariant in
+    let more = c.loop-offset-test.true in
+    let skips = c.skip-offset-in-Ok.ensures in (
+      check_next _ _ _ _ come.0 (come.1 more) more _ c.step_at-moved.ensures _ c.in-Ok.is _ c.begun-lines.ensures _ skips,
+      skips.stops,
+    )
 
-pub returns-in-Wrong : goal.returns-in-Wrong
-returns-in-Wrong c =
-    check_wrong _ _ _ _ c.loop-at.invariant _ c.skip-offset.ensures c.if-text-offset.false _ c.step_at-moved.ensures _ c.in-Wrong.is
+pub returns-in-Err : goal.returns-in-Err
+returns-in-Err c =
+    let come = c.loop-offset.invariant in
+    let more = c.loop-offset-test.true in
+    rw c.new.ensures (check_wrong _ _ _ _ come.0 (come.1 more) more _ c.step_at-moved.ensures _ c.in-Err.is)
 
 pub returns : goal.returns
-returns c = check_end _ _ _ _ c.loop-at.invariant (lexemes_end _ _ c.loop-at-test.false) _ c.at_end-refusal-2.ensures
+returns c = check_end _ _ _ _ c.loop-offset.invariant.0 c.loop-offset-test.false _ c.at_end-checked.ensures

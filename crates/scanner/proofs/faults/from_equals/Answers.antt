@@ -1,21 +1,11 @@
--- `scanner::faults::from_equals` meets its contract: only a sign may come. Assumes nothing.
-use Rattle.syntax.specs.Faults.{next}
-use Rattle.scanner.specs.Code.Scanning.{token_of}
-use Rattle.scanner.specs.Code.Stepping.{next_of}
+-- `scanner::faults::from_equals` meets its contract: only = may come. Assumes nothing.
+use mathlib.Core.Path.{ap, ◌∙◌}
+use mathlib.Core.Bool.{Bool, false}
+use Rattle.syntax.specs.Faults.{to_if, inside}
+use Rattle.scanner.specs.Code.Stepping.{spot_of}
+use Rattle.scanner.proofs.Moving.{equals_token}
 use Rattle.scanner.proofs.faults.from_equals.Goals as goal
 
-pub returns-in-Name : goal.returns-in-Name
-unfolding next_of next token_of
-returns-in-Name c = λ ns text o. simp c.in-Name.is
-
-pub returns-in-Sign : goal.returns-in-Sign
-unfolding next token_of
-returns-in-Sign c = λ ns text o. simp c.in-Sign.is c.by_equals.ensures
-
-pub returns-in-Range : goal.returns-in-Range
-unfolding next_of next token_of
-returns-in-Range c = λ ns text o. simp c.in-Range.is
-
-pub returns-in-Unknown : goal.returns-in-Unknown
-unfolding next_of next token_of
-returns-in-Unknown c = λ ns text o. simp c.in-Unknown.is
+pub returns : goal.returns
+unfolding spot_of
+returns c = λ ns text o. c.to_if.ensures ∙ ap (λ (t : Bool). to_if t (inside false 0)) c.is_equals.ensures ∙ equals_token ns text o _

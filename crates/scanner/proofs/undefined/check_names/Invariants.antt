@@ -1,8 +1,8 @@
--- The invariants and measures of `scanner::undefined::undefined_of`.
+-- The invariants and measures of `scanner::undefined::check_names`.
 use Prim.Native.Nat.{◌-◌}
 use lib.ListN.{length}
 use Rattle.scanner.proofs.Defining.{UndefinedLeft}
-use Rattle.scanner.proofs.undefined.undefined_of.Given as goal
+use Rattle.scanner.proofs.undefined.check_names.Given as goal
 
 abbrev pub invariant-loop-at : goal.invariant-loop-at
 invariant-loop-at l = UndefinedLeft l.text l.at
