@@ -1,10 +1,10 @@
 // The program's input: the pairs (16, g) and (16 + g, n), a grammar of g bytes, a capture of n, nothing after; and refusal 14.
 ghost use Rattle.std.specs.Prelude.{◌≡◌, ◌≤◌, length};
-ghost use Rattle.refusal.specs.First.{refusal};
+ghost use Rattle.refusal.specs.Checking.{checked};
 ghost use Rattle.answer.specs.Input.{pairs_length, capture_offset, first_pair_right, second_pair_right, input_refusal};
 
 use codec::read_pair;
-use refusal::Refusal;
+use refusal::{Kind, Refusal};
 
 // The pairs' own length, where the grammar begins.
 pub const PAIRS_LENGTH: usize = 16;
@@ -18,68 +18,46 @@ const CAPTURE_PAIR: usize = 8;
 pub const MAX_INPUT: usize = 65536;
 
 // Where the grammar ends and the capture begins.
+#[tactic(auto, unfolding(crate::specs::Input::capture_offset))]
 pub fn capture_offset(input: &[u8]) -> usize
     requires { pairs_length ≤ length input.now }
     ensures { result ≡ capture_offset input.now }
 {
-    let pair = read_pair(input, GRAMMAR_PAIR);
-    let long = pair.long as usize;
-    PAIRS_LENGTH + long
+    PAIRS_LENGTH + read_pair(input, GRAMMAR_PAIR).long as usize
 }
 
+#[tactic(auto, unfolding(crate::specs::Input::first_pair_right))]
 fn first_pair_right(input: &[u8]) -> bool
     requires { pairs_length ≤ length input.now }
     ensures { result ≡ first_pair_right input.now }
 {
     let pair = read_pair(input, GRAMMAR_PAIR);
-    let offset = pair.offset as usize;
-    if offset != PAIRS_LENGTH {
-        return false;
-    }
-    let middle = capture_offset(input);
-    middle <= input.len()
+    pair.offset as usize == PAIRS_LENGTH && capture_offset(input) <= input.len()
 }
 
+#[tactic(auto, unfolding(crate::specs::Input::second_pair_right))]
 fn second_pair_right(input: &[u8]) -> bool
     requires { pairs_length ≤ length input.now }
     ensures { result ≡ second_pair_right input.now }
 {
     let pair = read_pair(input, CAPTURE_PAIR);
-    let offset = pair.offset as usize;
     let middle = capture_offset(input);
-    if offset != middle {
-        return false;
-    }
-    let long = pair.long as usize;
-    let end = middle + long;
-    end == input.len()
+    pair.offset as usize == middle && middle + pair.long as usize == input.len()
 }
 
-fn refused(place: usize) -> Refusal
-    ensures { result ≡ refusal 14 place }
+// Refusal 14.
+#[tactic(auto, unfolding(crate::specs::Input::input_refusal, refusal::specs::Checking::checked))]
+pub fn check_input(input: &[u8]) -> Result<(), Refusal>
+    ensures { result ≡ checked (input_refusal input.now) }
 {
-    Refusal { number: 14, place }
-}
-
-// Refusal 14, or number 0.
-#[tactic(auto, using(crate::proofs::InputLaws::input_laws))]
-pub fn input_refusal(input: &[u8]) -> Refusal
-    ensures { result ≡ input_refusal input.now }
-{
-    if input.len() < PAIRS_LENGTH {
-        return refused(0);
-    }
-    if MAX_INPUT < input.len() {
-        return refused(0);
+    if input.len() < PAIRS_LENGTH || MAX_INPUT < input.len() {
+        return Err(Refusal::new(Kind::Input, 0));
     }
     if !first_pair_right(input) {
-        return refused(GRAMMAR_PAIR);
+        return Err(Refusal::new(Kind::Input, GRAMMAR_PAIR));
     }
     if !second_pair_right(input) {
-        return refused(CAPTURE_PAIR);
+        return Err(Refusal::new(Kind::Input, CAPTURE_PAIR));
     }
-    Refusal {
-        number: 0,
-        place: 0,
-    }
+    Ok(())
 }

@@ -1,10 +1,12 @@
 -- The buffers that building and judging are lent, the refusals of a grammar and a capture with them, and what two calls have in common that left the same. Assumes nothing: these are definitions.
-use Rattle.std.specs.Prelude.{◌≡◌, List, ℕ, length, take}
+use Rattle.std.specs.Prelude.{◌≡◌, List, ◌++◌, ℕ, length, take, drop, Ok, Err}
 use Rattle.refusal.specs.declared.Refusal.{Refusal}
 use Rattle.refusal.specs.First.{or_else}
 use Rattle.machine.specs.Run.{how_many}
 use Rattle.image.specs.Image.{machine}
-use Rattle.simulator.specs.Calls.{judge_refusal}
+use Rattle.simulator.specs.Answers.{Judged}
+use Rattle.simulator.specs.declared.Judgement.{Judgement}
+use Rattle.simulator.specs.Calls.{judge_refusal, JudgeSays}
 use Rattle.builder.specs.declared.Matching.TheVariants.{Whole}
 use Rattle.builder.specs.Image.{built, built_length}
 use Rattle.builder.specs.Calls.{build_refusal}
@@ -35,3 +37,13 @@ pub record SameCells (gs cs : List ℕ) (y w : Lent) : Type 0 where
   pub image : take (built_length gs) y.image ≡ take (built_length gs) w.image
   pub notes : take (how_many (machine (built Whole gs) cs)) y.notes ≡ take (how_many (machine (built Whole gs) cs)) w.notes
   pub work : take (how_many (machine (built Whole gs) cs)) y.work ≡ take (how_many (machine (built Whole gs) cs)) w.work
+
+-- the image of the grammar is built, with later bytes as they were, and the judgement is the call's answer
+pub record Builds (gs cs : List ℕ) (before after : Lent) (j : Judgement) : Type 0 where
+  pub image_now : after.image ≡ built Whole gs ++ drop (built_length gs) before.image
+  pub judges : JudgeSays (built Whole gs) cs (Ok j) before.notes after.notes before.work after.work
+
+-- JUDGING by a grammar that 11 and 12 do not refuse: refused by what is lent, with nothing written, or judged
+pub data JudgesBy (gs cs : List ℕ) : Judged → (before after : Lent) → Type 0 where
+  refused : {x : Lent} → ((lent_refusal gs cs x).number ≡ 0 → ⊥) → JudgesBy gs cs (Err (lent_refusal gs cs x)) x x
+  judged : {j : Judgement} {x y : Lent} → (lent_refusal gs cs x).number ≡ 0 → Builds gs cs x y j → JudgesBy gs cs (Ok j) x y

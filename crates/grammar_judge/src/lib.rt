@@ -2,65 +2,57 @@
 #![tactic(auto)]
 
 ghost use Rattle.std.specs.Prelude.{◌≡◌};
-ghost use Rattle.refusal.specs.First.{refusal};
+ghost use Rattle.refusal.specs.Checking.{checked};
 ghost use Rattle.simulator.specs.Calls.{judge_refusal, JudgeSays};
-ghost use Rattle.grammar.specs.Grammar.{grammar_refusal};
 ghost use Rattle.builder.specs.declared.Matching.TheVariants.{Whole};
 ghost use Rattle.builder.specs.Image.{built};
-ghost use Rattle.builder.specs.Code.Building.{Planned};
-ghost use Rattle.grammar_judge.specs.Calls.{lent, parts_refusal};
-ghost use Rattle.grammar_judge.specs.Code.Steps.{AnswerReady, JudgeReady, Builds};
+ghost use Rattle.grammar_judge.specs.Calls.{lent, lent_refusal, parts_refusal, JudgesBy};
+ghost use Rattle.grammar_judge.specs.Code.Steps.{JudgeReady, Builds};
 
-use builder::build::{build_checked, room_refusal};
-use builder::planning::cells_of;
+use builder::build::{build_checked, check_room};
+use builder::planning::{cells_of, plan_of};
 use builder::{Matching, Plan};
+use grammar::Grammar;
 use image::format::MAX_CAPTURE;
-use refusal::Refusal;
+use refusal::{Kind, Refusal};
 use simulator::Judgement;
 use simulator::judge::judge_checked;
 
-fn refused(number: u32, place: usize) -> Refusal
-    ensures { result ≡ refusal number place }
-{
-    Refusal { number, place }
-}
-
-// Refusals 7 to 9, or number 0, for a grammar that is not refused: how many cells its machine needs follows from the grammar and the capture's length.
-fn cells_refusal(grammar: &[u8], capture: &[u8], notes: usize, work: usize) -> Refusal
-    requires { (grammar_refusal grammar.now).number ≡ 0 }
-    ensures { result ≡ judge_refusal (built Whole grammar.now) capture.now notes work }
+// Refusals 7 to 9: how many cells a grammar's machine needs follows from the grammar and the capture's length.
+fn check_cells(
+    grammar: Grammar<'_>,
+    capture: &[u8],
+    notes: usize,
+    work: usize,
+) -> Result<(), Refusal>
+    ensures { result ≡ checked (judge_refusal (built Whole grammar.entry.bytes.now) capture.now notes work) }
 {
     let n = capture.len();
     if MAX_CAPTURE < n {
-        return refused(7, n);
+        return Err(Refusal::new(Kind::CaptureLong, n));
     }
     let cells = cells_of(grammar, n);
     if notes < cells {
-        return refused(8, cells);
+        return Err(Refusal::new(Kind::NotesShort, cells));
     }
     if work < cells {
-        return refused(9, cells);
+        return Err(Refusal::new(Kind::WorkShort, cells));
     }
-    refused(0, 0)
+    Ok(())
 }
 
-// Refusals 13 and 7 to 9, or number 0, for a grammar that is not refused.
-pub fn lent_refusal(
-    grammar: &[u8],
-    plan: Plan,
+// Refusals 13 and 7 to 9.
+pub fn check_lent(
+    plan: Plan<'_>,
     capture: &[u8],
     image: usize,
     notes: usize,
     work: usize,
-) -> Refusal
-    requires { Planned grammar.now plan }
-    ensures { result ≡ parts_refusal grammar.now capture.now image notes work }
+) -> Result<(), Refusal>
+    ensures { result ≡ checked (parts_refusal plan.entry.grammar.bytes.now capture.now image notes work) }
 {
-    let refusal = room_refusal(plan.long, image);
-    if refusal.number != 0 {
-        return refusal;
-    }
-    cells_refusal(grammar, capture, notes, work)
+    check_room(plan.long, image)?;
+    check_cells(plan.grammar, capture, notes, work)
 }
 
 // Judging by a good image in the first so many of the lent cells.
@@ -80,19 +72,34 @@ fn judge_lent(
 
 // The image is built, and the capture judged by it: nothing is refused, and nothing checked again.
 pub fn build_and_judge(
-    grammar: &[u8],
-    plan: Plan,
+    plan: Plan<'_>,
     capture: &[u8],
     image: &mut [u8],
     notes: &mut [u32],
     work: &mut [u32],
 ) -> Judgement
-    requires { AnswerReady grammar.now capture.now plan (lent image.old notes.old work.old) }
-    ensures { Builds grammar.now capture.now (lent image.old notes.old work.old)
+    requires { (lent_refusal plan.grammar.bytes.now capture.now (lent image.old notes.old work.old)).number ≡ 0 }
+    ensures { Builds plan.entry.grammar.bytes.now capture.now (lent image.old notes.old work.old)
         (lent image.new notes.new work.new) result }
 {
     let long = plan.long;
-    build_checked(grammar, plan, &mut image[..long], Matching::Whole);
-    let cells = cells_of(grammar, capture.len());
+    build_checked(plan, &mut image[..long], Matching::Whole);
+    let cells = cells_of(plan.grammar, capture.len());
     judge_lent(&image[..long], capture, cells, notes, work)
+}
+
+// Judges a capture by a grammar: all checks of what is lent come before the first byte is written.
+pub fn judge_by_grammar(
+    grammar: Grammar<'_>,
+    capture: &[u8],
+    image: &mut [u8],
+    notes: &mut [u32],
+    work: &mut [u32],
+) -> Result<Judgement, Refusal>
+    ensures { JudgesBy grammar.entry.bytes.now capture.now result (lent image.old notes.old work.old)
+        (lent image.new notes.new work.new) }
+{
+    let plan = plan_of(grammar);
+    check_lent(plan, capture, image.len(), notes.len(), work.len())?;
+    Ok(build_and_judge(plan, capture, image, notes, work))
 }
