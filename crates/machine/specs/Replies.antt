@@ -28,6 +28,11 @@ answer_reply v n c = record { refusal = 0; place = 0; verdict = v; count = n; en
 abbrev pub count_reply : (count : ℕ) → Reply
 count_reply n = answer_reply 0 n no_config
 
+-- by what is told of an answer and of a fault
+unfoldable pub reply_by : {A E : Type 0} → (A → Reply) → (E → Reply) → Result A E → Reply
+reply_by answer fault (Ok a) = answer a
+reply_by answer fault (Err e) = fault e
+
 -- THE CHECK of an image, or of a grammar
 unfoldable pub of_checked : Result Unit Refusal → Reply
 of_checked (Ok _) = count_reply 0

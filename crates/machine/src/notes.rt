@@ -5,14 +5,15 @@ ghost use Rattle.machine.specs.Verdicts.{note_of};
 use crate::Note;
 
 // What a cell says: 0 unseen, 1 open, else 2 more than the number that the note is closed with.
-pub fn note_of(cell: u32) -> Note
-    ensures { result ≡ note_of cell }
-{
-    if cell == 0 {
-        return Note::Unseen;
+impl From<u32> for Note {
+    ghost from_gives = { λ cell note. note ≡ note_of cell };
+
+    #[tactic(auto, unfolding(crate::specs::Verdicts::note_of), using(crate::proofs::RightNotes::closed_note))]
+    fn from(cell: u32) -> Note {
+        match cell {
+            0 => Note::Unseen,
+            1 => Note::Open,
+            _ => Note::Closed(cell - 2),
+        }
     }
-    if cell == 1 {
-        return Note::Open;
-    }
-    Note::Closed(cell - 2)
 }

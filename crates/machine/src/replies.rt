@@ -1,64 +1,93 @@
 // An answer by numbers: a verdict's number, and the replies of refused and answered calls.
 ghost use Rattle.std.specs.Prelude.{◌≡◌};
-ghost use Rattle.machine.specs.Replies.{verdict_number as number_of, refusal_reply as refusal_told, answer_reply as answer_told, count_reply as count_told};
+ghost use Rattle.machine.specs.Replies.{verdict_number, refusal_reply, answer_reply, count_reply, reply_by};
 
 use crate::{Config, Reply, Verdict};
 use refusal::Refusal;
 
-// A verdict's number.
-pub fn verdict_number(verdict: Verdict) -> u32
-    ensures { result ≡ number_of verdict }
-{
-    match verdict {
-        Verdict::Accepted => 1,
-        Verdict::Ended => 2,
-        Verdict::Stuck => 3,
-        Verdict::Looping => 4,
-        Verdict::Halted => 7,
+impl Verdict {
+    // A verdict's number.
+    #[tactic(auto, unfolding(crate::specs::Replies::verdict_number))]
+    pub fn number(self) -> u32
+        ensures { result ≡ verdict_number self }
+    {
+        match self {
+            Verdict::Accepted => 1,
+            Verdict::Ended => 2,
+            Verdict::Stuck => 3,
+            Verdict::Looping => 4,
+            Verdict::Halted => 7,
+        }
     }
 }
 
-// The reply of a refused call.
-pub fn refusal_reply(refusal: Refusal) -> Reply
-    ensures { result ≡ refusal_told refusal }
-{
-    Reply {
-        refusal: refusal.number(),
-        place: refusal.place(),
-        verdict: 0,
-        count: 0,
-        end: Config {
-            state: 0,
-            head: 0,
-            symbol: 0,
-        },
-    }
+// What a call answers, and the reply that tells it.
+pub trait Answer {
+    ghost use Rattle.machine.specs.declared.Reply.{Reply};
+
+    ghost told: { Self → Reply };
+
+    fn reply(self) -> Reply
+        ensures { result ≡ told self };
 }
 
-// The reply of a call that was answered.
-pub fn answer_reply(verdict: u32, count: usize, end: Config) -> Reply
-    ensures { result ≡ answer_told verdict count end }
-{
-    Reply {
-        refusal: 0,
-        place: 0,
-        verdict,
-        count,
-        end,
+// Nothing is told but that the call was not refused.
+impl Answer for () {
+    ghost told = { λ _. count_reply 0 };
+
+    fn reply(self) -> Reply {
+        Reply::default()
     }
 }
 
 // A count alone.
-pub fn count_reply(count: usize) -> Reply
-    ensures { result ≡ count_told count }
-{
-    answer_reply(
-        0,
-        count,
-        Config {
-            state: 0,
-            head: 0,
-            symbol: 0,
-        },
-    )
+impl Answer for usize {
+    ghost told = { λ n. count_reply n };
+
+    fn reply(self) -> Reply {
+        Reply {
+            count: self,
+            ..Reply::default()
+        }
+    }
+}
+
+// A refused call.
+impl Answer for Refusal {
+    ghost told = { λ f. refusal_reply f };
+
+    fn reply(self) -> Reply {
+        Reply {
+            refusal: self.number(),
+            place: self.place(),
+            ..Reply::default()
+        }
+    }
+}
+
+// A call that was answered or failed.
+impl<A: Answer, E: Answer> Answer for Result<A, E> {
+    ghost told = { λ r. reply_by A.told E.told r };
+
+    #[tactic(auto, unfolding(crate::specs::Replies::reply_by))]
+    fn reply(self) -> Reply {
+        match self {
+            Ok(answer) => answer.reply(),
+            Err(fault) => fault.reply(),
+        }
+    }
+}
+
+impl Reply {
+    // The reply of a call that was answered.
+    pub fn answered(verdict: u32, count: usize, end: Config) -> Reply
+        ensures { result ≡ answer_reply verdict count end }
+    {
+        Reply {
+            verdict,
+            count,
+            end,
+            ..Reply::default()
+        }
+    }
 }

@@ -5,27 +5,28 @@ ghost use Rattle.machine.specs.Terminating.{stop_verdict, termination_verdict};
 use crate::{Reason, Termination, Verdict};
 
 // The verdict of a run that a rule stops.
-pub fn stop_verdict(reason: Reason) -> Verdict
-    ensures { result ≡ stop_verdict reason }
-{
-    match reason {
-        Reason::Missing => Verdict::Stuck,
-        Reason::Halting => Verdict::Halted,
+impl From<Reason> for Verdict {
+    ghost from_gives = { λ reason verdict. verdict ≡ stop_verdict reason };
+
+    #[tactic(auto, unfolding(crate::specs::Terminating::stop_verdict))]
+    fn from(reason: Reason) -> Verdict {
+        match reason {
+            Reason::Missing => Verdict::Stuck,
+            Reason::Halting => Verdict::Halted,
+        }
     }
 }
 
 // The verdict of a run by how it terminates.
-pub fn termination_verdict(termination: Termination) -> Verdict
-    ensures { result ≡ termination_verdict termination }
-{
-    match termination {
-        Termination::Over { accepting } => {
-            if accepting {
-                Verdict::Accepted
-            } else {
-                Verdict::Ended
-            }
+impl From<Termination> for Verdict {
+    ghost from_gives = { λ termination verdict. verdict ≡ termination_verdict termination };
+
+    #[tactic(auto, unfolding(crate::specs::Terminating::termination_verdict))]
+    fn from(termination: Termination) -> Verdict {
+        match termination {
+            Termination::Over { accepting: true } => Verdict::Accepted,
+            Termination::Over { accepting: false } => Verdict::Ended,
+            Termination::Stopped(reason) => reason.into(),
         }
-        Termination::Stopped(reason) => stop_verdict(reason),
     }
 }

@@ -32,11 +32,7 @@ pub fn start(sizes: Sizes, finals: u32) -> JudgeState
         },
         registers: Registers {
             mode: Mode::Look,
-            at: Config {
-                state: 0,
-                head: 0,
-                symbol: 0,
-            },
+            at: Config::default(),
             number: 0,
             pushed: true,
             depth: 0,

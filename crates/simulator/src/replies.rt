@@ -1,28 +1,16 @@
-// What the calls `cells` and `judge` answer, by numbers.
+// What the call `judge` answers, by numbers.
 ghost use Rattle.std.specs.Prelude.{◌≡◌};
-ghost use Rattle.simulator.specs.Replies.{of_needs, of_judged};
+ghost use Rattle.machine.specs.Replies.{verdict_number, answer_reply};
 
 use crate::Judgement;
 use machine::Reply;
-use machine::replies::{answer_reply, count_reply, refusal_reply, verdict_number};
-use refusal::Refusal;
+use machine::replies::Answer;
 
-#[tactic(auto, unfolding(crate::specs::Replies::of_needs))]
-pub fn cells_reply(needs: Result<usize, Refusal>) -> Reply
-    ensures { result ≡ of_needs needs }
-{
-    match needs {
-        Ok(count) => count_reply(count),
-        Err(refusal) => refusal_reply(refusal),
-    }
-}
+// The readings are a count.
+impl Answer for Judgement {
+    ghost told = { λ j. answer_reply (verdict_number j.verdict) j.readings j.end };
 
-#[tactic(auto, unfolding(crate::specs::Replies::of_judged))]
-pub fn judge_reply(judged: Result<Judgement, Refusal>) -> Reply
-    ensures { result ≡ of_judged judged }
-{
-    match judged {
-        Ok(j) => answer_reply(verdict_number(j.verdict), j.readings as usize, j.end),
-        Err(refusal) => refusal_reply(refusal),
+    fn reply(self) -> Reply {
+        Reply::answered(self.verdict.number(), self.readings as usize, self.end)
     }
 }
