@@ -1,16 +1,18 @@
 -- Rules put one after another: one rule's stores, and what is put in two parts is put in one. Assumes nothing.
 use mathlib.Core.Path.{◌≡◌, refl, sym, ap, ◌∙◌}
 use mathlib.Core.List.{List, [], ◌∷◌, ◌++◌}
-use Prim.Native.Nat.{ℕ, suc, ◌+◌, ◌-◌, ◌*◌}
+use Prim.Native.Nat.{ℕ, zero, suc, ◌≤◌, ◌+◌, ◌-◌, ◌*◌}
 use native.Mathlib.Nat.{sub-zero}
 use native.Mathlib.Omega.{arith}
+use Rattle.std.specs.Prelude.{Result, Err, IsErrAnd}
+use Rattle.std.proofs.lemmas.Result.{err_from_is_err_and}
 use lib.ListN.{length, set, length-append}
-use Rattle.codec.specs.Bytes.{byte}
+use borrow.Rule.Slice.PartMut.{put_mid}
 use Rattle.grammar.specs.declared.Expression.{Expression}
-use Rattle.grammar.specs.declared.Expression.TheVariants.{Sequence, Choice, Empty}
+use Rattle.grammar.specs.declared.Expression.TheVariants.{Sequence, Choice, Not, Empty, Range}
 use Rattle.syntax.specs.Compile.{rule_bytes, repetition_rules}
 use Rattle.expressions.specs.declared.Rules.{Rules}
-use Rattle.expressions.specs.Code.Building.{rule_put, put_rules, advanced}
+use Rattle.expressions.specs.Code.Building.{rule_put, put_rules, advanced, placed_at}
 
 -- the same rules by the same parts
 pub rules_by :
@@ -18,20 +20,38 @@ pub rules_by :
     ◌≡◌ {A = Rules} (record { bytes = bs; next = n; left = l }) (record { bytes = bs'; next = n'; left = l' })
 rules_by bs bs' n n' l l' p q r = cc
 
--- one rule's four stores
+-- four bytes copied are four stored
+four_stored :
+    (bs : List ℕ) (i k b c d : ℕ) → i + 4 ≤ length bs →
+    put_mid i 4 bs (k ∷ b ∷ c ∷ d ∷ []) ≡ set (set (set (set bs i k) (i + 1) b) (i + 2) c) (i + 3) d
+four_stored [] i k b c d h = absurd (omega (arith, h))
+four_stored (w ∷ []) zero k b c d h = absurd (omega (arith, h))
+four_stored (w ∷ x ∷ []) zero k b c d h = absurd (omega (arith, h))
+four_stored (w ∷ x ∷ y ∷ []) zero k b c d h = absurd (omega (arith, h))
+four_stored (w ∷ x ∷ y ∷ z ∷ bs) zero k b c d h = refl
+four_stored (x ∷ bs) (suc i) k b c d h =
+    let one : suc i + 1 ≡ suc (i + 1) = omega arith in
+    let two : suc i + 2 ≡ suc (i + 2) = omega arith in
+    let three : suc i + 3 ≡ suc (i + 3) = omega arith in
+    rw (one, two, three) (ap (λ (ys : List ℕ). x ∷ ys) (four_stored bs i k b c d (omega arith)))
+
+-- so one rule's bytes are put
 pub one_put :
-    (bs : List ℕ) (n : ℕ) (x : Expression) (k b c : ℕ) → k ∷ b ∷ c ∷ 0 ∷ [] ≡ rule_bytes x →
-    set (set (set (set bs (4 * n) k) (4 * n + 1) b) (4 * n + 2) c) (4 * n + 3) 0 ≡ rule_put bs n x
-unfolding rule_put
-one_put bs n x k b c e =
-    ap (λ (p : List ℕ). set (set (set (set bs (4 * n) (byte p 0)) (4 * n + 1) (byte p 1)) (4 * n + 2) (byte p 2)) (4 * n + 3) (byte p 3)) e
+    (bs : List ℕ) (n k : ℕ) (x : Expression) (four : List ℕ) → four ≡ rule_bytes x → k ≡ 4 → 4 * n + 4 ≤ length bs →
+    put_mid (4 * n) k bs four ≡ rule_put bs n x
+unfolding rule_put rule_bytes
+one_put bs n k (Sequence b c) four e f h = rw (e, f) (four_stored bs (4 * n) 1 b c 0 h)
+one_put bs n k (Choice b c) four e f h = rw (e, f) (four_stored bs (4 * n) 2 b c 0 h)
+one_put bs n k (Not b) four e f h = rw (e, f) (four_stored bs (4 * n) 3 b 0 0 h)
+one_put bs n k Empty four e f h = rw (e, f) (four_stored bs (4 * n) 4 0 0 0 h)
+one_put bs n k (Range b c) four e f h = rw (e, f) (four_stored bs (4 * n) 5 b c 0 h)
 
 -- and the next number after it
 pub one_added :
-    (r : Rules) (bs : List ℕ) (x : Expression) → bs ≡ rule_put r.bytes r.next x →
-    ◌≡◌ {A = Rules} (record { bytes = bs; next = r.next + 1; left = r.left }) (advanced r (x ∷ []) 0)
+    (r s : Rules) (x : Expression) → s ≡ placed_at r r.next x →
+    ◌≡◌ {A = Rules} (record { bytes = s.bytes; next = s.next + 1; left = s.left }) (advanced r (x ∷ []) 0)
 unfolding advanced put_rules
-one_added r bs x e = rules_by _ _ _ _ _ _ e refl (sym (sub-zero r.left))
+one_added r s x e = rw e (rules_by _ _ _ _ _ _ refl refl (sym (sub-zero r.left)))
 
 pub put_append :
     (bs : List ℕ) (n : ℕ) (xs ys : List Expression) → put_rules (put_rules bs n xs) (n + length xs) ys ≡ put_rules bs n (xs ++ ys)
@@ -77,3 +97,9 @@ three_added r s t u i p q w =
 pub fewer_left : (r : Rules) (k : ℕ) → ◌≡◌ {A = Rules} (record { bytes = r.bytes; next = r.next; left = r.left - k }) (advanced r [] k)
 unfolding advanced put_rules
 fewer_left r k = rules_by _ _ _ _ _ _ refl (omega arith) refl
+
+-- what a `?` hands on
+pub handed_on : {T E : Type 0} (r : Result T E) (e : E) → IsErrAnd r (λ y. y ≡ e) → r ≡ Err e
+handed_on r e h =
+    let p = err_from_is_err_and r h in
+    p.1 ∙ ap Err p.2

@@ -2,42 +2,49 @@
 use mathlib.Core.Path.{◌≡◌, refl, sym, ap, subst, ◌∙◌}
 use mathlib.Core.Bool.{true, false}
 use mathlib.Core.List.{List, [], ◌∷◌}
-use Prim.Native.Nat.{ℕ, zero, suc, ◌+◌, ◌-◌, ◌<◌, ◌≤◌}
+use Prim.Native.Nat.{ℕ, ◌+◌, ◌<◌, ◌≤◌}
 use native.Mathlib.Omega.{arith}
 use Rattle.grammar.specs.Grammar.{max_rules}
 use Rattle.grammar.specs.declared.Expression.{Expression}
 use Rattle.syntax.specs.declared.Node.TheVariants.{Operator}
 use Rattle.syntax.specs.Tokens.{Token}
-use Rattle.syntax.specs.Trees.{Tree, sequence, choice, prefixes, Derives}
+use Rattle.syntax.specs.Trees.{Tree, sequence, choice, Derives}
 use Rattle.syntax.specs.Compile.{own_rules, own_number, owed}
 use Rattle.syntax.specs.Code.Heads.{heads}
-use Rattle.scanner.specs.Code.Scanning.{tokens_at}
+use Rattle.scanner.specs.Code.Scanning.{Peeks, tokens_at}
 use Rattle.expressions.specs.declared.Rules.{Rules}
+use Rattle.expressions.specs.declared.Level as Code
+use Rattle.expressions.specs.declared.Level.TheVariants.{Sequences, Choices}
 use Rattle.expressions.specs.declared.lookahead.Role.{Role}
 use Rattle.expressions.specs.declared.lookahead.Role.TheVariants as Roles
-use Rattle.expressions.specs.declared.lookahead.Ahead.{Ahead}
-use Rattle.expressions.specs.Code.Lookahead.{Looks, starts, parts_choice}
+use Rattle.scanner.specs.declared.Lexeme.{Lexeme}
+use Rattle.expressions.specs.Code.Lookahead.{role, starts, parts_choice}
 use Rattle.expressions.specs.Code.Building.{advanced}
-use Rattle.expressions.specs.Code.Operators.{Begun, Part, part, over, placed_rules, placed_number, begun_of}
-use Rattle.expressions.specs.Code.Levels.{Joined, level_of, follows, rest_from, pair, by_sign, slash_sign, Room, Stops, LevelRead}
+use Rattle.expressions.specs.Code.Operators.{Begun, Part, part, placed_rules, placed_number, begun_of}
+use Rattle.expressions.specs.Code.Levels.{level_of, inner_of, follows, rest_from, pair, by_sign, slash_sign, Room, Stops, LevelRead}
 use Rattle.expressions.proofs.Lookings.{clash, role_there, role_tells, none_there}
 use Rattle.expressions.proofs.Placing.{Joins, sequence_joins, choice_joins}
 use Rattle.expressions.proofs.Deriving.{Begins, AfterSlash, AfterPart, Parted, choices_parted, parts_parted}
 use Rattle.expressions.proofs.Descending.{begun_false, begun_true, begun_spent, pair_spent, last_room, first_over, first_alone, none_left, rest_over, both_fit}
 use Rattle.expressions.proofs.Leaves.{nothing_spent}
 
+-- how high a level is: a choice begins with a sequence
+abbrev pub rank : Code.Level → ℕ
+rank Sequences = 1
+rank Choices = 2
+
 -- WHAT A JOINING LEVEL IS: its trees, how tokens go on from one part to the next, and that the code's tests tell it
-pub record Joining (text : List ℕ) (n : ℕ) : Type 1 where
+pub record Joining (text : List ℕ) (n : Code.Level) : Type 1 where
   pub join : Tree → Tree → Tree
   pub joins : Joins (heads text) join (pair n)
   pub between : List Token → List Token → Type 0
   pub parted :
       (d : ℕ) (ts : List Token) (e : Tree) (us : List Token) → Derives (level_of n) d ts e us → Stops (level_of n) us →
-      Parted (level_of (n - 1)) (level_of n) between join d ts e us
+      Parted (inner_of n) (level_of n) between join d ts e us
   pub one_rest : (m a b : List Token) → between m a → between m b → a ≡ b
   pub more :
-      (x : Part) (a : Ahead) → Looks text x.at a → follows n a.role ≡ true → between (tokens_at text x.at) (tokens_at text (rest_from n x.at a.next))
-  pub no_more : (x : Part) (a : Ahead) → Looks text x.at a → follows n a.role ≡ false → (rest : List Token) → between (tokens_at text x.at) rest → ⊥
+      (x : Part) (a : Lexeme) → Peeks text x.at a → follows n (role a.token) ≡ true → between (tokens_at text x.at) (tokens_at text (rest_from n x.at a.next))
+  pub no_more : (x : Part) (a : Lexeme) → Peeks text x.at a → follows n (role a.token) ≡ false → (rest : List Token) → between (tokens_at text x.at) rest → ⊥
 
 same_slash : (m a b : List Token) → AfterSlash m a → AfterSlash m b → a ≡ b
 same_slash m a b p q = cc
@@ -45,11 +52,11 @@ same_slash m a b p q = cc
 same_part : (m a b : List Token) → AfterPart m a → AfterPart m b → a ≡ b
 same_part m a b p q = sym p.0 ∙ q.0
 
-module _ (text : List ℕ) (x : Part) (a : Ahead) (l : Looks text x.at a) where
-  slash_follows : parts_choice a.role ≡ true → AfterSlash (tokens_at text x.at) (tokens_at text a.next)
-  slash_follows f = go a.role refl f
+module _ (text : List ℕ) (x : Part) (a : Lexeme) (l : Peeks text x.at a) where
+  slash_follows : parts_choice (role a.token) ≡ true → AfterSlash (tokens_at text x.at) (tokens_at text a.next)
+  slash_follows f = go (role a.token) refl f
     where
-      go : (r : Role) → a.role ≡ r → parts_choice r ≡ true → AfterSlash (tokens_at text x.at) (tokens_at text a.next)
+      go : (r : Role) → role a.token ≡ r → parts_choice r ≡ true → AfterSlash (tokens_at text x.at) (tokens_at text a.next)
       go (Roles.Name k) e g = clash (cc)
       go (Roles.Range b) e g = clash (cc)
       go (Roles.Leaf z) e g = clash (cc)
@@ -59,24 +66,23 @@ module _ (text : List ℕ) (x : Part) (a : Ahead) (l : Looks text x.at a) where
       go Roles.Slash e g = role_there text x.at a l Roles.Slash e (λ o. clash (cc))
       go Roles.Other e g = clash (cc)
 
-  no_slash_follows : parts_choice a.role ≡ false → (rest : List Token) → AfterSlash (tokens_at text x.at) rest → ⊥
+  no_slash_follows : parts_choice (role a.token) ≡ false → (rest : List Token) → AfterSlash (tokens_at text x.at) rest → ⊥
   unfolding by_sign slash_sign
   no_slash_follows f rest g = clash (cc (role_tells text x.at a l _ _ g).slash)
 
-  part_follows : starts a.role ≡ true → AfterPart (tokens_at text x.at) (tokens_at text x.at)
+  part_follows : starts (role a.token) ≡ true → AfterPart (tokens_at text x.at) (tokens_at text x.at)
   part_follows f = (refl, go (tokens_at text x.at) refl)
     where
       go : (ts : List Token) → tokens_at text x.at ≡ ts → Begins (tokens_at text x.at)
       go [] g = clash (cc (ap starts (none_there text x.at a l g)))
       go (t ∷ ts) g = record { token = t; later = ts; is = g; starts = (role_tells text x.at a l t ts g).start ∙ f }
 
-  no_part_follows : starts a.role ≡ false → (rest : List Token) → AfterPart (tokens_at text x.at) rest → ⊥
+  no_part_follows : starts (role a.token) ≡ false → (rest : List Token) → AfterPart (tokens_at text x.at) rest → ⊥
   no_part_follows f rest g =
       let b = g.1 in
       clash (cc ((role_tells text x.at a l b.token b.later b.is).start, b.starts))
 
-sequencing : (text : List ℕ) → Joining text 1
-unfolding level_of follows rest_from pair
+sequencing : (text : List ℕ) → Joining text Sequences
 sequencing text =
     record {
       join = sequence;
@@ -88,8 +94,7 @@ sequencing text =
       no_more = λ x a l e rest f. no_part_follows text x a l e rest f;
     }
 
-choosing : (text : List ℕ) → Joining text 2
-unfolding level_of follows rest_from pair
+choosing : (text : List ℕ) → Joining text Choices
 choosing text =
     record {
       join = choice;
@@ -101,61 +106,53 @@ choosing text =
       no_more = λ x a l e rest f. no_slash_follows text x a l e rest f;
     }
 
-pub joining : (text : List ℕ) (n : ℕ) → Joined n → Joining text n
-joining text zero j = absurd (omega (arith, j.0))
-joining text (suc zero) j = sequencing text
-joining text (suc (suc zero)) j = choosing text
-joining text (suc (suc (suc n))) j = absurd (omega (arith, j.1))
-
-pub part_level :
-    (text : List ℕ) (n at d : ℕ) (before : Rules) (r : Part) → n ≡ 1 → LevelRead prefixes text at d before r → LevelRead (level_of (n - 1)) text at d before r
-unfolding level_of
-part_level text n at d before r e read = subst (λ (m : ℕ). LevelRead (level_of (m - 1)) text at d before r) (sym e) read
+pub joining : (text : List ℕ) (n : Code.Level) → Joining text n
+joining text Sequences = sequencing text
+joining text Choices = choosing text
 
 -- WAY BY WAY
-module _ (text : List ℕ) (n : ℕ) (J : Joining text n) (at d : ℕ) (before : Rules) (first : Part) (read : LevelRead (level_of (n - 1)) text at d before first) where
+module _ (text : List ℕ) (n : Code.Level) (J : Joining text n) (at d : ℕ) (before : Rules) (first : Part) (read : LevelRead (inner_of n) text at d before first) where
   pub joined_over : first.fits ≡ false → LevelRead (level_of n) text at d before first
   joined_over f =
       record {
-        right = first_over text (level_of (n - 1)) (level_of n) J.between J.join (pair n) J.joins d (tokens_at text at) (J.parted d (tokens_at text at)) before first read.right f;
+        right = first_over text (inner_of n) (level_of n) J.between J.join (pair n) J.joins d (tokens_at text at) (J.parted d (tokens_at text at)) before first read.right f;
         spent = nothing_spent before 0 first f;
       }
 
-  module _ (fits : first.fits ≡ true) (a : Ahead) (p : Looks text first.at a) where
-    pub joined_alone : follows n a.role ≡ false → LevelRead (level_of n) text at d before first
+  module _ (fits : first.fits ≡ true) (a : Lexeme) (p : Peeks text first.at a) where
+    pub joined_alone : follows n (role a.token) ≡ false → LevelRead (level_of n) text at d before first
     joined_alone e =
         record {
-          right = first_alone text (level_of (n - 1)) (level_of n) J.between J.join (pair n) J.joins d (tokens_at text at) (J.parted d (tokens_at text at))
+          right = first_alone text (inner_of n) (level_of n) J.between J.join (pair n) J.joins d (tokens_at text at) (J.parted d (tokens_at text at))
               before first read.right fits (J.no_more first a p e);
           spent = read.spent;
         }
 
-    module _ (e : follows n a.role ≡ true) (h : Begun) (begins : h ≡ begun_of first) where
-      pub joined_none : h.fits ≡ false → (r : Part) → r ≡ over h.rules at → LevelRead (level_of n) text at d before r
-      joined_none f r is =
-          let gone : r.fits ≡ false = ap (λ (x : Part). x.fits) is in
+    module _ (e : follows n (role a.token) ≡ true) (h : Begun) (begins : h ≡ begun_of first) where
+      pub joined_none : h.fits ≡ false → (r : Part) → r.fits ≡ false → LevelRead (level_of n) text at d before r
+      joined_none f r gone =
           record {
             right =
-                none_left text (level_of (n - 1)) (level_of n) J.between J.join (pair n) J.joins d (tokens_at text at) (J.parted d (tokens_at text at)) before first read.right fits
+                none_left text (inner_of n) (level_of n) J.between J.join (pair n) J.joins d (tokens_at text at) (J.parted d (tokens_at text at)) before first read.right fits
                 (tokens_at text (rest_from n first.at a.next)) (J.more first a p e) J.one_rest r (begun_false first h begins f) gone;
             spent = nothing_spent before 0 r gone;
           }
 
 -- THE REST IS DUE: the first part fits, another one follows, and there is a rule for the two
-pub record Due (text : List ℕ) (n at d : ℕ) (before : Rules) : Type 1 where
+pub record Due (text : List ℕ) (n : Code.Level) (at d : ℕ) (before : Rules) : Type 1 where
   pub joining : Joining text n
   pub first : Part
-  pub read : LevelRead (level_of (n - 1)) text at d before first
+  pub read : LevelRead (inner_of n) text at d before first
   pub fits : first.fits ≡ true
-  pub ahead : Ahead
-  pub looks : Looks text first.at ahead
-  pub goes_on : follows n ahead.role ≡ true
+  pub ahead : Lexeme
+  pub looks : Peeks text first.at ahead
+  pub goes_on : follows n (role ahead.token) ≡ true
   pub begun : Begun
   pub begins : begun ≡ begun_of first
   pub room : Room text before
   pub some : begun.fits ≡ true
 
-module _ (text : List ℕ) (n at d : ℕ) (before : Rules) (due : Due text n at d before) where
+module _ (text : List ℕ) (n : Code.Level) (at d : ℕ) (before : Rules) (due : Due text n at d before) where
   abbrev J : Joining text n
   J = due.joining
 
@@ -182,7 +179,7 @@ module _ (text : List ℕ) (n at d : ℕ) (before : Rules) (due : Due text n at 
     joined_rest_over f =
         record {
           right =
-              rest_over text (level_of (n - 1)) (level_of n) J.between J.join (pair n) J.joins d (tokens_at text at) (J.parted d (tokens_at text at)) before x due.read.right due.fits
+              rest_over text (inner_of n) (level_of n) J.between J.join (pair n) J.joins d (tokens_at text at) (J.parted d (tokens_at text at)) before x due.read.right due.fits
               (tokens_at text rest_at) (J.more x due.ahead due.looks due.goes_on) J.one_rest due.room h (begun_true x h due.begins due.some) rest later.right f;
           spent = nothing_spent before 0 rest f;
         }
@@ -201,7 +198,7 @@ module _ (text : List ℕ) (n at d : ℕ) (before : Rules) (due : Due text n at 
           (subst (λ (y : Expression). LevelRead (level_of n) text at d before (part rest.at (Operator y) (placed_rules rest.node rest.rules))) (sym is)
           (record {
             right =
-                both_fit text (level_of (n - 1)) (level_of n) J.between J.join (pair n) J.joins d (tokens_at text at) (J.parted d (tokens_at text at))
+                both_fit text (inner_of n) (level_of n) J.between J.join (pair n) J.joins d (tokens_at text at) (J.parted d (tokens_at text at))
                 before x due.read.right due.fits (tokens_at text rest_at) (J.more x due.ahead due.looks due.goes_on) J.one_rest due.room h
                 (begun_true x h due.begins due.some) rest later.right both;
             spent = λ f. pair_spent before x rest h rest.at (pair n h.number (placed_number rest.node rest.rules)) (due.read.spent due.fits)

@@ -2,7 +2,7 @@
 use mathlib.Core.Path.{◌≡◌, refl, sym, ap, subst, ◌∙◌}
 use mathlib.Core.Bool.{Bool, true, false, cond}
 use mathlib.Core.List.{List, [], ◌∷◌}
-use Prim.Native.Nat.{ℕ, suc, ◌+◌, ◌-◌, ◌≤◌}
+use Prim.Native.Nat.{ℕ, suc, ◌+◌, ◌-◌, ◌<◌, ◌≤◌}
 use native.Mathlib.Nat.{pos_of_ne-zero}
 use native.Mathlib.Omega.{arith}
 use lib.Dec.{eqb}
@@ -20,14 +20,17 @@ use Rattle.syntax.specs.Needs.{need}
 use Rattle.syntax.specs.Compile.{index_of, owed, Compiled, compile_leaf, compile}
 use Rattle.syntax.specs.Code.Heads.{heads}
 use Rattle.expressions.specs.declared.Rules.{Rules}
+use Rattle.expressions.specs.declared.Part as Code
+use Rattle.expressions.specs.declared.Unfit.{Unfit}
+use Rattle.std.specs.Prelude.{Result, Err}
 use Rattle.expressions.specs.Code.Building.{advanced}
-use Rattle.expressions.specs.Code.Operators.{Part, over, part}
+use Rattle.expressions.specs.Code.Operators.{Part, over, part, read_of, part_of}
 use Rattle.scanner.specs.Code.Scanning.{tokens_at}
 use Rattle.expressions.specs.Code.Levels.{Spent, leaf_made, name_made, ReadsTo, PartRight, LevelRight, Passes}
 use Rattle.expressions.proofs.Emitting.{advanced_none, advanced_next, advanced_left}
 use Rattle.expressions.proofs.Lookings.{clash}
 use Rattle.expressions.proofs.Deriving.{closing_stops}
-use Rattle.expressions.proofs.Descending.{not_fit, does_fit}
+use Rattle.expressions.proofs.Descending.{not_fit, does_fit, unfit}
 
 -- ONE RULE: whatever tree needs one rule and is compiled to it
 pub leaf_none : (x : Expression) (r : Rules) (at : ℕ) → r.left ≡ 0 → over r at ≡ leaf_made x r at
@@ -37,6 +40,17 @@ leaf_none x r at e = simp (eq-eqb r.left 0 e)
 pub leaf_some : (x : Expression) (r less : Rules) (at : ℕ) → (r.left ≡ 0 → ⊥) → less ≡ advanced r [] 1 → part at (Operator x) less ≡ leaf_made x r at
 unfolding leaf_made
 leaf_some x r less at some e = simp (ne_eqb r.left 0 some) (ap (λ (y : Rules). part at (Operator x) y) e)
+
+-- as the code answers it
+pub leaf_over :
+    (x : Expression) (r s : Rules) (at : ℕ) (p : Result Code.Part Unfit) (e : Unfit) → p ≡ Err e → e.at ≡ at → r.left < 1 → s ≡ r →
+    part_of p s ≡ leaf_made x r at
+leaf_over x r s at p e is there h same = rw (is, same) (ap (over r) there ∙ leaf_none x r at (omega arith))
+
+pub leaf_fits :
+    (x : Expression) (r less : Rules) (at : ℕ) (p : Code.Part) → p ≡ record { at = at; node = Operator x } → 1 ≤ r.left → less ≡ advanced r [] 1 →
+    read_of p less ≡ leaf_made x r at
+leaf_fits x r less at p is h took = ap (λ (q : Code.Part). read_of q less) is ∙ leaf_some x r less at (λ z. omega arith) took
 
 leaf_right :
     (text : List ℕ) (before : Rules) (e : Tree) (us : List Token) (x : Expression) (at : ℕ) → need e ≡ 1 →
@@ -142,6 +156,24 @@ module _ (text : List ℕ) (d : ℕ) (before : Rules) (next : ℕ) where
                 let q = p.reads le in
                 record { node = q.node; rules = q.rules; rest = passes (sign Closing) ws q.rest };
           }
+
+  pub brackets_over :
+      (inner : Part) → (d ≡ 0 → ⊥) → LevelRight choices text next (d - 1) before inner → inner.fits ≡ false → FirstRight text (sign Opening) next d before inner
+  brackets_over inner some read gone e us x = go x refl refl
+    where
+      go : {c : ℕ} {ts : List Token} {g : Tree} {ws : List Token} → Derives operand c ts g ws → c ≡ d → ts ≡ sign Opening ∷ tokens_at text next →
+          PartRight text before g ws inner
+      go a_name k f = clash (cc)
+      go a_leaf k f = clash (cc)
+      go a_range k f = clash (cc)
+      go (brackets {d = c} {ts = vs} {us = ws} {e = g} y) k f =
+          let less : c ≡ d - 1 = omega arith in
+          let rest : vs ≡ tokens_at text next = cc in
+          not_fit text before g ws inner gone
+          (unfit text before g (sign Closing ∷ ws) inner
+          (read g (sign Closing ∷ ws)
+          (subst (λ (n : ℕ). Derives choices n (tokens_at text next) g (sign Closing ∷ ws)) less
+          (subst (λ (zs : List Token). Derives choices c zs g (sign Closing ∷ ws)) rest y)) (closing_stops ws)) gone)
 
 -- a line's number is at most their count
 pub index_below : (n : List ℕ) (hs : List (List ℕ)) → index_of n hs ≤ length hs

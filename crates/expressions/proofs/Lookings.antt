@@ -6,8 +6,6 @@ use mathlib.Core.Logic.{◌⊎◌, inl, inr, ⊎_elim}
 use Prim.Native.Nat.{ℕ}
 use native.Mathlib.Omega.{arith}
 use Rattle.codec.specs.Bytes.{section}
-use Rattle.syntax.specs.declared.Ends.{Ends}
-use Rattle.syntax.specs.declared.Leaf.{Leaf}
 use Rattle.syntax.specs.declared.Prefix.{Prefix}
 use Rattle.syntax.specs.declared.Suffix.{Suffix}
 use Rattle.syntax.specs.declared.Sign.TheVariants.{Operand, Before, After, Slash, Opening, Closing, Equals, Semicolon}
@@ -15,30 +13,16 @@ use Rattle.syntax.specs.declared.Token as Code
 use Rattle.syntax.specs.declared.Token.TheVariants.{Name, Sign, Range, Unknown}
 use Rattle.syntax.specs.Tokens.{Token, name, sign, range, unknown}
 use Rattle.scanner.specs.declared.Lexeme.{Lexeme}
-use Rattle.scanner.specs.declared.Scanned.{Scanned}
-use Rattle.scanner.specs.declared.Scanned.TheVariants.{Found, End}
-use Rattle.scanner.specs.Code.Scanning.{token_of, Scans, Peeks, tokens_at}
+use Rattle.scanner.specs.Code.Scanning.{token_of, Peeks, tokens_at}
 use Rattle.scanner.proofs.Searching.{tokens_next, tokens_end}
 use Rattle.expressions.specs.declared.lookahead.Role.{Role}
 use Rattle.expressions.specs.declared.lookahead.Role.TheVariants as Roles
-use Rattle.expressions.specs.declared.lookahead.Ahead.{Ahead}
-use Rattle.expressions.specs.Code.Lookahead.{role, Looks, starts, parts_choice}
+use Rattle.expressions.specs.Code.Lookahead.{role, starts, parts_choice}
 use Rattle.expressions.specs.Code.Levels.{suffix_sign, start_sign, slash_sign, by_sign, is_suffix, is_start, is_slash}
 
 -- two constructors that are equal
 pub clash : {A : Type 0} → ◌≡◌ {A = ℕ} 0 1 → A
 clash e = absurd (omega arith)
-
--- WHAT IS SCANNED is looked at
-pub found_looks :
-    (text : List ℕ) (at : ℕ) (s : Scanned) (l : Lexeme) (r : Role) → s ≡ Found l → Scans text at s → r ≡ role l.token →
-    Looks text at (record { role = r; offset = l.offset; next = l.next })
-found_looks text at s l r e h is =
-    record { lexeme = l; peeks = inl (subst (λ (x : Scanned). Scans text at x) e h); is = cc }
-
-pub ended_looks : (text : List ℕ) (at : ℕ) (s : Scanned) → s ≡ End → Scans text at s → Looks text at (record { role = Roles.Other; offset = at; next = at })
-ended_looks text at s e h =
-    record { lexeme = record { token = Unknown; offset = at; next = at }; peeks = inr (subst (λ (x : Scanned). Scans text at x) e h, refl); is = refl }
 
 -- THE TOKENS FROM A PLACE ON, by the lexeme that is there
 peeked :
@@ -102,89 +86,75 @@ tells text o (Range r) = record { suffix = refl; start = refl; slash = refl }
 tells text o Unknown = record { suffix = refl; start = refl; slash = refl }
 
 -- WHAT IS LOOKED AT
-module _ (text : List ℕ) (at : ℕ) (a : Ahead) (l : Looks text at a) where
-  abbrev at_lexeme : Lexeme
-  at_lexeme = l.lexeme
-
+module _ (text : List ℕ) (at : ℕ) (a : Lexeme) (l : Peeks text at a) where
   -- a token that is something to an expression is the first one
-  pub role_there : (r : Role) → a.role ≡ r → (r ≡ Roles.Other → ⊥) → tokens_at text at ≡ role_token text a.offset r ∷ tokens_at text a.next
-  role_there r e some =
-      subst (λ (b : Ahead). b.role ≡ r → tokens_at text at ≡ role_token text b.offset r ∷ tokens_at text b.next) (sym l.is) there e
-    where
-      there : role at_lexeme.token ≡ r → tokens_at text at ≡ role_token text at_lexeme.offset r ∷ tokens_at text at_lexeme.next
-      there f =
-          ⊎_elim
-          (λ g. g ∙ ap (λ (t : Token). t ∷ tokens_at text at_lexeme.next)
-          (role_is text at_lexeme.offset at_lexeme.token (λ o. some (sym f ∙ o)) ∙ ap (λ (q : Role). role_token text at_lexeme.offset q) f))
-          (λ n. absurd (some (sym f ∙ ap role n.1)))
-          (peeked text at at_lexeme l.peeks)
+  pub role_there : (r : Role) → role a.token ≡ r → (r ≡ Roles.Other → ⊥) → tokens_at text at ≡ role_token text a.offset r ∷ tokens_at text a.next
+  role_there r f some =
+      ⊎_elim
+      (λ g. g ∙ ap (λ (t : Token). t ∷ tokens_at text a.next)
+      (role_is text a.offset a.token (λ o. some (sym f ∙ o)) ∙ ap (λ (q : Role). role_token text a.offset q) f))
+      (λ n. absurd (some (sym f ∙ ap role n.1)))
+      (peeked text at a l)
 
   -- what it tells of the first token, if there is one
-  pub role_tells : (t : Token) (us : List Token) → tokens_at text at ≡ t ∷ us → Told a.role t
+  pub role_tells : (t : Token) (us : List Token) → tokens_at text at ≡ t ∷ us → Told (role a.token) t
   role_tells t us f =
-      subst (λ (b : Ahead). Told b.role t) (sym l.is)
-      (⊎_elim
-      (λ g. let same : token_of text at_lexeme.offset at_lexeme.token ≡ t = cc in
-      subst (λ (u : Token). Told (role at_lexeme.token) u) same (tells text at_lexeme.offset at_lexeme.token))
+      ⊎_elim
+      (λ g. let same : token_of text a.offset a.token ≡ t = cc in
+      subst (λ (u : Token). Told (role a.token) u) same (tells text a.offset a.token))
       (λ n. clash (cc n.0))
-      (peeked text at at_lexeme l.peeks))
+      (peeked text at a l)
 
-  pub none_there : tokens_at text at ≡ [] → a.role ≡ Roles.Other
-  none_there f =
-      ap (λ (b : Ahead). b.role) l.is ∙ ⊎_elim (λ g. clash (cc)) (λ n. ap role n.1) (peeked text at at_lexeme l.peeks)
+  pub none_there : tokens_at text at ≡ [] → role a.token ≡ Roles.Other
+  none_there f = ⊎_elim (λ g. clash (cc)) (λ n. ap role n.1) (peeked text at a l)
 
   -- the place after it
   pub passes : (t : Token) (us : List Token) → tokens_at text at ≡ t ∷ us → tokens_at text a.next ≡ us
-  passes t us f =
-      subst (λ (b : Ahead). tokens_at text b.next ≡ us) (sym l.is)
-      (⊎_elim (λ g. cc) (λ n. clash (cc n.0)) (peeked text at at_lexeme l.peeks))
+  passes t us f = ⊎_elim (λ g. cc) (λ n. clash (cc n.0)) (peeked text at a l)
 
--- NONE OF SOME ROLES: the arms that are left name all others
+-- NOT SOME ROLE
 abbrev pub NoSuffix : Role → Type 0
-NoSuffix r =
-    ((k : ℕ) × (r ≡ Roles.Name k)) ⊎
-    (((e : Ends) × (r ≡ Roles.Range e)) ⊎
-    (((z : Leaf) × (r ≡ Roles.Leaf z)) ⊎
-    ((r ≡ Roles.Opening) ⊎ (((p : Prefix) × (r ≡ Roles.Prefix p)) ⊎ ((r ≡ Roles.Slash) ⊎ (r ≡ Roles.Other))))))
+NoSuffix r = (s : Suffix) → r ≡ Roles.Suffix s → ⊥
 
 abbrev pub NoPrefix : Role → Type 0
-NoPrefix r =
-    ((k : ℕ) × (r ≡ Roles.Name k)) ⊎
-    (((e : Ends) × (r ≡ Roles.Range e)) ⊎
-    (((z : Leaf) × (r ≡ Roles.Leaf z)) ⊎
-    ((r ≡ Roles.Opening) ⊎ (((s : Suffix) × (r ≡ Roles.Suffix s)) ⊎ ((r ≡ Roles.Slash) ⊎ (r ≡ Roles.Other))))))
+NoPrefix r = (p : Prefix) → r ≡ Roles.Prefix p → ⊥
 
 no_suffix_role : (r : Role) → NoSuffix r → suffix_role r ≡ false
-no_suffix_role r (inl (k, e)) = ap suffix_role e
-no_suffix_role r (inr (inl (x, e))) = ap suffix_role e
-no_suffix_role r (inr (inr (inl (z, e)))) = ap suffix_role e
-no_suffix_role r (inr (inr (inr (inl e)))) = ap suffix_role e
-no_suffix_role r (inr (inr (inr (inr (inl (p, e)))))) = ap suffix_role e
-no_suffix_role r (inr (inr (inr (inr (inr (inl e)))))) = ap suffix_role e
-no_suffix_role r (inr (inr (inr (inr (inr (inr e)))))) = ap suffix_role e
+no_suffix_role (Roles.Name k) h = refl
+no_suffix_role (Roles.Range b) h = refl
+no_suffix_role (Roles.Leaf z) h = refl
+no_suffix_role Roles.Opening h = refl
+no_suffix_role (Roles.Prefix p) h = refl
+no_suffix_role (Roles.Suffix s) h = absurd (h s refl)
+no_suffix_role Roles.Slash h = refl
+no_suffix_role Roles.Other h = refl
 
-module _ (text : List ℕ) (at : ℕ) (a : Ahead) (l : Looks text at a) where
-  pub suffix_here : (s : Suffix) → a.role ≡ Roles.Suffix s → tokens_at text at ≡ sign (After s) ∷ tokens_at text a.next
+module _ (text : List ℕ) (at : ℕ) (a : Lexeme) (l : Peeks text at a) where
+  pub suffix_here : (s : Suffix) → role a.token ≡ Roles.Suffix s → tokens_at text at ≡ sign (After s) ∷ tokens_at text a.next
   suffix_here s e = role_there text at a l (Roles.Suffix s) e (λ o. clash (cc))
 
-  pub prefix_here : (p : Prefix) → a.role ≡ Roles.Prefix p → tokens_at text at ≡ sign (Before p) ∷ tokens_at text a.next
+  pub prefix_here : (p : Prefix) → role a.token ≡ Roles.Prefix p → tokens_at text at ≡ sign (Before p) ∷ tokens_at text a.next
   prefix_here p e = role_there text at a l (Roles.Prefix p) e (λ o. clash (cc))
 
-  pub suffix_not_here : NoSuffix a.role → (t : Token) (us : List Token) → tokens_at text at ≡ t ∷ us → is_suffix t ≡ false
-  suffix_not_here h t us f = (role_tells text at a l t us f).suffix ∙ no_suffix_role a.role h
+  pub suffix_not_here : NoSuffix (role a.token) → (t : Token) (us : List Token) → tokens_at text at ≡ t ∷ us → is_suffix t ≡ false
+  suffix_not_here h t us f = (role_tells text at a l t us f).suffix ∙ no_suffix_role (role a.token) h
 
-  pub prefix_not_here : NoPrefix a.role → (q : Prefix) (us : List Token) → tokens_at text at ≡ sign (Before q) ∷ us → ⊥
+  pub prefix_not_here : NoPrefix (role a.token) → (q : Prefix) (us : List Token) → tokens_at text at ≡ sign (Before q) ∷ us → ⊥
   unfolding by_sign start_sign
-  prefix_not_here h q us f = go h
+  prefix_not_here h q us f = go (role a.token) refl
     where
-      first : (r : Role) → a.role ≡ r → (r ≡ Roles.Other → ⊥) → role_token text a.offset r ≡ sign (Before q)
+      first : (r : Role) → role a.token ≡ r → (r ≡ Roles.Other → ⊥) → role_token text a.offset r ≡ sign (Before q)
       first r e some = let g = role_there text at a l r e some in cc
 
-      go : NoPrefix a.role → ⊥
-      go (inl (k, e)) = clash (cc (first _ e (λ o. clash (cc))))
-      go (inr (inl (x, e))) = clash (cc (first _ e (λ o. clash (cc))))
-      go (inr (inr (inl (z, e)))) = clash (cc (first _ e (λ o. clash (cc))))
-      go (inr (inr (inr (inl e)))) = clash (cc (first _ e (λ o. clash (cc))))
-      go (inr (inr (inr (inr (inl (s, e)))))) = clash (cc (first _ e (λ o. clash (cc))))
-      go (inr (inr (inr (inr (inr (inl e)))))) = clash (cc (first _ e (λ o. clash (cc))))
-      go (inr (inr (inr (inr (inr (inr e)))))) = clash (cc ((role_tells text at a l _ us f).start, ap starts e))
+      unstarted : (r : Role) → role a.token ≡ r → starts r ≡ false → ⊥
+      unstarted r e g = clash (cc ((role_tells text at a l _ us f).start, ap starts e))
+
+      go : (r : Role) → role a.token ≡ r → ⊥
+      go (Roles.Name k) e = clash (cc (first _ e (λ o. clash (cc))))
+      go (Roles.Range b) e = clash (cc (first _ e (λ o. clash (cc))))
+      go (Roles.Leaf z) e = clash (cc (first _ e (λ o. clash (cc))))
+      go Roles.Opening e = clash (cc (first _ e (λ o. clash (cc))))
+      go (Roles.Prefix p) e = h p e
+      go (Roles.Suffix s) e = unstarted _ e refl
+      go Roles.Slash e = unstarted _ e refl
+      go Roles.Other e = unstarted _ e refl

@@ -1,6 +1,6 @@
 -- Operators over an expression that was read: the room that each needs, and what the code makes is what the definitions say. Assumes nothing.
 use mathlib.Core.Path.{◌≡◌, refl, ap, ◌∙◌}
-use mathlib.Core.Bool.{true, false}
+use mathlib.Core.Bool.{true}
 use mathlib.Core.List.{[], ◌∷◌}
 use Prim.Native.Nat.{ℕ, suc, ◌+◌, ◌≤◌, ◌<◌}
 use native.Mathlib.Omega.{arith}
@@ -17,8 +17,11 @@ use Rattle.syntax.specs.Needs.{prefix_need, suffix_need}
 use Rattle.syntax.specs.Compile.{own_rules, own_number, owed}
 use Rattle.syntax.proofs.Counting.{own_counted}
 use Rattle.expressions.specs.declared.Rules.{Rules}
+use Rattle.expressions.specs.declared.Part as Code
+use Rattle.expressions.specs.declared.Unfit.{Unfit}
+use Rattle.std.specs.Prelude.{Result, Err}
 use Rattle.expressions.specs.Code.Building.{advanced}
-use Rattle.expressions.specs.Code.Operators.{Begun, Part, over, part, PartRoom, PrefixRoom, prefix_by, prefix_made, suffix_made, suffix_done, begun_of}
+use Rattle.expressions.specs.Code.Operators.{Begun, Part, over, part, part_of, begun_with, PartRoom, PrefixRoom, prefix_by, prefix_made, suffix_made, suffix_done, begun_of}
 use Rattle.expressions.proofs.Emitting.{advanced_next}
 
 -- ROOM for an expression's own rule, once so many are taken
@@ -49,20 +52,23 @@ suffix_some OneOrMore = omega arith
 suffix_some Optional = omega arith
 
 -- THE FIRST PART OF TWO
-pub begun_none : (x : Part) → x.rules.left ≡ 0 → ◌≡◌ {A = Begun} (record { fits = false; number = 0; rules = x.rules }) (begun_of x)
+pub begun_none : (x : Part) (r : Result ℕ Unfit) (e : Unfit) (s : Rules) → r ≡ Err e → x.rules.left < 1 → s ≡ x.rules → begun_with r s ≡ begun_of x
 unfolding begun_of
-begun_none x e = simp (eq-eqb _ _ e)
+begun_none x r e s is h same = rw (is, same) (simp (eq-eqb x.rules.left 0 (omega arith)))
 
 pub begun_some :
-    (x : Part) (t r : Rules) (k : ℕ) → (x.rules.left ≡ 0 → ⊥) → t ≡ advanced x.rules [] 1 → k ≡ own_number x.node t.next →
+    (x : Part) (t r : Rules) (k : ℕ) → 1 ≤ x.rules.left → t ≡ advanced x.rules [] 1 → k ≡ own_number x.node t.next →
     r ≡ advanced t (own_rules x.node t.next) 0 → ◌≡◌ {A = Begun} (record { fits = true; number = k; rules = r }) (begun_of x)
 unfolding begun_of
-begun_some x t r k some e f g = simp (ne_eqb _ _ some) (cc)
+begun_some x t r k some e f g = simp (ne_eqb x.rules.left 0 (λ z. omega arith)) (cc)
 
 -- A SUFFIX
-pub suffix_over_is : (s : Suffix) (x : Part) (at k : ℕ) → k ≡ suffix_need s → x.rules.left < k → over x.rules at ≡ suffix_made s x at
+pub suffix_over_is :
+    (s : Suffix) (x : Part) (at k : ℕ) (p : Result Code.Part Unfit) (e : Unfit) (r : Rules) → k ≡ suffix_need s → p ≡ Err e → e.at ≡ at →
+    x.rules.left < k → r ≡ x.rules → part_of p r ≡ suffix_made s x at
 unfolding suffix_made
-suffix_over_is s x at k e h = simp (lt-ltb x.rules.left (suffix_need s) (omega arith))
+suffix_over_is s x at k p e r need is there h same =
+    rw (is, same) (ap (over x.rules) there ∙ simp (lt-ltb x.rules.left (suffix_need s) (omega arith)))
 
 pub suffix_done_is :
     (s : Suffix) (x : Part) (at k m : ℕ) (t r : Rules) → k ≡ suffix_need s → k ≤ x.rules.left → t ≡ advanced x.rules [] k →

@@ -2,60 +2,58 @@
 use mathlib.Core.Path.{◌≡◌, refl, sym, ap, subst, ◌∙◌}
 use mathlib.Core.Bool.{true, false}
 use mathlib.Core.List.{List, [], ◌∷◌}
-use mathlib.Core.Logic.{◌⊎◌, inl, inr}
 use Prim.Native.Nat.{ℕ, ◌-◌, ◌<◌, ◌≤◌}
 use native.Mathlib.Omega.{arith}
 use Rattle.grammar.specs.declared.Expression.{Expression}
 use Rattle.grammar.specs.declared.Expression.TheVariants.{Range}
 use Rattle.syntax.specs.declared.Leaf.{Leaf}
 use Rattle.syntax.specs.declared.Prefix.{Prefix}
-use Rattle.syntax.specs.declared.Suffix.{Suffix}
 use Rattle.syntax.specs.declared.Sign.TheVariants.{Before, Opening}
-use Rattle.syntax.specs.declared.Ends.{Ends}
+use Rattle.grammar.specs.declared.ByteRange.{ByteRange}
 use Rattle.syntax.specs.Tokens.{Token, sign}
-use Rattle.syntax.specs.Trees.{Tree, prefixes, operand, Derives, no_suffix, a_name, a_leaf, a_range, brackets}
+use Rattle.syntax.specs.Trees.{Tree, choices, prefixes, operand, Derives, no_suffix, a_name, a_leaf, a_range, brackets}
 use Rattle.syntax.specs.Needs.{prefix_need}
 use Rattle.syntax.specs.Compile.{compile_leaf}
-use Rattle.scanner.specs.Code.Scanning.{tokens_at}
+use Rattle.scanner.specs.Code.Scanning.{Peeks, tokens_at}
 use Rattle.expressions.specs.declared.Rules.{Rules}
 use Rattle.expressions.specs.declared.lookahead.Role.{Role}
 use Rattle.expressions.specs.declared.lookahead.Role.TheVariants as Roles
-use Rattle.expressions.specs.declared.lookahead.Ahead.{Ahead}
-use Rattle.expressions.specs.Code.Lookahead.{Looks, starts}
+use Rattle.scanner.specs.declared.Lexeme.{Lexeme}
+use Rattle.expressions.specs.Code.Lookahead.{role, starts}
 use Rattle.expressions.specs.Code.Building.{advanced}
 use Rattle.expressions.specs.Code.Operators.{Part, over, PrefixRoom, prefix_made}
-use Rattle.expressions.specs.Code.Levels.{level_of, leaf_made, name_made, Room, PartRight, LevelRight, Spent, Passes, LevelRead}
+use Rattle.expressions.specs.Code.Levels.{leaf_made, name_made, Room, PartRight, LevelRight, Spent, Passes, LevelRead}
 use Rattle.expressions.proofs.Lookings.{clash, role_token, role_there, role_tells}
 use Rattle.expressions.proofs.Deriving.{begins, suffixes_prefix}
 use Rattle.expressions.proofs.Operating.{prefix_some}
 use Rattle.expressions.proofs.Operands.{prefix_over, prefixed_over, prefixed_fits, prefix_spent, prefix_room, less_room}
-use Rattle.expressions.proofs.Leaves.{FirstRight, name_read, range_read, leaf_read, brackets_read, nothing_spent, leaf_spent, name_spent}
+use Rattle.expressions.proofs.Leaves.{FirstRight, name_read, range_read, leaf_read, brackets_read, brackets_over, nothing_spent, leaf_spent, name_spent}
 
 -- AN OPERAND by its first token
-module _ (text : List ℕ) (at d : ℕ) (before : Rules) (a : Ahead) (l : Looks text at a) where
+module _ (text : List ℕ) (at d : ℕ) (before : Rules) (a : Lexeme) (l : Peeks text at a) where
   -- a token that begins one
   begun_by :
-      (q : Role) (r s : Part) → a.role ≡ q → (q ≡ Roles.Other → ⊥) → r ≡ s → FirstRight text (role_token text a.offset q) a.next d before s →
+      (q : Role) (r s : Part) → role a.token ≡ q → (q ≡ Roles.Other → ⊥) → r ≡ s → FirstRight text (role_token text a.offset q) a.next d before s →
       LevelRight operand text at d before r
   begun_by q r s e some is read g us x stops =
       subst (λ (y : Part). PartRight text before g us y) (sym is)
       (read g us (subst (λ (ts : List Token). Derives operand d ts g us) (role_there text at a l q e some) x))
 
-  pub named_operand : (k : ℕ) (r : Part) → a.role ≡ Roles.Name k → r ≡ name_made text a.offset k before a.next → LevelRead operand text at d before r
+  pub named_operand : (k : ℕ) (r : Part) → role a.token ≡ Roles.Name k → r ≡ name_made text a.offset k before a.next → LevelRead operand text at d before r
   named_operand k r e is =
       record {
         right = begun_by _ r _ e (λ o. clash (cc)) is (name_read text d before a.next a.offset k);
         spent = λ f. subst (λ (q : Part). Spent before 0 q) (sym is) (name_spent text a.offset k before a.next);
       }
 
-  pub ranged_operand : (b : Ends) (r : Part) → a.role ≡ Roles.Range b → r ≡ leaf_made (Range b.low b.high) before a.next → LevelRead operand text at d before r
+  pub ranged_operand : (b : ByteRange) (r : Part) → role a.token ≡ Roles.Range b → r ≡ leaf_made (Range b.low b.high) before a.next → LevelRead operand text at d before r
   ranged_operand b r e is =
       record {
         right = begun_by _ r _ e (λ o. clash (cc)) is (range_read text d before a.next b.low b.high);
         spent = leaf_spent _ before a.next r is;
       }
 
-  pub leaf_operand : (z : Leaf) (x : Expression) (r : Part) → a.role ≡ Roles.Leaf z → x ≡ compile_leaf z → r ≡ leaf_made x before a.next → LevelRead operand text at d before r
+  pub leaf_operand : (z : Leaf) (x : Expression) (r : Part) → role a.token ≡ Roles.Leaf z → x ≡ compile_leaf z → r ≡ leaf_made x before a.next → LevelRead operand text at d before r
   leaf_operand z x r e f is =
       record {
         right = begun_by _ r _ e (λ o. clash (cc)) (is ∙ ap (λ (y : Expression). leaf_made y before a.next) f) (leaf_read text d before a.next z);
@@ -63,13 +61,22 @@ module _ (text : List ℕ) (at d : ℕ) (before : Rules) (a : Ahead) (l : Looks 
       }
 
   pub bracket_operand :
-      (inner : Part) (to : ℕ) → a.role ≡ Roles.Opening → (d ≡ 0 → ⊥) → LevelRead (level_of 2) text a.next (d - 1) before inner → Passes text inner.at to →
+      (inner : Part) (to : ℕ) → role a.token ≡ Roles.Opening → (d ≡ 0 → ⊥) → LevelRead choices text a.next (d - 1) before inner → Passes text inner.at to →
       LevelRead operand text at d before (record { fits = inner.fits; at = to; node = inner.node; rules = inner.rules })
-  unfolding level_of
   bracket_operand inner to e some read passes =
       record {
         right = begun_by _ _ _ e (λ o. clash (cc)) refl (brackets_read text d before a.next inner to some read.right passes);
         spent = λ f. let p = read.spent f in record { room = p.room; left = p.left };
+      }
+
+  -- the inside does not fit
+  pub bracket_unread :
+      (inner : Part) → role a.token ≡ Roles.Opening → (d ≡ 0 → ⊥) → LevelRead choices text a.next (d - 1) before inner → inner.fits ≡ false →
+      LevelRead operand text at d before inner
+  bracket_unread inner e some read gone =
+      record {
+        right = begun_by _ _ _ e (λ o. clash (cc)) refl (brackets_over text d before a.next inner some read.right gone);
+        spent = nothing_spent before 0 inner gone;
       }
 
   -- nothing is read where none begins
@@ -77,7 +84,7 @@ module _ (text : List ℕ) (at d : ℕ) (before : Rules) (a : Ahead) (l : Looks 
   nothing i r is never =
       record { right = λ e us x s. absurd (never e us x); spent = nothing_spent before 0 r (ap (λ (q : Part). q.fits) is) }
 
-  pub bracket_over : (i : ℕ) (r : Part) → a.role ≡ Roles.Opening → d ≡ 0 → r ≡ over before i → LevelRead operand text at d before r
+  pub bracket_over : (i : ℕ) (r : Part) → role a.token ≡ Roles.Opening → d ≡ 0 → r ≡ over before i → LevelRead operand text at d before r
   bracket_over i r e none is = nothing i r is (λ g us x. go x refl (role_there text at a l _ e (λ o. clash (cc))))
     where
       go : {c : ℕ} {ts : List Token} {g : Tree} {us : List Token} → Derives operand c ts g us → c ≡ d → ts ≡ sign Opening ∷ tokens_at text a.next → ⊥
@@ -87,22 +94,24 @@ module _ (text : List ℕ) (at d : ℕ) (before : Rules) (a : Ahead) (l : Looks 
       go (brackets y) k f = omega arith
 
   pub no_operand :
-      (i : ℕ) (r : Part) → ((p : Prefix) × (a.role ≡ Roles.Prefix p)) ⊎ (((s : Suffix) × (a.role ≡ Roles.Suffix s)) ⊎ ((a.role ≡ Roles.Slash) ⊎ (a.role ≡ Roles.Other))) →
-      r ≡ over before i → LevelRead operand text at d before r
-  no_operand i r h is = nothing i r is (λ e us x. go x h)
+      (i : ℕ) (r : Part) → ((k : ℕ) → role a.token ≡ Roles.Name k → ⊥) → ((b : ByteRange) → role a.token ≡ Roles.Range b → ⊥) → ((z : Leaf) → role a.token ≡ Roles.Leaf z → ⊥)
+      → (role a.token ≡ Roles.Opening → ⊥) → r ≡ over before i → LevelRead operand text at d before r
+  no_operand i r no_name no_range no_leaf no_bracket is = nothing i r is (λ e us x. go x (role a.token) refl)
     where
-      unstarted : {e : Tree} {us : List Token} → Derives operand d (tokens_at text at) e us → starts a.role ≡ false → ⊥
+      unstarted : {e : Tree} {us : List Token} → Derives operand d (tokens_at text at) e us → starts (role a.token) ≡ false → ⊥
       unstarted x f =
           let b = begins x in
           clash (cc ((role_tells text at a l b.token b.later b.is).start, b.starts))
 
-      go :
-          {e : Tree} {us : List Token} → Derives operand d (tokens_at text at) e us →
-          ((p : Prefix) × (a.role ≡ Roles.Prefix p)) ⊎ (((s : Suffix) × (a.role ≡ Roles.Suffix s)) ⊎ ((a.role ≡ Roles.Slash) ⊎ (a.role ≡ Roles.Other))) → ⊥
-      go x (inl (p, e)) = suffixes_prefix (no_suffix x) p (tokens_at text a.next) (role_there text at a l _ e (λ o. clash (cc)))
-      go x (inr (inl (s, e))) = unstarted x (ap starts e)
-      go x (inr (inr (inl e))) = unstarted x (ap starts e)
-      go x (inr (inr (inr e))) = unstarted x (ap starts e)
+      go : {e : Tree} {us : List Token} → Derives operand d (tokens_at text at) e us → (r : Role) → role a.token ≡ r → ⊥
+      go x (Roles.Name k) e = no_name k e
+      go x (Roles.Range b) e = no_range b e
+      go x (Roles.Leaf z) e = no_leaf z e
+      go x Roles.Opening e = no_bracket e
+      go x (Roles.Prefix p) e = suffixes_prefix (no_suffix x) p (tokens_at text a.next) (role_there text at a l _ e (λ o. clash (cc)))
+      go x (Roles.Suffix s) e = unstarted x (ap starts e)
+      go x Roles.Slash e = unstarted x (ap starts e)
+      go x Roles.Other e = unstarted x (ap starts e)
 
 -- A PREFIX, whose cost is known
 module _ (text : List ℕ) (at d : ℕ) (before : Rules) (q : Prefix) (next : ℕ) (here : tokens_at text at ≡ sign (Before q) ∷ tokens_at text next) (k : ℕ) (cost : k ≡ prefix_need q) where

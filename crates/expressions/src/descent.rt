@@ -1,27 +1,22 @@
 // Reading an expression of a legal text: recursive descent by the levels of the grammar of texts. Each function takes the rules that it needs from those
 // that are left, and answers that it does not fit where they are too few. So the remaining depth and the rules left bound how deep the calls go.
-ghost use Rattle.std.specs.Prelude.{◌≡◌, List, ℕ, ◌+◌, ◌-◌, ◌≤◌, length};
+ghost use Rattle.std.specs.Prelude.{◌≡◌, ◌+◌, ◌≤◌, length};
 ghost use Rattle.syntax.specs.Trees.{prefixes, operand};
 ghost use Rattle.syntax.specs.Compile.{compile_leaf};
-ghost use Rattle.expressions.specs.Code.Lookahead.{Looks};
-ghost use Rattle.expressions.specs.Code.Building.{rules_of};
-ghost use Rattle.expressions.specs.Code.Operators.{part_of, PartRoom};
-ghost use Rattle.expressions.specs.Code.Levels.{Room, NameRoom, leaf_made, name_made, Passes, LevelRead, SuffixesRead, Joined, level_of, follows as follows_at, rest_from, pair as pair_of};
+ghost use Rattle.scanner.specs.Code.Scanning.{Peeks};
+ghost use Rattle.expressions.specs.Code.Operators.{read_of, part_of, PartRoom};
+ghost use Rattle.expressions.specs.Code.Levels.{Room, NameRoom, leaf_made, name_made, Passes, LevelRead, SuffixesRead, level_of, inner_of, follows, rest_from, pair as pair_of};
 
-use crate::emitter::numbered;
-use crate::lookahead::{Ahead, Role, is_slash, peek, starts};
-use crate::operators::{begun, over, prefix_need, taken, with_prefix, with_suffix};
-use crate::{Numbering, Part};
+use crate::lookahead::{Role, is_slash, peek, role_of, starts};
+use crate::operators::{begun, operator, prefix_need, with_prefix, with_suffix};
+use crate::{Level, Part, Rules, Unfit};
 use grammar::Expression;
+use scanner::Lexeme;
 use scanner::names::line_of;
 use syntax::{Leaf, Node};
 
-// The levels of an expression: a sequence of parts, and a choice of sequences.
-const SEQUENCES: usize = 1;
-
-pub const CHOICES: usize = 2;
-
 // A leaf's rule.
+#[tactic(auto, unfolding(syntax::specs::Compile::compile_leaf))]
 fn leaf_rule(a: Leaf) -> Expression
     ensures { result ≡ compile_leaf a }
 {
@@ -33,175 +28,118 @@ fn leaf_rule(a: Leaf) -> Expression
 }
 
 // An operand that is one rule.
-fn leaf(x: Expression, numbering: Numbering, at: usize) -> Part
-    ensures { (bytes : List ℕ) → part_of result bytes ≡ leaf_made x (rules_of bytes numbering) at }
+fn leaf(x: Expression, at: usize, rules: &mut Rules) -> Result<Part, Unfit>
+    ensures { part_of result rules.new ≡ leaf_made x rules.old at }
 {
-    if numbering.left == 0 {
-        return over(numbering, at);
-    }
-    let less = taken(numbering, 1);
-    Part {
-        fits: true,
-        at,
-        node: Node::Operator(x),
-        numbering: less,
-    }
+    rules.take(1, at)?;
+    Ok(operator(at, x))
 }
 
 // An operand that is a name.
-fn named(text: &[u8], name: usize, long: usize, numbering: Numbering, at: usize) -> Part
+fn named(text: &[u8], name: usize, long: usize, at: usize) -> Part
     requires { (name + long ≤ length text.now) × NameRoom text.now }
-    ensures { (bytes : List ℕ) → part_of result bytes ≡ name_made text.now name long (rules_of bytes numbering) at }
+    ensures { (rules : Rules) → read_of result rules ≡ name_made text.now name long rules at }
 {
-    let line = line_of(text, name, long);
     Part {
-        fits: true,
         at,
-        node: Node::Numbered(line as u8),
-        numbering,
+        node: Node::Numbered(line_of(text, &text[name..name + long]) as u8),
     }
 }
 
 // The suffixes after an expression, as many as stand there.
-fn suffixes(text: &[u8], x: Part, rules: &mut [u8; 124]) -> Part
-    requires { PartRoom (part_of x rules.old) }
-    ensures { SuffixesRead text.now (part_of x rules.old) (part_of result rules.new) }
+fn suffixes(text: &[u8], x: Part, rules: &mut Rules) -> Result<Part, Unfit>
+    requires { PartRoom (read_of x rules.old) }
+    ensures { SuffixesRead text.now (read_of x rules.old) (part_of result rules.new) }
 {
     let l = peek(text, x.at);
-    let role = l.role;
-    match role {
-        Role::Suffix(s) => {
-            let more = with_suffix(s, x, l.next, rules);
-            if more.fits {
-                suffixes(text, more, rules)
-            } else {
-                more
-            }
-        }
-        Role::Name(_)
-        | Role::Range(_)
-        | Role::Leaf(_)
-        | Role::Opening
-        | Role::Prefix(_)
-        | Role::Slash
-        | Role::Other => x,
-    }
+    let Role::Suffix(s) = role_of(l.token) else {
+        return Ok(x);
+    };
+    let more = with_suffix(s, x, l.next, rules)?;
+    suffixes(text, more, rules)
 }
 
 // The place after the lexeme at a place.
 pub fn after(text: &[u8], at: usize) -> usize
     ensures { Passes text.now at result }
 {
-    let l = peek(text, at);
-    l.next
+    peek(text, at).next
 }
 
-// An operand, of which the first token is known: a name, a range, a leaf, or an expression in brackets.
+// An operand, of which the first lexeme is known: a name, a range, a leaf, or an expression in brackets.
 #[cycle(descent)]
 fn operand(
     text: &[u8],
     at: usize,
-    l: Ahead,
+    l: Lexeme,
     depth: usize,
-    numbering: Numbering,
-    rules: &mut [u8; 124],
-) -> Part
-    requires { Looks text.now at l × Room text.now (rules_of rules.old numbering) }
-    ensures { LevelRead operand text.now at depth (rules_of rules.old numbering) (part_of result rules.new) }
+    rules: &mut Rules,
+) -> Result<Part, Unfit>
+    requires { Peeks text.now at l × Room text.now rules.old }
+    ensures { LevelRead operand text.now at depth rules.old (part_of result rules.new) }
 {
-    let role = l.role;
-    match role {
-        Role::Name(long) => named(text, l.offset, long, numbering, l.next),
-        Role::Range(ends) => leaf(Expression::Range(ends.low, ends.high), numbering, l.next),
-        Role::Leaf(a) => leaf(leaf_rule(a), numbering, l.next),
+    match role_of(l.token) {
+        Role::Name(long) => Ok(named(text, l.offset, long, l.next)),
+        Role::Range(ends) => leaf(Expression::Range(ends.low, ends.high), l.next, rules),
+        Role::Leaf(a) => leaf(leaf_rule(a), l.next, rules),
         Role::Opening => {
             if depth == 0 {
-                return over(numbering, at);
+                return Err(Unfit { at });
             }
-            let inner = expression(text, l.next, CHOICES, depth - 1, numbering, rules);
-            let node = inner.node;
-            let made = inner.numbering;
-            Part {
-                fits: inner.fits,
+            let inner = expression(text, l.next, Level::Choices, depth - 1, rules)?;
+            Ok(Part {
                 at: after(text, inner.at),
-                node,
-                numbering: made,
-            }
+                node: inner.node,
+            })
         }
-        Role::Prefix(_) | Role::Suffix(_) | Role::Slash | Role::Other => over(numbering, at),
+        _ => Err(Unfit { at }),
     }
 }
 
 // A part of a sequence: prefixes, an operand, suffixes.
 #[cycle(descent)]
-fn part(text: &[u8], at: usize, depth: usize, numbering: Numbering, rules: &mut [u8; 124]) -> Part
-    requires { Room text.now (rules_of rules.old numbering) }
-    ensures { LevelRead prefixes text.now at depth (rules_of rules.old numbering) (part_of result rules.new) }
+fn part(text: &[u8], at: usize, depth: usize, rules: &mut Rules) -> Result<Part, Unfit>
+    requires { Room text.now rules.old }
+    ensures { LevelRead prefixes text.now at depth rules.old (part_of result rules.new) }
 {
     let l = peek(text, at);
-    let role = l.role;
-    match role {
-        Role::Prefix(p) => {
-            let cost = prefix_need(p);
-            if numbering.left < cost {
-                return over(numbering, at);
-            }
-            let x = part(text, l.next, depth, taken(numbering, cost), rules);
-            if x.fits { with_prefix(p, x, rules) } else { x }
-        }
-        Role::Name(_)
-        | Role::Range(_)
-        | Role::Leaf(_)
-        | Role::Opening
-        | Role::Suffix(_)
-        | Role::Slash
-        | Role::Other => {
-            let x = operand(text, at, l, depth, numbering, rules);
-            if !x.fits {
-                return x;
-            }
-            // without a suffix the operand is not handed on, which would copy it
-            let next = peek(text, x.at);
-            let then = next.role;
-            match then {
-                Role::Suffix(_) => suffixes(text, x, rules),
-                Role::Name(_)
-                | Role::Range(_)
-                | Role::Leaf(_)
-                | Role::Opening
-                | Role::Prefix(_)
-                | Role::Slash
-                | Role::Other => x,
-            }
+    if let Role::Prefix(p) = role_of(l.token) {
+        rules.take(prefix_need(p), at)?;
+        let x = part(text, l.next, depth, rules)?;
+        return Ok(with_prefix(p, x, rules));
+    }
+    let x = operand(text, at, l, depth, rules)?;
+    suffixes(text, x, rules)
+}
+
+impl Level {
+    // Whether another part follows.
+    fn goes_on(self, role: Role) -> bool
+        ensures { result ≡ follows self role }
+    {
+        match self {
+            Level::Sequences => starts(role),
+            Level::Choices => is_slash(role),
         }
     }
-}
 
-// Whether another part follows, at a level.
-fn follows(level: usize, role: Role) -> bool
-    ensures { result ≡ follows_at level role }
-{
-    if level == SEQUENCES {
-        starts(role)
-    } else {
-        is_slash(role)
+    // Where it begins: in a sequence at once, in a choice after the slash.
+    fn rest_at(self, at: usize, next: usize) -> usize
+        ensures { result ≡ rest_from self at next }
+    {
+        match self {
+            Level::Sequences => at,
+            Level::Choices => next,
+        }
     }
-}
 
-// Where it begins: in a sequence at once, in a choice after the slash.
-fn rest_at(level: usize, at: usize, next: usize) -> usize
-    ensures { result ≡ rest_from level at next }
-{
-    if level == SEQUENCES { at } else { next }
-}
-
-fn pair(level: usize, first: u8, rest: u8) -> Expression
-    ensures { result ≡ pair_of level first rest }
-{
-    if level == SEQUENCES {
-        Expression::Sequence(first, rest)
-    } else {
-        Expression::Choice(first, rest)
+    fn pair(self, first: u8, rest: u8) -> Expression
+        ensures { result ≡ pair_of self first rest }
+    {
+        match self {
+            Level::Sequences => Expression::Sequence(first, rest),
+            Level::Choices => Expression::Choice(first, rest),
+        }
     }
 }
 
@@ -210,18 +148,16 @@ fn pair(level: usize, first: u8, rest: u8) -> Expression
 fn first_part(
     text: &[u8],
     at: usize,
-    level: usize,
+    level: Level,
     depth: usize,
-    numbering: Numbering,
-    rules: &mut [u8; 124],
-) -> Part
-    requires { Joined level × Room text.now (rules_of rules.old numbering) }
-    ensures { LevelRead (level_of (level - 1)) text.now at depth (rules_of rules.old numbering) (part_of result rules.new) }
+    rules: &mut Rules,
+) -> Result<Part, Unfit>
+    requires { Room text.now rules.old }
+    ensures { LevelRead (inner_of level) text.now at depth rules.old (part_of result rules.new) }
 {
-    if level == SEQUENCES {
-        part(text, at, depth, numbering, rules)
-    } else {
-        expression(text, at, SEQUENCES, depth, numbering, rules)
+    match level {
+        Level::Sequences => part(text, at, depth, rules),
+        Level::Choices => expression(text, at, Level::Sequences, depth, rules),
     }
 }
 
@@ -230,41 +166,21 @@ fn first_part(
 pub fn expression(
     text: &[u8],
     at: usize,
-    level: usize,
+    level: Level,
     depth: usize,
-    numbering: Numbering,
-    rules: &mut [u8; 124],
-) -> Part
-    requires { Joined level × Room text.now (rules_of rules.old numbering) }
-    ensures { LevelRead (level_of level) text.now at depth (rules_of rules.old numbering) (part_of result rules.new) }
+    rules: &mut Rules,
+) -> Result<Part, Unfit>
+    requires { Room text.now rules.old }
+    ensures { LevelRead (level_of level) text.now at depth rules.old (part_of result rules.new) }
 {
-    let first = first_part(text, at, level, depth, numbering, rules);
-    if !first.fits {
-        return first;
-    }
+    let first = first_part(text, at, level, depth, rules)?;
     let l = peek(text, first.at);
-    let role = l.role;
-    if !follows(level, role) {
-        return first;
+    if !level.goes_on(role_of(l.token)) {
+        return Ok(first);
     }
-    let head = begun(first, rules);
-    let made = head.numbering;
-    if !head.fits {
-        return over(made, at);
-    }
-    let from = rest_at(level, first.at, l.next);
-    let rest = expression(text, from, level, depth, made, rules);
-    if !rest.fits {
-        return rest;
-    }
-    let node = rest.node;
-    let last = numbered(rules, rest.numbering, node);
-    let all = last.numbering;
-    let own = pair(level, head.number, last.number);
-    Part {
-        fits: true,
-        at: rest.at,
-        node: Node::Operator(own),
-        numbering: all,
-    }
+    let head = begun(first, rules)?;
+    let from = level.rest_at(first.at, l.next);
+    let rest = expression(text, from, level, depth, rules)?;
+    let last = rules.number(rest.node);
+    Ok(operator(rest.at, level.pair(head, last)))
 }

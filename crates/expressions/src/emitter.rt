@@ -1,21 +1,13 @@
 // The rules of a grammar, made one by one: a rule's four bytes, the next helper rule, and an expression's own rule.
-ghost use Rattle.std.specs.Prelude.{◌≡◌, ◌∷◌, [], ◌+◌, ◌<◌, ◌≤◌};
+ghost use Rattle.std.specs.Prelude.{◌≡◌, ◌∷◌, [], ◌+◌, ◌<◌, ◌≤◌, OnOk, OnErr, IfErr};
 ghost use Rattle.grammar.specs.Grammar.{max_rules};
-ghost use Rattle.syntax.specs.Compile.{repetition_rules, own_rules, own_number, owed};
-ghost use Rattle.expressions.specs.Code.Building.{rules_of, rule_put, advanced, bytes_are};
+ghost use Rattle.syntax.specs.Compile.{rule_bytes, repetition_rules, own_rules, own_number, owed};
+ghost use Rattle.expressions.specs.Code.Building.{advanced, placed_at};
 
-use crate::{Numbered, Numbering};
+use crate::{Rules, Unfit};
 use grammar::Expression;
 use grammar::check::RULE_BYTES;
 use syntax::Node;
-
-// A rule's bytes but the last, which is 0.
-#[derive(Clone, Copy)]
-pub struct RuleBytes {
-    pub kind: u8,
-    pub b: u8,
-    pub c: u8,
-}
 
 // The kinds of a rule.
 const SEQUENCE: u8 = 1;
@@ -28,82 +20,76 @@ const EMPTY: u8 = 4;
 
 const RANGE: u8 = 5;
 
-fn bytes_of(x: Expression) -> RuleBytes
-    ensures { bytes_are result x }
+#[tactic(auto, unfolding(syntax::specs::Compile::rule_bytes))]
+fn bytes_of(x: Expression) -> [u8; 4]
+    ensures { result ≡ rule_bytes x }
 {
     match x {
-        Expression::Sequence(b, c) => RuleBytes {
-            kind: SEQUENCE,
-            b,
-            c,
-        },
-        Expression::Choice(b, c) => RuleBytes { kind: CHOICE, b, c },
-        Expression::Not(b) => RuleBytes { kind: NOT, b, c: 0 },
-        Expression::Empty => RuleBytes {
-            kind: EMPTY,
-            b: 0,
-            c: 0,
-        },
-        Expression::Range(b, c) => RuleBytes { kind: RANGE, b, c },
+        Expression::Sequence(b, c) => [SEQUENCE, b, c, 0],
+        Expression::Choice(b, c) => [CHOICE, b, c, 0],
+        Expression::Not(b) => [NOT, b, 0, 0],
+        Expression::Empty => [EMPTY, 0, 0, 0],
+        Expression::Range(b, c) => [RANGE, b, c, 0],
     }
 }
 
-// A rule written at a number.
-pub fn put(rules: &mut [u8; 124], k: usize, x: Expression)
-    requires { k < max_rules }
-    ensures { rules.new ≡ rule_put rules.old k x }
-{
-    let four = bytes_of(x);
-    let at = RULE_BYTES * k;
-    rules[at] = four.kind;
-    rules[at + 1] = four.b;
-    rules[at + 2] = four.c;
-    rules[at + 3] = 0;
-}
-
-// One helper rule more.
-pub fn added(rules: &mut [u8; 124], numbering: Numbering, x: Expression) -> Numbering
-    requires { numbering.next < max_rules }
-    ensures { rules_of rules.new result ≡ advanced (rules_of rules.old numbering) (x ∷ []) 0 }
-{
-    let next = numbering.next;
-    put(rules, next, x);
-    Numbering {
-        next: next + 1,
-        left: numbering.left,
+impl Rules {
+    // A rule written at a number.
+    pub fn put(&mut self, k: usize, x: Expression)
+        requires { k < max_rules }
+        ensures { self.new ≡ placed_at self.old k x }
+    {
+        let at = RULE_BYTES * k;
+        self.bytes[at..at + RULE_BYTES].copy_from_slice(&bytes_of(x));
     }
-}
 
-// The three rules of e*, A ← eA / ε.
-pub fn repeated(rules: &mut [u8; 124], numbering: Numbering, operand: u8) -> Numbering
-    requires { numbering.next + 3 ≤ max_rules }
-    ensures { rules_of rules.new result ≡
-        advanced (rules_of rules.old numbering) (repetition_rules operand numbering.next) 0 }
-{
-    let number = numbering.next as u8;
-    let choice = added(rules, numbering, Expression::Choice(number + 1, number + 2));
-    let sequence = added(rules, choice, Expression::Sequence(operand, number));
-    added(rules, sequence, Expression::Empty)
-}
+    // One helper rule more.
+    pub fn add(&mut self, x: Expression)
+        requires { self.old.next < max_rules }
+        ensures { self.new ≡ advanced self.old (x ∷ []) 0 }
+    {
+        self.put(self.next, x);
+        self.next += 1;
+    }
 
-// An expression gets its own rule, and so its number.
-pub fn numbered(rules: &mut [u8; 124], numbering: Numbering, node: Node) -> Numbered
-    requires { numbering.next + owed node ≤ max_rules }
-    ensures { (result.number ≡ own_number node numbering.next) ×
-        (rules_of rules.new result.numbering ≡ advanced (rules_of rules.old numbering) (own_rules node numbering.next) 0) }
-{
-    match node {
-        Node::Numbered(k) => Numbered {
-            number: k,
-            numbering,
-        },
-        Node::Operator(x) => Numbered {
-            number: numbering.next as u8,
-            numbering: added(rules, numbering, x),
-        },
-        Node::Repetition(i) => Numbered {
-            number: numbering.next as u8,
-            numbering: repeated(rules, numbering, i),
-        },
+    // The three rules of e*, A ← eA / ε.
+    pub fn repeat(&mut self, operand: u8)
+        requires { self.old.next + 3 ≤ max_rules }
+        ensures { self.new ≡ advanced self.old (repetition_rules operand self.old.next) 0 }
+    {
+        let number = self.next as u8;
+        self.add(Expression::Choice(number + 1, number + 2));
+        self.add(Expression::Sequence(operand, number));
+        self.add(Expression::Empty);
+    }
+
+    // An expression gets its own rule, and so its number.
+    #[tactic(auto, using(crate::proofs::Emitting::advanced_none), unfolding(syntax::specs::Compile::own_rules, syntax::specs::Compile::own_number, syntax::specs::Compile::owed))]
+    pub fn number(&mut self, node: Node) -> u8
+        requires { self.old.next + owed node ≤ max_rules }
+        ensures own { result ≡ own_number node self.old.next }
+        ensures made { self.new ≡ advanced self.old (own_rules node self.old.next) 0 }
+    {
+        let number = self.next as u8;
+        match node {
+            Node::Numbered(k) => return k,
+            Node::Operator(x) => self.add(x),
+            Node::Repetition(i) => self.repeat(i),
+        }
+        number
+    }
+
+    // So many taken from the rules that are left, if there are as many.
+    #[tactic(auto, using(crate::proofs::Emitting::fewer_left))]
+    pub fn take(&mut self, count: usize, at: usize) -> Result<(), Unfit>
+        ensures ok { OnOk result ((count ≤ self.old.left) × (self.new ≡ advanced self.old [] count)) }
+        ensures err { OnErr result ((self.old.left < count) × (self.new ≡ self.old)) }
+        ensures place { IfErr result (λ e. e.at ≡ at) }
+    {
+        if self.left < count {
+            return Err(Unfit { at });
+        }
+        self.left -= count;
+        Ok(())
     }
 }

@@ -1,30 +1,24 @@
 // Looking ahead: what the token from a place on is to an expression.
 ghost use Rattle.std.specs.Prelude.{◌≡◌};
-ghost use Rattle.expressions.specs.Code.Lookahead.{role, Looks, starts as starts_part, parts_choice};
+ghost use Rattle.scanner.specs.Code.Scanning.{Peeks};
+ghost use Rattle.expressions.specs.Code.Lookahead.{role, starts as starts_part, parts_choice};
 
-use scanner::Scanned;
+use grammar::ByteRange;
+use scanner::Lexeme;
 use scanner::tokens::scan;
-use syntax::{Ends, Leaf, Prefix, Sign, Suffix, Token};
+use syntax::{Leaf, Prefix, Sign, Suffix, Token};
 
 // What a token is to an expression: an operand begins with it, or it is an operator or a slash, or none of these.
 #[derive(Clone, Copy)]
 pub enum Role {
     Name(usize),
-    Range(Ends),
+    Range(ByteRange),
     Leaf(Leaf),
     Opening,
     Prefix(Prefix),
     Suffix(Suffix),
     Slash,
     Other,
-}
-
-// The next token: its role, where it stands, and the place after it.
-#[derive(Clone, Copy)]
-pub struct Ahead {
-    pub role: Role,
-    pub offset: usize,
-    pub next: usize,
 }
 
 fn sign_role(s: Sign) -> Role
@@ -36,13 +30,11 @@ fn sign_role(s: Sign) -> Role
         Sign::After(x) => Role::Suffix(x),
         Sign::Slash => Role::Slash,
         Sign::Opening => Role::Opening,
-        Sign::Closing => Role::Other,
-        Sign::Equals => Role::Other,
-        Sign::Semicolon => Role::Other,
+        Sign::Closing | Sign::Equals | Sign::Semicolon => Role::Other,
     }
 }
 
-fn role_of(token: Token) -> Role
+pub fn role_of(token: Token) -> Role
     ensures { result ≡ role token }
 {
     match token {
@@ -53,56 +45,30 @@ fn role_of(token: Token) -> Role
     }
 }
 
-// The token from a place on; where there is none, one that is nothing to an expression.
-pub fn peek(text: &[u8], at: usize) -> Ahead
-    ensures { Looks text.now at result }
+// The lexeme from a place on; where there is none, a token that is nothing to an expression.
+pub fn peek(text: &[u8], at: usize) -> Lexeme
+    ensures { Peeks text.now at result }
 {
-    let found = scan(text, at);
-    match found {
-        Scanned::Found(l) => {
-            let token = l.token;
-            Ahead {
-                role: role_of(token),
-                offset: l.offset,
-                next: l.next,
-            }
-        }
-        Scanned::End => Ahead {
-            role: Role::Other,
-            offset: at,
-            next: at,
-        },
-    }
+    scan(text, at).unwrap_or(Lexeme {
+        token: Token::Unknown,
+        offset: at,
+        next: at,
+    })
 }
 
 // Whether a part of a sequence begins with it.
 pub fn starts(ahead: Role) -> bool
     ensures { result ≡ starts_part ahead }
 {
-    match ahead {
-        Role::Name(_) => true,
-        Role::Range(_) => true,
-        Role::Leaf(_) => true,
-        Role::Opening => true,
-        Role::Prefix(_) => true,
-        Role::Suffix(_) => false,
-        Role::Slash => false,
-        Role::Other => false,
-    }
+    matches!(
+        ahead,
+        Role::Name(_) | Role::Range(_) | Role::Leaf(_) | Role::Opening | Role::Prefix(_)
+    )
 }
 
 // Whether a choice goes on after it.
 pub fn is_slash(ahead: Role) -> bool
     ensures { result ≡ parts_choice ahead }
 {
-    match ahead {
-        Role::Name(_) => false,
-        Role::Range(_) => false,
-        Role::Leaf(_) => false,
-        Role::Opening => false,
-        Role::Prefix(_) => false,
-        Role::Suffix(_) => false,
-        Role::Slash => true,
-        Role::Other => false,
-    }
+    matches!(ahead, Role::Slash)
 }

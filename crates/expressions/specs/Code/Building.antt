@@ -1,19 +1,9 @@
 -- The rules made while an expression is read, on the code's own structs. Assumes nothing: these are definitions.
-use Rattle.std.specs.Prelude.{◌≡◌, List, [], ◌∷◌, ℕ, suc, ◌+◌, ◌-◌, ◌*◌, length, set}
+use Rattle.std.specs.Prelude.{List, [], ◌∷◌, ℕ, suc, ◌+◌, ◌-◌, ◌*◌, length, set}
 use Rattle.codec.specs.Bytes.{byte}
 use Rattle.grammar.specs.declared.Expression.{Expression}
 use Rattle.syntax.specs.Compile.{rule_bytes}
 use Rattle.expressions.specs.declared.Rules.{Rules}
-use Rattle.expressions.specs.declared.Numbering.{Numbering}
-use Rattle.expressions.specs.declared.emitter.RuleBytes.{RuleBytes}
-
--- a rule's bytes, the last being 0
-abbrev pub bytes_are : RuleBytes → Expression → Type 0
-bytes_are r x = r.kind ∷ r.b ∷ r.c ∷ 0 ∷ [] ≡ rule_bytes x
-
--- the rules of so many bytes that are numbered so
-abbrev pub rules_of : (bytes : List ℕ) → Numbering → Rules
-rules_of bs n = record { bytes = bs; next = n.next; left = n.left }
 
 -- a rule's four bytes stored at its number
 unfoldable pub rule_put : (bytes : List ℕ) → (n : ℕ) → Expression → List ℕ

@@ -1,5 +1,5 @@
 -- What reading an expression answers, level by level of the grammar of texts: the node and the rules that the definitions give for its tree, if no more rules are needed than were left. Assumes nothing: these are definitions.
-use Rattle.std.specs.Prelude.{◌≡◌, Bool, true, false, cond, List, [], ◌∷◌, ◌++◌, map, ℕ, suc, ◌+◌, ◌<◌, ◌≤◌, eqb, leb, length}
+use Rattle.std.specs.Prelude.{◌≡◌, Bool, true, false, cond, List, [], ◌∷◌, ◌++◌, map, ℕ, suc, ◌+◌, ◌≤◌, eqb, leb, length}
 use Rattle.codec.specs.Bytes.{section}
 use Rattle.grammar.specs.Grammar.{max_rules}
 use Rattle.grammar.specs.declared.Expression.{Expression}
@@ -14,6 +14,8 @@ use Rattle.syntax.specs.Needs.{need}
 use Rattle.syntax.specs.Compile.{index_of, compile, owed}
 use Rattle.syntax.specs.Code.Heads.{heads}
 use Rattle.expressions.specs.declared.Rules.{Rules}
+use Rattle.expressions.specs.declared.Level as Code
+use Rattle.expressions.specs.declared.Level.TheVariants.{Sequences, Choices}
 use Rattle.expressions.specs.declared.lookahead.Role.{Role}
 use Rattle.expressions.specs.Code.Lookahead.{starts, parts_choice}
 use Rattle.scanner.specs.Code.Scanning.{tokens_at}
@@ -29,23 +31,28 @@ pub record Room (text : List ℕ) (r : Rules) : Type 0 where
   pub few : NameRoom text
   pub fit : r.next + r.left ≤ suc max_rules
 
--- THE LEVELS BY NUMBER, as the code has them: a part, a sequence of parts, a choice of sequences
-unfoldable pub level_of : ℕ → Level
-level_of n = cond (eqb n 0) prefixes (cond (eqb n 1) parts choices)
+-- THE LEVELS THAT JOIN PARTS, as the code has them: a sequence of parts, a choice of sequences
+abbrev pub level_of : Code.Level → Level
+level_of Sequences = parts
+level_of Choices = choices
 
--- a level that joins parts: a sequence, or a choice
-abbrev pub Joined : ℕ → Type 0
-Joined n = (0 < n) × (n ≤ 2)
+-- the level that it begins with
+abbrev pub inner_of : Code.Level → Level
+inner_of Sequences = prefixes
+inner_of Choices = parts
 
 -- whether another part follows a token's place, where it begins, and the rule of the two
-unfoldable pub follows : (level : ℕ) → Role → Bool
-follows n r = cond (eqb n 1) (starts r) (parts_choice r)
+abbrev pub follows : Code.Level → Role → Bool
+follows Sequences r = starts r
+follows Choices r = parts_choice r
 
-unfoldable pub rest_from : (level at next : ℕ) → ℕ
-rest_from n at next = cond (eqb n 1) at next
+abbrev pub rest_from : Code.Level → (at next : ℕ) → ℕ
+rest_from Sequences at next = at
+rest_from Choices at next = next
 
-unfoldable pub pair : (level first rest : ℕ) → Expression
-pair n a b = cond (eqb n 1) (Sequence a b) (Choice a b)
+abbrev pub pair : Code.Level → (first rest : ℕ) → Expression
+pair Sequences a b = Sequence a b
+pair Choices a b = Choice a b
 
 -- operands
 unfoldable pub leaf_made : Expression → Rules → (at : ℕ) → Part

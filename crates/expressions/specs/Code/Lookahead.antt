@@ -1,13 +1,10 @@
 -- What a token is to an expression, on the code's own tokens. Assumes nothing: these are definitions.
-use Rattle.std.specs.Prelude.{◌≡◌, Bool, true, false, List, ℕ}
+use Rattle.std.specs.Prelude.{Bool, true, false}
 use Rattle.syntax.specs.declared.Sign.TheVariants.{Operand, Before, After, Slash, Opening, Closing, Equals, Semicolon}
 use Rattle.syntax.specs.declared.Token.{Token}
 use Rattle.syntax.specs.declared.Token.TheVariants.{Name, Sign, Range, Unknown}
-use Rattle.scanner.specs.declared.Lexeme.{Lexeme}
-use Rattle.scanner.specs.Code.Scanning.{Peeks}
 use Rattle.expressions.specs.declared.lookahead.Role.{Role}
 use Rattle.expressions.specs.declared.lookahead.Role.TheVariants as Roles
-use Rattle.expressions.specs.declared.lookahead.Ahead.{Ahead}
 
 abbrev pub role : Token → Role
 role (Name k) = Roles.Name k
@@ -21,12 +18,6 @@ role (Sign Equals) = Roles.Other
 role (Sign Semicolon) = Roles.Other
 role (Range r) = Roles.Range r
 role Unknown = Roles.Other
-
--- the role of the lexeme from a place on
-pub record Looks (text : List ℕ) (at : ℕ) (a : Ahead) : Type 0 where
-  pub lexeme : Lexeme
-  pub peeks : Peeks text at lexeme
-  pub is : a ≡ record { role = role lexeme.token; offset = lexeme.offset; next = lexeme.next }
 
 -- a part of a sequence begins with it
 abbrev pub starts : Role → Bool

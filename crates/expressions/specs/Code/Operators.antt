@@ -1,5 +1,5 @@
 -- Operators over an expression that was read, on the code's own structs. Assumes nothing: these are definitions.
-use Rattle.std.specs.Prelude.{Bool, true, false, cond, List, [], ◌∷◌, ℕ, suc, ◌+◌, ◌≤◌, eqb, ltb}
+use Rattle.std.specs.Prelude.{Bool, true, false, cond, [], ◌∷◌, ℕ, suc, ◌+◌, ◌≤◌, eqb, ltb, Result, Ok, Err}
 use Rattle.grammar.specs.Grammar.{max_rules}
 use Rattle.grammar.specs.declared.Expression.TheVariants.{Sequence, Choice, Not, Empty}
 use Rattle.syntax.specs.declared.Node.{Node}
@@ -12,8 +12,8 @@ use Rattle.syntax.specs.Needs.{prefix_need, suffix_need}
 use Rattle.syntax.specs.Compile.{repetition_rules, own_rules, own_number, owed}
 use Rattle.expressions.specs.declared.Rules.{Rules}
 use Rattle.expressions.specs.declared.Part as Code
-use Rattle.expressions.specs.declared.Begun as CodeBegun
-use Rattle.expressions.specs.Code.Building.{rules_of, advanced}
+use Rattle.expressions.specs.declared.Unfit.{Unfit}
+use Rattle.expressions.specs.Code.Building.{advanced}
 
 -- an expression that was read: what stands for it, and the rules with those of its parts
 pub record Part : Type 0 where
@@ -22,18 +22,11 @@ pub record Part : Type 0 where
   pub node : Node
   pub rules : Rules
 
--- the code's, over the bytes that were lent
-abbrev pub part_of : Code.Part → (bytes : List ℕ) → Part
-part_of p bs = record { fits = p.fits; at = p.at; node = p.node; rules = rules_of bs p.numbering }
-
 -- the first part of a sequence or choice, with its number
 pub record Begun : Type 0 where
   pub fits : Bool
   pub number : ℕ
   pub rules : Rules
-
-abbrev pub begun_with : CodeBegun.Begun → (bytes : List ℕ) → Begun
-begun_with p bs = record { fits = p.fits; number = p.number; rules = rules_of bs p.numbering }
 
 -- no expression, or one for which no rules are left
 abbrev pub over : Rules → (at : ℕ) → Part
@@ -41,6 +34,18 @@ over r i = record { fits = false; at = i; node = Numbered 0; rules = r }
 
 abbrev pub part : (at : ℕ) → Node → Rules → Part
 part i x r = record { fits = true; at = i; node = x; rules = r }
+
+-- the code's, over the rules that were lent: one that was read, and what reading answers
+abbrev pub read_of : Code.Part → Rules → Part
+read_of p r = part p.at p.node r
+
+abbrev pub part_of : Result Code.Part Unfit → Rules → Part
+part_of (Ok p) r = read_of p r
+part_of (Err e) r = over r e.at
+
+abbrev pub begun_with : Result ℕ Unfit → Rules → Begun
+begun_with (Ok k) r = record { fits = true; number = k; rules = r }
+begun_with (Err e) r = record { fits = false; number = 0; rules = r }
 
 -- an expression's own rule and what it may still take have room: of 31 rules, and the line's own, which is numbered already
 abbrev pub PartRoom : Part → Type 0

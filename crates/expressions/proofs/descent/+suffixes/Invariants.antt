@@ -2,4 +2,4 @@
 use Rattle.expressions.proofs.descent.+suffixes.Given as goal
 
 abbrev pub decreases-suffixes : goal.decreases-suffixes
-decreases-suffixes l = l.x.numbering.left
+decreases-suffixes l = l.rules.now.left

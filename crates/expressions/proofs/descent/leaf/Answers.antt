@@ -1,10 +1,14 @@
 -- `expressions::descent::leaf` meets its contract: no rule is left, or one is taken. Assumes nothing.
-use Rattle.expressions.proofs.Leaves.{leaf_none, leaf_some}
-use mathlib.Core.Path.{◌∙◌}
+use Rattle.expressions.proofs.Emitting.{handed_on}
+use Rattle.expressions.proofs.Leaves.{leaf_over, leaf_fits}
 use Rattle.expressions.proofs.descent.leaf.Goals as goal
 
-pub returns-then-numbering-eq0 : goal.returns-then-numbering-eq0
-returns-then-numbering-eq0 c = λ bytes. c.over.ensures bytes ∙ leaf_none _ _ _ c.if-numbering-eq0.true
+pub returns-in_err-take : goal.returns-in_err-take
+returns-in_err-take c =
+    let over = c.in_err-take.ensures in
+    leaf_over _ _ _ _ _ _ (handed_on _ _ c.from_residual.ensures.1) over.place over.err.0 over.err.1
 
 pub returns : goal.returns
-returns c = λ bytes. leaf_some _ _ _ _ c.if-numbering-eq0.false (c.taken-less.ensures bytes)
+returns c =
+    let took = c.in_ok-take.ensures.ok in
+    leaf_fits _ _ _ _ _ c.operator.ensures took.0 took.1

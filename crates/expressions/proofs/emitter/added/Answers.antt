@@ -1,6 +1,0 @@
--- `expressions::emitter::added` meets its contract: a rule at the next number, and the number after it. Assumes nothing.
-use Rattle.expressions.proofs.Emitting.{one_added}
-use Rattle.expressions.proofs.emitter.added.Goals as goal
-
-pub returns : goal.returns
-returns c = one_added _ _ _ c.put.ensures
