@@ -1,6 +1,7 @@
 // The plain run: the step-by-step run itself, on a stack of lent cells and within a budget of steps.
 #![tactic(auto)]
 
+pub mod replies;
 pub mod step;
 
 ghost use Rattle.std.specs.Prelude.{◌≡◌, length};

@@ -5,7 +5,6 @@
 pub mod reply;
 pub mod version;
 
-ghost use Rattle.std.specs.Prelude.{◌++◌, ◌≡◌, ◌≤◌, length, drop};
 ghost use Rattle.builder.specs.declared.Matching.TheVariants.{Whole};
 ghost use Rattle.builder.specs.Matching.{default_matching};
 ghost use Rattle.grammar_judge.specs.Calls.{lent};
@@ -17,12 +16,9 @@ use bundle::judging::judge_bundle;
 use interpreter::plain_run;
 use reader::reading::read;
 use recursion::check::check_recursion;
-use reply::{
-    build_reply, bundle_reply, check_reply, read_reply, run_reply, text_recursion_reply,
-    write_reply, write_totals,
-};
+use machine::replies::Answer;
+use reply::{write_reply, write_totals};
 use simulator::judge::{cells, judge};
-use simulator::replies::{cells_reply, judge_reply};
 use typed::left_recursion::check_text_recursion;
 use typed::{build_text, judge_text};
 use validator::check::check_image;
@@ -31,14 +27,14 @@ use validator::check::check_image;
 pub fn sejimakpu_check_nonnull(image: &[u8], answer: &mut [u64; 6]) -> u32
     ensures { CheckTells image.now result answer.new }
 {
-    write_reply(answer, check_reply(check_image(image)))
+    write_reply(answer, check_image(image).reply())
 }
 
 // How many cells the judging of a capture of n bytes needs.
 pub fn sejimakpu_cells_nonnull(image: &[u8], n: usize, answer: &mut [u64; 6]) -> u32
     ensures { CellsTells image.now n result answer.new }
 {
-    write_reply(answer, cells_reply(cells(image, n)))
+    write_reply(answer, cells(image, n).reply())
 }
 
 // Judging.
@@ -54,7 +50,7 @@ pub fn sejimakpu_judge_nonnull(
         result answer.new }
 {
     let judged = judge(image, capture, notes, work);
-    write_reply(answer, judge_reply(judged))
+    write_reply(answer, judged.reply())
 }
 
 // The plain run.
@@ -69,7 +65,7 @@ pub fn sejimakpu_plain_run_nonnull(
         stack.old stack.new result answer.new }
 {
     let ran = plain_run(image, capture, budget, stack);
-    write_reply(answer, run_reply(ran))
+    write_reply(answer, ran.reply())
 }
 
 // Building, with no choice given.
@@ -77,7 +73,7 @@ pub fn sejimakpu_build_nonnull(grammar: &[u8], image: &mut [u8], answer: &mut [u
     ensures { BuildTells default_matching grammar.now image.old image.new result answer.new }
 {
     let built = build_image(grammar, image, default_matching());
-    write_reply(answer, build_reply(built))
+    write_reply(answer, built.reply())
 }
 
 // Building of an image that matches whole captures.
@@ -85,26 +81,14 @@ pub fn sejimakpu_build_whole_nonnull(grammar: &[u8], image: &mut [u8], answer: &
     ensures { BuildTells Whole grammar.now image.old image.new result answer.new }
 {
     let built = build_image(grammar, image, Matching::Whole);
-    write_reply(answer, build_reply(built))
+    write_reply(answer, built.reply())
 }
 
 // Whether a grammar is right, and no rule of it leads back to itself.
 pub fn sejimakpu_check_recursion_nonnull(grammar: &[u8], answer: &mut [u64; 6]) -> u32
     ensures { CheckRecursionTells grammar.now result answer.new }
 {
-    write_reply(answer, check_reply(check_recursion(grammar)))
-}
-
-// Bytes at the start of a buffer, and the later ones as they were.
-fn put_front(buffer: &mut [u8], bytes: &[u8])
-    requires { length bytes.now ≤ length buffer.old }
-    ensures { buffer.new ≡ bytes.now ++ drop (length bytes.now) buffer.old }
-{
-    let mut i: usize = 0;
-    while i < bytes.len() {
-        buffer[i] = bytes[i];
-        i += 1;
-    }
+    write_reply(answer, check_recursion(grammar).reply())
 }
 
 // Reading a text: the bytes of its grammar, of which there are 124 at most.
@@ -116,10 +100,10 @@ pub fn sejimakpu_read_grammar_nonnull(
     ensures { ReadGrammarTells text.now grammar.old grammar.new result answer.new }
 {
     let got = read(text);
-    let bytes = got.bytes;
-    let long = got.length;
-    put_front(grammar, &bytes[..long]);
-    write_reply(answer, read_reply(got))
+    if let Ok(read) = got {
+        grammar[..read.length].copy_from_slice(&read.bytes[..read.length]);
+    }
+    write_reply(answer, got.reply())
 }
 
 // Building, from a text.
@@ -127,7 +111,7 @@ pub fn sejimakpu_build_text_nonnull(text: &[u8], image: &mut [u8], answer: &mut 
     ensures { BuildTextTells text.now image.old image.new result answer.new }
 {
     let built = build_text(text, image);
-    write_reply(answer, build_reply(built))
+    write_reply(answer, built.reply())
 }
 
 // Judging, by a text.
@@ -143,15 +127,14 @@ pub fn sejimakpu_judge_text_nonnull(
         (lent image.new notes.new work.new) result answer.new }
 {
     let judged = judge_text(text, capture, image, notes, work);
-    write_reply(answer, judge_reply(judged))
+    write_reply(answer, judged.reply())
 }
 
 // Whether a typed grammar is read, and no rule of it leads back to itself.
 pub fn sejimakpu_check_text_recursion_nonnull(text: &[u8], answer: &mut [u64; 6]) -> u32
     ensures { CheckTextRecursionTells text.now result answer.new }
 {
-    let checked = check_text_recursion(text);
-    write_reply(answer, text_recursion_reply(checked))
+    write_reply(answer, check_text_recursion(text).reply())
 }
 
 // Judging the captures of a bundle: 64 lines of seven cells are lent, and ten cells for their totals.
@@ -170,5 +153,5 @@ pub fn sejimakpu_judge_bundle_nonnull(
 {
     let report = judge_bundle(image, bundle, notes, work, lines);
     write_totals(totals, report);
-    write_reply(answer, bundle_reply(report))
+    write_reply(answer, report.reply())
 }
