@@ -2,19 +2,17 @@
 use Rattle.std.specs.Prelude.{Err}
 use mathlib.Core.Path.{◌≡◌, refl, sym, ◌∙◌, ap, subst}
 use mathlib.Core.List.{List}
-use Prim.Native.Nat.{ℕ, zero, suc, ◌<◌}
+use Prim.Native.Nat.{ℕ, zero, suc}
 use native.Mathlib.Omega.{arith}
 use lib.ListN.{length, replicate}
-use borrow.Author.Tests.{eqb-false}
 use Rattle.refusal.specs.declared.Refusal.{Refusal}
 use Rattle.machine.specs.Run.{start}
 use Rattle.image.specs.Image.{machine}
-use Rattle.image.specs.Refusals.{capture_refusal}
-use Rattle.refusal.proofs.Refused.{neither, not_refused}
 use Rattle.interpreter.specs.Answers.{Ran}
 use Rattle.interpreter.specs.declared.RunEnd.{RunEnd}
 use Rattle.interpreter.specs.PlainRun.{run_on, TrueEnd}
 use Rattle.interpreter.specs.Calls.{run_refusal, answer, RunAs, RunSays}
+use Rattle.interpreter.proofs.RefusalLaws.{some_cell}
 use Rattle.interpreter.proofs.TrueEnd.{plain_run_true}
 
 determined_as :
@@ -55,12 +53,6 @@ unfolding RunSays
 run_answered bs cs n r a x h s = answered_as _ _ _ r a x h s
 
 -- no refusal: some cell, so what is true of the plain run is true of the call's answer
-some_cell : (bs cs : List ℕ) (k : ℕ) → (run_refusal bs cs k).number ≡ 0 → 0 < k
-unfolding run_refusal
-some_cell bs cs k e =
-    let cells = (neither (capture_refusal bs (length cs)) _ (record { none_such = e })).1 in
-    omega (arith, eqb-false k 0 (not_refused _ 9 0 cells))
-
 pub run_holds :
     (bs cs : List ℕ) (n k : ℕ) → (run_refusal bs cs k).number ≡ 0 → TrueEnd (machine bs cs) n k (run_on n (machine bs cs) 0 k start)
 run_holds bs cs n k h = plain_run_true (machine bs cs) n k (some_cell bs cs k h)

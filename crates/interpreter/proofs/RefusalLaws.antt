@@ -3,7 +3,7 @@ use Rattle.std.specs.Prelude.{Ok, Err}
 use Rattle.std.specs.Result.{IsErrAnd}
 use Rattle.std.proofs.lemmas.Result.{err_from_is_err_and}
 use mathlib.Core.Path.{◌≡◌, refl, sym, ap, ◌∙◌}
-use mathlib.Core.Bool.{Bool, true, false}
+use mathlib.Core.Bool.{false}
 use mathlib.Core.List.{List}
 use Prim.Native.Nat.{ℕ, zero, suc, ◌<◌}
 use native.Mathlib.Omega.{arith}
@@ -14,11 +14,11 @@ use Rattle.refusal.specs.declared.Refusal.{Refusal}
 use Rattle.machine.specs.Run.{start}
 use Rattle.codec.specs.Bytes.{byte}
 use Rattle.image.specs.Image.{machine}
-use Rattle.refusal.specs.First.{refusal, no_refusal, or_else, refuse_if}
+use Rattle.refusal.specs.First.{no_refusal, or_else, refuse_if}
 use Rattle.refusal.specs.Checking.{checked}
 use Rattle.refusal.proofs.Checked.{checked-passes, checked-refuses, checked-refused}
 use Rattle.image.specs.Refusals.{capture_refusal}
-use Rattle.refusal.proofs.Refused.{neither}
+use Rattle.refusal.proofs.Refused.{neither, not_refused}
 use Rattle.image.proofs.CaptureRefused.{unrefused_by}
 use Rattle.interpreter.specs.Answers.{Ran}
 use Rattle.interpreter.specs.declared.RunEnd.{RunEnd}
@@ -33,17 +33,19 @@ module _ (bs cs : List ℕ) (k : ℕ) (f : Refusal) (e : f ≡ capture_refusal b
   refused_not z = simp (← e, eq-eqb _ _ none, ne_eqb k 0 z)
 
 -- with no refusal the run can go
-some_cell_by : (k : ℕ) (t : Bool) → eqb k 0 ≡ t → (refuse_if t (refusal 10 0)).number ≡ 0 → 0 < k
-unfolding refuse_if
-some_cell_by k true q h = absurd (omega (arith, h))
-some_cell_by k false q h = omega (arith, eqb-false k 0 q)
+pub some_cell : (bs cs : List ℕ) (k : ℕ) → (run_refusal bs cs k).number ≡ 0 → 0 < k
+unfolding run_refusal
+some_cell bs cs k e =
+    let cells = (neither (capture_refusal bs (length cs)) _ (record { none_such = e })).1 in
+    omega (arith, eqb-false k 0 (not_refused _ 9 0 cells))
 
 pub run_ready :
     (bs cs ks : List ℕ) → checked (run_refusal bs cs (length ks)) ≡ Ok tt → ((i : ℕ) → byte cs i < 256) → RunReady bs cs ks
 unfolding run_refusal
 run_ready bs cs ks e h =
-    let (capture, cell) = neither _ _ (record { none_such = checked-passes _ e }) in
-    record { unrefused = unrefused_by bs cs h capture.none_such; some_cell = some_cell_by (length ks) _ refl cell.none_such }
+    let none = checked-passes _ e in
+    let capture = (neither (capture_refusal bs (length cs)) _ (record { none_such = none })).0 in
+    record { unrefused = unrefused_by bs cs h capture.none_such; some_cell = some_cell bs cs (length ks) none }
 
 -- THE CONTRACT
 says_as_refused : (n : ℕ) (f : Refusal) (e : RunEnd) (r : Ran) (a : List ℕ) → eqb n 0 ≡ false → r ≡ Err f → RunAs n f e r a a

@@ -40,7 +40,7 @@ pub record Goes (M : Machine) (b : ℕ) (s : RunState) (ks : List ℕ) (t : RunS
 
 abbrev pub Told : Machine → (budget : ℕ) → RunState → (cells cells_now : List ℕ) → StepResult → Type 0
 Told M b s ks ks' (Continue t) = Goes M b s ks t ks'
-Told M b s ks ks' (Break e) = run_from M b s ks ≡ e
+Told M b s ks ks' (Break e) = run_from M b s ks ≡ run_end e.0 e.1 s.at
 
 at_of : (s : RunState) (ks : List ℕ) → config_of (description_of s ks) ≡ s.at
 at_of s ks = config_over s.at s.pointer (stack_of s.below ks)
@@ -78,7 +78,7 @@ module _ (M : Machine) (fit : Runnable M) (b : ℕ) (s : RunState) (ks : List �
             (omega (arith, height_of t ks', q.room)));
       }
 
-  stop_told : (why : Reason) → M.action s.at ≡ Stop why → Told M b s ks ks (exited s (Terminated (Stopped why)) s.steps)
+  stop_told : (why : Reason) → M.action s.at ≡ Stop why → Told M b s ks ks (exited (Terminated (Stopped why)) s.steps)
   stop_told why e =
       let stops = step_stop M s.at s.pointer (stack_of s.below ks) e in
       rw fuel
@@ -103,7 +103,7 @@ module _ (M : Machine) (fit : Runnable M) (b : ℕ) (s : RunState) (ks : List �
 
   push_told :
       (c : Config) → M.action s.at ≡ Push c → (t : Bool) → leb (s.below + 2) (length ks) ≡ t →
-      Told M b s ks (cond t with_top ks) (cond t (Continue (run_state c c.head (s.below + 1) (s.steps + 1))) (exited s Deep s.steps))
+      Told M b s ks (cond t with_top ks) (cond t (Continue (run_state c c.head (s.below + 1) (s.steps + 1))) (exited Deep s.steps))
   push_told c e true q =
       let l : s.below + 2 ≤ length ks = leb-true (s.below + 2) (length ks) q in
       goes_to (run_state c c.head (s.below + 1) (s.steps + 1)) with_top (push_step c (s.steps + 1) e) refl
@@ -133,7 +133,7 @@ module _ (M : Machine) (fit : Runnable M) (b : ℕ) (s : RunState) (ks : List �
   pop_told :
       (p : ℕ) (t : Bool) → M.action s.at ≡ Pop p t → (u : Bool) → eqb s.below 0 ≡ u →
       Told M b s ks ks
-      (cond u (exited s (Terminated (Over (M.accepting p (pop_head s t)))) (s.steps + 1)) (Continue (without_top p (pop_head s t) (s.steps + 1))))
+      (cond u (exited (Terminated (Over (M.accepting p (pop_head s t)))) (s.steps + 1)) (Continue (without_top p (pop_head s t) (s.steps + 1))))
   pop_told p t e true q =
       rw (fuel, add-one s.steps)
       (run_over M s.steps (length ks) (description_of s ks) (b - suc s.steps) p (pop_head s t) (over_step p t e (eqb-true s.below 0 q)) ∙
@@ -154,7 +154,7 @@ module _ (M : Machine) (fit : Runnable M) (b : ℕ) (s : RunState) (ks : List �
 module _ (M : Machine) (fit : Runnable M) (b : ℕ) (s : RunState) (ks : List ℕ) (r : StackReady M s ks) (w : s.steps ≤ b) where
   told_as :
       (a : Action) → M.action s.at ≡ a → (t : Bool) → eqb s.steps b ≡ t →
-      Told M b s ks (cond t ks (cells_taken s ks a)) (cond t (exited s (spent_exit a) s.steps) (take_result M.accepting s ks a))
+      Told M b s ks (cond t ks (cells_taken s ks a)) (cond t (exited (spent_exit a) s.steps) (take_result M.accepting s ks a))
   told_as a e true q =
       let z : b - s.steps ≡ 0 = omega (arith, eqb-true s.steps b q) in
       rw z

