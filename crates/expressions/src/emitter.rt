@@ -5,31 +5,21 @@ ghost use Rattle.syntax.specs.Compile.{rule_bytes, repetition_rules, own_rules, 
 ghost use Rattle.expressions.specs.Code.Building.{advanced, placed_at};
 
 use crate::{Rules, Unfit};
-use grammar::Expression;
 use grammar::check::RULE_BYTES;
+use grammar::{Expression, RuleKind};
 use syntax::Node;
 
-// The kinds of a rule.
-const SEQUENCE: u8 = 1;
-
-const CHOICE: u8 = 2;
-
-const NOT: u8 = 3;
-
-const EMPTY: u8 = 4;
-
-const RANGE: u8 = 5;
-
+// A rule's four bytes: its kind, b, c and 0.
 #[tactic(auto, unfolding(syntax::specs::Compile::rule_bytes))]
 fn bytes_of(x: Expression) -> [u8; 4]
     ensures { result ≡ rule_bytes x }
 {
     match x {
-        Expression::Sequence(b, c) => [SEQUENCE, b, c, 0],
-        Expression::Choice(b, c) => [CHOICE, b, c, 0],
-        Expression::Not(b) => [NOT, b, 0, 0],
-        Expression::Empty => [EMPTY, 0, 0, 0],
-        Expression::Range(b, c) => [RANGE, b, c, 0],
+        Expression::Sequence(b, c) => [RuleKind::Sequence as u8, b, c, 0],
+        Expression::Choice(b, c) => [RuleKind::Choice as u8, b, c, 0],
+        Expression::Not(b) => [RuleKind::Not as u8, b, 0, 0],
+        Expression::Empty => [RuleKind::Empty as u8, 0, 0, 0],
+        Expression::Range(b, c) => [RuleKind::Range as u8, b, c, 0],
     }
 }
 
