@@ -138,7 +138,8 @@ impl<'a> Run<'a> {
         }
     }
 
-    // One step, or how the run is left where there is none. Break has no configuration: with one the state lay in memory, and a step took 2.7 times as long.
+    // One step, or how the run is left where there is none.
+    // Break has no configuration: with one the compiler keeps the state in memory, and a step takes 2.7 times as long.
     #[tactic(auto, using(crate::proofs::CodeLaws::accepts_as), unfolding(crate::specs::Code::Stepping::result_by, crate::specs::Code::Stepping::cells_by))]
     pub fn step(&self, here: RunState, stack: &mut [u32]) -> ControlFlow<(Exit, u32), RunState>
         requires { PlainStepReady self.now.image.now self.now.capture.now self.now.sizes self.now.finals self.now.budget here stack.old }
