@@ -9,7 +9,8 @@ use native.Mathlib.Omega.{arith}
 use lib.Dec.{leb}
 use borrow.Author.Tests.{ltb-true, leb-true, leb-false, le-leb, lt-leb, lt-ltb, le-ltb, eq-eqb, ne_eqb}
 use Rattle.grammar.specs.declared.ByteRange.{ByteRange}
-use Rattle.grammar.specs.declared.ByteRange.TheVariants.{Between, Nothing}
+use Rattle.std.specs.Prelude.{Option, Some, None}
+use Rattle.grammar.proofs.Matches.{between}
 use Rattle.grammar.specs.Grammar.{rules, expression, range_of}
 use Rattle.grammar.specs.Parsing.{in_range}
 use Rattle.builder.specs.Classes.{cuts_at, cut_from, cut, class_of, class_count, class_in}
@@ -32,11 +33,11 @@ unfolding cut
 cut_of_rule gs k v h q = cut_there (rules gs) 0 k k v gs (zero-add k) h q
 
 -- a range in order cuts at its first byte and after its last
-cuts_low : (b c : ℕ) → b ≤ c → cuts_at (Between b c) b ≡ true
+cuts_low : (b c : ℕ) → b ≤ c → cuts_at (between b c) b ≡ true
 unfolding cuts_at
 cuts_low b c h = rw (eq-eqb b b refl) (le-leb b c h)
 
-cuts_high : (b c : ℕ) → b ≤ c → cuts_at (Between b c) (c + 1) ≡ true
+cuts_high : (b c : ℕ) → b ≤ c → cuts_at (between b c) (c + 1) ≡ true
 unfolding cuts_at
 cuts_high b c h = rw (ne_eqb b (c + 1) (λ e. omega arith), eq-eqb (c + 1) (c + 1) refl) (le-leb b c h)
 
@@ -71,7 +72,7 @@ byte_class_below gs v h =
     omega arith
 
 -- A RANGE by classes
-module _ (gs : List ℕ) (k b c : ℕ) (there : k < rules gs) (is : range_of (expression gs k) ≡ Between b c) (order : b ≤ c) where
+module _ (gs : List ℕ) (k b c : ℕ) (there : k < rules gs) (is : range_of (expression gs k) ≡ between b c) (order : b ≤ c) where
   low_end : (v : ℕ) → leb (class_of gs b) (class_of gs v) ≡ leb b v
   low_end v = go (leb b v) refl
     where
@@ -80,7 +81,7 @@ module _ (gs : List ℕ) (k b c : ℕ) (there : k < rules gs) (is : range_of (ex
       go false e =
           lt-leb _ _
           (class_apart gs v b (leb-false b v e)
-          (cut_of_rule gs k b there (subst (λ (x : ByteRange). cuts_at x b ≡ true) (sym is) (cuts_low b c order))))
+          (cut_of_rule gs k b there (subst (λ (x : Option ByteRange). cuts_at x b ≡ true) (sym is) (cuts_low b c order))))
 
   high_end : (v : ℕ) → leb (class_of gs v) (class_of gs c) ≡ leb v c
   high_end v = go (leb v c) refl
@@ -88,7 +89,7 @@ module _ (gs : List ℕ) (k b c : ℕ) (there : k < rules gs) (is : range_of (ex
       over : class_of gs c < class_of gs (c + 1)
       over =
           class_apart gs c (c + 1) (omega arith)
-          (cut_of_rule gs k (c + 1) there (subst (λ (x : ByteRange). cuts_at x (c + 1) ≡ true) (sym is) (cuts_high b c order)))
+          (cut_of_rule gs k (c + 1) there (subst (λ (x : Option ByteRange). cuts_at x (c + 1) ≡ true) (sym is) (cuts_high b c order)))
 
       go : (t : Bool) → leb v c ≡ t → leb (class_of gs v) (class_of gs c) ≡ t
       go true e = le-leb _ _ (class_monotone gs v c (leb-true v c e))
@@ -106,7 +107,7 @@ unfolding class_in
 class_in_none gs b c v h = rw (lt-leb b c h) (sym (none_between b c v h))
 
 pub class_in_range :
-    (gs : List ℕ) (k b c : ℕ) → k < rules gs → range_of (expression gs k) ≡ Between b c → (v : ℕ) →
+    (gs : List ℕ) (k b c : ℕ) → k < rules gs → range_of (expression gs k) ≡ between b c → (v : ℕ) →
     class_in gs b c (class_of gs v) ≡ in_range b c v
 class_in_range gs k b c there is v = go (dec_le b c)
   where
@@ -121,16 +122,16 @@ pub inside_byte :
 unfolding class_inside matches
 inside_byte gs k v there h = go (range_of (expression gs k)) refl
   where
-    go : (x : ByteRange) → range_of (expression gs k) ≡ x → class_inside gs x (class_of gs v) ≡ matches x v
-    go Nothing e = refl
-    go (Between b c) e = rw (lt-ltb _ _ (byte_class_below gs v h)) (class_in_range gs k b c there e v)
+    go : (x : Option ByteRange) → range_of (expression gs k) ≡ x → class_inside gs x (class_of gs v) ≡ matches x v
+    go None e = refl
+    go (Some r) e = rw (lt-ltb _ _ (byte_class_below gs v h)) (class_in_range gs k r.low r.high there e v)
 
-pub inside_below : (gs : List ℕ) (x : ByteRange) (k : ℕ) → class_inside gs x k ≡ true → k < class_count gs
+pub inside_below : (gs : List ℕ) (x : Option ByteRange) (k : ℕ) → class_inside gs x k ≡ true → k < class_count gs
 unfolding class_inside
-inside_below gs Nothing k e = absurd (let z : ◌≡◌ {A = ℕ} 0 1 = cc in omega arith)
-inside_below gs (Between b c) k e = ltb-true k (class_count gs) (both_true _ (class_in gs b c k) e).0
+inside_below gs None k e = absurd (let z : ◌≡◌ {A = ℕ} 0 1 = cc in omega arith)
+inside_below gs (Some r) k e = ltb-true k (class_count gs) (both_true _ (class_in gs r.low r.high k) e).0
 
-pub inside_marker : (gs : List ℕ) (x : ByteRange) (k : ℕ) → class_count gs ≤ k → class_inside gs x k ≡ false
+pub inside_marker : (gs : List ℕ) (x : Option ByteRange) (k : ℕ) → class_count gs ≤ k → class_inside gs x k ≡ false
 unfolding class_inside
-inside_marker gs Nothing k h = refl
-inside_marker gs (Between b c) k h = ap (λ (t : Bool). t && class_in gs b c k) (le-ltb k (class_count gs) h)
+inside_marker gs None k h = refl
+inside_marker gs (Some r) k h = ap (λ (t : Bool). t && class_in gs r.low r.high k) (le-ltb k (class_count gs) h)

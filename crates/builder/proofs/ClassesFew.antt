@@ -7,7 +7,7 @@ use native.Mathlib.Omega.{arith}
 use lib.Dec.{leb, eqb}
 use borrow.Author.Tests.{eqb-true, ne_eqb}
 use Rattle.grammar.specs.declared.ByteRange.{ByteRange}
-use Rattle.grammar.specs.declared.ByteRange.TheVariants.{Between, Nothing}
+use Rattle.std.specs.Prelude.{Option, Some, None}
 use Rattle.grammar.specs.Grammar.{max_rules, rules, expression, range_of}
 use Rattle.builder.specs.Classes.{cuts_at, cut_from, cut, class_of, class_count}
 
@@ -74,20 +74,20 @@ counted_once b (suc v) = go (eqb b (suc v)) refl (counted_once b v)
 none_most : (f : ℕ → Bool) (n : ℕ) → ((u : ℕ) → f u ≡ false) → (v : ℕ) → counted f v ≤ n
 none_most f n e v = omega (arith, counted_none f e v)
 
-cuts_most : (x : ByteRange) (v : ℕ) → counted (cuts_at x) v ≤ 2
+cuts_most : (x : Option ByteRange) (v : ℕ) → counted (cuts_at x) v ≤ 2
 unfolding cuts_at
-cuts_most Nothing v = none_most (cuts_at Nothing) 2 (λ u. refl) v
-cuts_most (Between b c) v =
-    let l : counted (cuts_at (Between b c)) v ≤ counted (eqb b) v + counted (eqb (c + 1)) v =
-    counted_or (eqb b) (eqb (c + 1)) (cuts_at (Between b c)) (λ u. bit_or_and (eqb b u) (eqb (c + 1) u) (leb b c)) v
+cuts_most None v = none_most (cuts_at None) 2 (λ u. refl) v
+cuts_most (Some r) v =
+    let l : counted (cuts_at (Some r)) v ≤ counted (eqb r.low) v + counted (eqb (r.high + 1)) v =
+    counted_or (eqb r.low) (eqb (r.high + 1)) (cuts_at (Some r)) (λ u. bit_or_and (eqb r.low u) (eqb (r.high + 1) u) (leb r.low r.high)) v
     in
-    omega (arith, counted_once b v, counted_once (c + 1) v)
+    omega (arith, counted_once r.low v, counted_once (r.high + 1) v)
 
 cut_most : (n k : ℕ) (gs : List ℕ) (v : ℕ) → counted (cut_from n k gs) v ≤ 2 * n
 unfolding cut_from
 cut_most zero k gs v = none_most (cut_from zero k gs) 0 (λ u. refl) v
 cut_most (suc n) k gs v =
-    let x : ByteRange = range_of (expression gs k) in
+    let x : Option ByteRange = range_of (expression gs k) in
     let l : counted (cut_from (suc n) k gs) v ≤ counted (cuts_at x) v + counted (cut_from n (suc k) gs) v =
     counted_or (cuts_at x) (cut_from n (suc k) gs) (cut_from (suc n) k gs) (λ u. bit_or (cuts_at x u) (cut_from n (suc k) gs u)) v
     in

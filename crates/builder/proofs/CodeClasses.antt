@@ -1,8 +1,8 @@
 -- The pass over the marks of the byte values: the class of the next value, and bounds on classes and on the image's rules. Assumes nothing.
-use mathlib.Core.Path.{◌≡◌, refl, ap, ◌∙◌}
+use mathlib.Core.Path.{◌≡◌, refl, ap, subst, ◌∙◌}
 use mathlib.Core.Bool.{Bool, true, false, cond}
 use mathlib.Core.List.{List}
-use Prim.Native.Nat.{ℕ, zero, suc, ◌+◌, ◌*◌, ◌<◌, ◌≤◌}
+use Prim.Native.Nat.{ℕ, zero, suc, ◌+◌, ◌-◌, ◌*◌, ◌<◌, ◌≤◌}
 use native.Mathlib.Nat.{mul-le-mul}
 use native.Mathlib.Numerals.{add-one}
 use native.Mathlib.Omega.{arith}
@@ -14,8 +14,8 @@ use Rattle.image.specs.Image.{machine}
 use Rattle.grammar.specs.Grammar.{max_rules, grammar_refusal}
 use Rattle.builder.specs.Classes.{cut, class_of, class_count}
 use Rattle.builder.specs.Table.{state_count}
-use Rattle.builder.specs.Image.{symbols_of, built_rules, built_length}
-use Rattle.builder.specs.Code.Building.{plan_of, Short, CellsAre}
+use Rattle.builder.specs.Image.{symbols_of, built_rules}
+use Rattle.builder.specs.Code.Building.{CellsAre}
 use Rattle.builder.specs.Code.Marking.{MarksCuts}
 use Rattle.grammar.proofs.GrammarGood.{good_grammar}
 use Rattle.builder.proofs.ClassesFew.{class_count_most}
@@ -38,18 +38,23 @@ unfolding class_of
 class_within gs zero = omega arith
 class_within gs (suc v) = omega (arith, class_within gs v, one_or_none (cut gs (suc v)))
 
--- the count after one more value, by its mark; it is a byte
-module _ (gs ms : List ℕ) (marks : MarksCuts gs ms) (class v : ℕ) (is : class ≡ class_of gs v) (more : v < 255) where
-  pub class_next : class + byte ms (v + 1) ≡ class_of gs (v + 1)
-  class_next = omega (arith, marks.mark (v + 1) (omega arith), class_step gs v)
+-- the count with value v's mark; it is a byte
+module _ (gs ms : List ℕ) (marks : MarksCuts gs ms) (class v : ℕ) (is : class ≡ class_of gs (v - 1)) (least : 1 ≤ v) (more : v < 256) where
+  pub class_next : class + byte ms v ≡ class_of gs v
+  class_next =
+      let one : v - 1 + 1 ≡ v = omega arith in
+      let step : class_of gs v ≡ class_of gs (v - 1) + cond (cut gs v) 1 0 =
+      subst (λ (u : ℕ). class_of gs u ≡ class_of gs (v - 1) + cond (cut gs u) 1 0) one (class_step gs (v - 1))
+      in
+      omega (arith, marks.mark v more, step)
 
-  pub next_fits : class + byte ms (v + 1) < 256
-  next_fits = omega (arith, class_next, class_within gs (v + 1))
+  pub next_fits : class + byte ms v < 256
+  next_fits = omega (arith, class_next, class_within gs v)
 
-pub classes_are : (gs : List ℕ) (class v : ℕ) → class ≡ class_of gs v → 255 ≤ v → v ≤ 255 → class + 1 ≡ class_count gs
+pub classes_are : (gs : List ℕ) (class v : ℕ) → class ≡ class_of gs (v - 1) → v ≡ 256 → class + 1 ≡ class_count gs
 unfolding class_count
-classes_are gs class v e h l =
-    let last : v ≡ 255 = omega arith in
+classes_are gs class v e h =
+    let last : v - 1 ≡ 255 = omega arith in
     ap (λ (n : ℕ). n + 1) (e ∙ ap (class_of gs) last)
 
 pub symbols_some : (gs : List ℕ) → 0 < symbols_of gs
@@ -88,16 +93,9 @@ count_most gs good = product_most gs good (class_count gs) (symbols_of gs) refl 
 cells_most : (places g : ℕ) → places ≤ Format.max_places → g ≤ 63 → state_count * places * g ≤ state_count * Format.max_places * 63
 cells_most places g h l = let p : state_count * places ≤ state_count * Format.max_places = omega arith in mul-le-mul p l
 
-pub cells_fit : (gs : List ℕ) (n g : ℕ) → Short gs n → g ≡ symbols_of gs → state_count * (n + 2) * g ≤ 20644155
-cells_fit gs n g w e = cells_most (n + 2) g (omega (arith, w.fits)) (omega (arith, symbols_most gs w.good))
+pub cells_fit : (gs : List ℕ) → (grammar_refusal gs).number ≡ 0 → (n g : ℕ) → n ≤ Format.max_capture → g ≡ symbols_of gs → state_count * (n + 2) * g ≤ 20644155
+cells_fit gs good n g w e = cells_most (n + 2) g (omega (arith, w)) (omega (arith, symbols_most gs good))
 
 pub cells_told : (gs : List ℕ) (n g : ℕ) → g ≡ symbols_of gs → CellsAre gs n (state_count * (n + 2) * g)
 unfolding how_many machine
 cells_told gs n g e how cs l = rw (built_states how gs, built_symbols how gs, e, l)
-
--- THE PLAN, from its parts
-pub planned :
-    (gs : List ℕ) (n size long : ℕ) → n ≡ class_count gs → size ≡ built_rules gs → long ≡ Format.rules_offset + 4 * size →
-    record { classes = n; count = size; long = long } ≡ plan_of gs
-unfolding plan_of built_length
-planned gs n size long e f g = rw (e, g, f)

@@ -13,10 +13,11 @@ use borrow.Author.Tests.{eq-eqb, ne_eqb, le-leb, lt-leb}
 use Rattle.image.specs.Format
 use Rattle.codec.specs.Bytes.{byte}
 use Rattle.grammar.specs.declared.ByteRange.{ByteRange}
-use Rattle.grammar.specs.declared.ByteRange.TheVariants.{Between, Nothing}
+use Rattle.std.specs.Prelude.{Option, None}
+use Rattle.grammar.proofs.Matches.{between}
 use Rattle.grammar.specs.Grammar.{rules, expression, range_of}
 use Rattle.builder.specs.Classes.{cuts_at, cut_from, cut}
-use Rattle.builder.specs.Code.Marking.{MarksRange, MarksCuts, Unmarked}
+use Rattle.builder.specs.Code.Marking.{MarksRange, MarksCuts}
 
 -- one test after another, or both together
 marks_either : (s t : Bool) (m : ℕ) → cond (s || t) 1 m ≡ cond t 1 (cond s 1 m)
@@ -33,11 +34,11 @@ mark_set ms i v h = go (ℕ_discrete i v)
     go (no n) = rw (ne_eqb i v n) (get_or-set_other ms i v 1 0 (λ e. n (sym e)))
 
 -- ONE RANGE: a rule that is none, one that is not in order, one to the last byte value, and any other
-pub marks_none : (ms : List ℕ) (r : ByteRange) → r ≡ Nothing → MarksRange r ms ms
+pub marks_none : (ms : List ℕ) (r : Option ByteRange) → r ≡ None → MarksRange r ms ms
 unfolding cuts_at
 marks_none ms r e = record { mark = λ v h. rw e }
 
-module _ (ms : List ℕ) (r : ByteRange) (b c : ℕ) (is : r ≡ Between b c) where
+module _ (ms : List ℕ) (r : Option ByteRange) (b c : ℕ) (is : r ≡ between b c) where
   pub marks_inverted : c < b → MarksRange r ms ms
   unfolding cuts_at
   marks_inverted l = record { mark = λ v h. rw (is, lt-leb b c l, and-false (eqb b v || eqb (c + 1) v)) }
@@ -67,9 +68,14 @@ pub record Marking (gs ms : List ℕ) (k : ℕ) : Type 0 where
   pub long : length ms ≡ Format.map_length
   pub left : (v : ℕ) → v < Format.map_length → cond (cut gs v) 1 0 ≡ cond (cut_from (rules gs - k) k gs v) 1 (byte ms v)
 
-pub marking_start : (gs ms : List ℕ) → Unmarked ms → Marking gs ms 0
+-- a new array has no mark
+pub marking_start : (gs : List ℕ) → Marking gs (replicate Format.map_length 0) 0
 unfolding cut
-marking_start gs ms u = record { long = u.long; left = λ v h. rw (sub-zero (rules gs), u.unset v h) }
+marking_start gs =
+    record {
+      long = length-replicate {A = ℕ} Format.map_length 0;
+      left = λ v h. rw (sub-zero (rules gs), get_or-replicate {A = ℕ} Format.map_length v 0 0 h) refl;
+    }
 
 from_rule : (n k : ℕ) (gs : List ℕ) (v m : ℕ) →
     cond (cut_from (suc n) k gs v) 1 m ≡ cond (cut_from n (suc k) gs v) 1 (cond (cuts_at (range_of (expression gs k)) v) 1 m)
@@ -82,14 +88,14 @@ from_none k gs v m = refl
 
 module _ (gs ms : List ℕ) (k : ℕ) (w : Marking gs ms k) where
   pub marking_next :
-      (ns : List ℕ) (r : ByteRange) → k < rules gs → r ≡ range_of (expression gs k) → MarksRange r ms ns → length ns ≡ length ms → Marking gs ns (k + 1)
+      (ns : List ℕ) (r : Option ByteRange) → k < rules gs → r ≡ range_of (expression gs k) → MarksRange r ms ns → length ns ≡ length ms → Marking gs ns (k + 1)
   marking_next ns r more is marks kept = record { long = kept ∙ w.long; left = next }
     where
       next : (v : ℕ) → v < Format.map_length → cond (cut gs v) 1 0 ≡ cond (cut_from (rules gs - (k + 1)) (k + 1) gs v) 1 (byte ns v)
       next v h =
           let one_more : rules gs - k ≡ suc (rules gs - (k + 1)) = omega arith in
           let following : suc k ≡ k + 1 = omega arith in
-          let here : cond (cuts_at (range_of (expression gs k)) v) 1 (byte ms v) ≡ byte ns v = sym (marks.mark v h ∙ ap (λ (x : ByteRange). cond (cuts_at x v) 1 (byte ms v)) is) in
+          let here : cond (cuts_at (range_of (expression gs k)) v) 1 (byte ms v) ≡ byte ns v = sym (marks.mark v h ∙ ap (λ (x : Option ByteRange). cond (cuts_at x v) 1 (byte ms v)) is) in
           w.left v h ∙ ap (λ (n : ℕ). cond (cut_from n k gs v) 1 (byte ms v)) one_more ∙ from_rule (rules gs - (k + 1)) k gs v (byte ms v)
           ∙ ap (cond (cut_from (rules gs - (k + 1)) (suc k) gs v) 1) here
           ∙ ap (λ (j : ℕ). cond (cut_from (rules gs - (k + 1)) j gs v) 1 (byte ns v)) following
@@ -100,10 +106,6 @@ module _ (gs ms : List ℕ) (k : ℕ) (w : Marking gs ms k) where
       record {
         mark = λ v l. sym (w.left v l ∙ ap (λ (n : ℕ). cond (cut_from n k gs v) 1 (byte ms v)) nothing ∙ from_none k gs v (byte ms v));
       }
-
--- a new array has no mark
-pub unmarked : Unmarked (replicate Format.map_length 0)
-unmarked = record { long = length-replicate {A = ℕ} Format.map_length 0; unset = λ v h. get_or-replicate {A = ℕ} Format.map_length v 0 0 h }
 
 -- what mark_range leaves, case by case
 pub ruleset mark_laws = (marks_none, marks_inverted, marks_both, marks_first)

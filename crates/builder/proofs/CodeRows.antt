@@ -1,18 +1,18 @@
 -- The rule that a state, a class and a symbol select, from the rows of the table. Assumes nothing.
 use mathlib.Core.Path.{◌≡◌, refl, sym, ap, subst, ◌∙◌}
-use mathlib.Core.Bool.{Bool, true, false, cond}
+use mathlib.Core.Bool.{Bool, true}
 use mathlib.Core.List.{List}
-use Prim.Native.Nat.{ℕ, zero, suc, ◌+◌, ◌*◌, ◌-◌, ◌/◌, ◌%◌, ◌<◌, ◌≤◌}
+use mathlib.Core.Logic.{◌⊎◌, inl, inr}
+use Prim.Native.Nat.{ℕ, zero, suc, ◌/◌, ◌%◌, ◌<◌, ◌≤◌}
 use native.Mathlib.Omega.{arith}
 use lib.Dec.{eqb}
 use borrow.Author.Tests.{ne_eqb}
-use Rattle.codec.specs.Bytes.{byte}
 use Rattle.image.specs.Image.{Rule}
 use Rattle.grammar.specs.declared.Expression.{Expression}
 use Rattle.grammar.specs.declared.Expression.TheVariants.{Sequence, Choice, Not, Empty, Range}
 use Rattle.grammar.specs.declared.ByteRange.{ByteRange}
-use Rattle.grammar.specs.declared.ByteRange.TheVariants.{Between, Nothing}
-use Rattle.grammar.specs.Grammar.{max_rules, kind_sequence, kind_choice, kind_not, kind_empty, rules, expression, expression_by, range_of, PartsBelow, kind_of, b_of, c_of, grammar_refusal}
+use Rattle.std.specs.Prelude.{Option, Some, None, IfSome}
+use Rattle.grammar.specs.Grammar.{max_rules, rules, expression, range_of, PartsBelow, grammar_refusal}
 use Rattle.builder.specs.declared.Matching.{Matching}
 use Rattle.builder.specs.Classes.{class_count, class_in}
 use Rattle.builder.specs.Table.{state_work, state_ok, state_fail, no_rule, class_inside, Row, row, rows, rows_at, unruled, by_state, select, row_zero, made}
@@ -40,49 +40,37 @@ pub parts_of : {e x : Expression} → PartsBelow max_rules e → e ≡ x → Par
 parts_of p q = subst (PartsBelow max_rules) q p
 
 -- A CLASS IN A RANGE, by the class map of the image; the range's ends are bytes
-EndsBytes : ByteRange → Type 0
-EndsBytes Nothing = Unit {0}
-EndsBytes (Between b c) = (b < 256) × (c < 256)
+abbrev EndsBytes : Option ByteRange → Type 0
+EndsBytes x = IfSome x (λ r. (r.low < 256) × (r.high < 256))
 
-ends_bytes : (gs : List ℕ) (k : ℕ) → ((i : ℕ) → byte gs i < 256) → EndsBytes (range_of (expression gs k))
-unfolding EndsBytes range_of expression expression_by b_of c_of
-ends_bytes gs k bytes =
-    go (eqb (kind_of gs k) kind_sequence) (eqb (kind_of gs k) kind_choice) (eqb (kind_of gs k) kind_not) (eqb (kind_of gs k) kind_empty)
-  where
-    b : ℕ
-    b = byte gs (4 * k + 1)
-
-    c : ℕ
-    c = byte gs (4 * k + 2)
-
-    go :
-        (s t u v : Bool) →
-        EndsBytes (range_of (cond s (Sequence b c) (cond t (Choice b c) (cond u (Not b) (cond v Empty (Range b c))))))
-    go true t u v = tt
-    go false true u v = tt
-    go false false true v = tt
-    go false false false true = tt
-    go false false false false = (bytes (4 * k + 1), bytes (4 * k + 2))
-
-inside_is : (gs bs : List ℕ) (n : ℕ) → RowsReady gs bs n → (x : ByteRange) → EndsBytes x → (k : ℕ) → inside_by bs n x k ≡ class_inside gs x k
-unfolding EndsBytes inside_by class_inside class_between class_in
-inside_is gs bs n w Nothing h k = refl
-inside_is gs bs n w (Between b c) h k = simp (w.classes_are, w.map b h.0, w.map c h.1)
+inside_is : (gs bs : List ℕ) (n : ℕ) → RowsReady gs bs n → (x : Option ByteRange) → EndsBytes x → (k : ℕ) → inside_by bs n x k ≡ class_inside gs x k
+unfolding inside_by class_inside class_between class_in
+inside_is gs bs n w None h k = refl
+inside_is gs bs n w (Some r) h k = simp (w.classes_are, w.map r.low h.0, w.map r.high h.1)
 
 -- a symbol that has no rule in work, ok and fail has none in any state
 pub never : (p : ℕ) → no_rule ≡ by_state p (row no_rule no_rule no_rule)
 never = each_state (λ (r : Rule). no_rule ≡ r) refl (row no_rule no_rule no_rule) (record { work = refl; ok = refl; fail = refl })
 
+-- what is neither a sequence nor a choice has no rule of a second symbol
+pub no_second :
+    (e : Expression) → ((b : ℕ) × (e ≡ Not b)) ⊎ ((e ≡ Empty) ⊎ ((b : ℕ) × (c : ℕ) × (e ≡ Range b c))) →
+    (p k : ℕ) (inside : Bool) → no_rule ≡ select (rows e k inside) true p
+unfolding rows select
+no_second e (inl (b, is)) p k inside = rw is (never p)
+no_second e (inr (inl is)) p k inside = rw is (never p)
+no_second e (inr (inr (b, c, is))) p k inside = rw is (never p)
+
 -- THE RULE OF RULE K that a symbol and a state select, from what was found of rule k
 pub rule_is :
-    (gs bs : List ℕ) (n k x : ℕ) (s : Bool) (p : ℕ) (r : Rule) (e : Expression) (y : ByteRange) (inside : Bool) → RowsReady gs bs n →
-    ((i : ℕ) → byte gs i < 256) → e ≡ expression gs k → y ≡ range_of e → inside ≡ inside_by bs n y x → r ≡ select (rows e k inside) s p →
+    (gs bs : List ℕ) (n k x : ℕ) (s : Bool) (p : ℕ) (r : Rule) (e : Expression) (y : Option ByteRange) (inside : Bool) → RowsReady gs bs n →
+    EndsBytes y → e ≡ expression gs k → y ≡ range_of e → inside ≡ inside_by bs n y x → r ≡ select (rows e k inside) s p →
     r ≡ select (rows_at gs k x) s p
 unfolding rows_at
-rule_is gs bs n k x s p r e y inside w bytes is range tells picks =
+rule_is gs bs n k x s p r e y inside w ends is range tells picks =
     let here : range_of (expression gs k) ≡ y = ap range_of (sym is) ∙ sym range in
     let same : inside ≡ class_inside gs (range_of (expression gs k)) x =
-    tells ∙ ap (λ (z : ByteRange). inside_by bs n z x) (sym here) ∙ inside_is gs bs n w (range_of (expression gs k)) (ends_bytes gs k bytes) x
+    tells ∙ inside_is gs bs n w y ends x ∙ ap (λ (z : Option ByteRange). class_inside gs z x) (sym here)
     in
     picks ∙ ap (λ (z : Expression). select (rows z k inside) s p) is ∙ ap (λ (t : Bool). select (rows (expression gs k) k t) s p) same
 
@@ -92,7 +80,7 @@ pub zero_is :
 unfolding made
 zero_is how gs n p x a r e z q = q ∙ ap (λ (m : ℕ). row_zero how m p x) e ∙ ap (made how gs p x) (sym z)
 
-made_suc : (how : Matching) (gs : List ℕ) (p x a : ℕ) → select (rows_at gs (a / 2) x) (eqb (a % 2) 1) p ≡ made how gs p x (suc a)
+pub made_suc : (how : Matching) (gs : List ℕ) (p x a : ℕ) → select (rows_at gs (a / 2) x) (eqb (a % 2) 1) p ≡ made how gs p x (suc a)
 unfolding made
 made_suc how gs p x a = refl
 
@@ -112,10 +100,3 @@ pub unruled_is :
 unfolding made select
 unruled_is how gs p x zero r t some is h q = absurd (some refl)
 unruled_is how gs p x (suc a) r t some is h q = q ∙ sym (none_there p _ (sym is ∙ h))
-
-pub symbol_is :
-    (how : Matching) (gs : List ℕ) (p x a : ℕ) (r : Rule) → (a ≡ 0 → ⊥) → r ≡ select (rows_at gs ((a - 1) / 2) x) (eqb ((a - 1) % 2) 1) p → r ≡ made how gs p x a
-symbol_is how gs p x a r some q = q ∙ made_suc how gs p x (a - 1) ∙ ap (made how gs p x) (after a some)
-  where
-    after : (a : ℕ) → (a ≡ 0 → ⊥) → suc (a - 1) ≡ a
-    after a h = omega arith

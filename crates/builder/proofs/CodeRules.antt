@@ -1,5 +1,5 @@
 -- The loop that writes the rules: the rules from index i on are still to be written. Assumes nothing.
-use mathlib.Core.Path.{◌≡◌, refl, sym, ap, ◌∙◌}
+use mathlib.Core.Path.{◌≡◌, refl, sym, ap, subst, ◌∙◌}
 use mathlib.Core.List.{List, [], ◌∷◌, ◌++◌, append_assoc, append-nil}
 use Prim.Native.Nat.{ℕ, suc, ◌+◌, ◌*◌, ◌-◌, ◌/◌, ◌%◌, ◌<◌, ◌≤◌}
 use native.Mathlib.Nat.{sub-zero}
@@ -9,20 +9,21 @@ use lib.ListN.{length, take, get_or}
 use lib.Seq.{take_all, take-take, take-append-le, length-take-le, get_or-take}
 use Rattle.codec.specs.Bytes.{written}
 use Rattle.codec.proofs.Writes.{written_front}
-use Rattle.image.specs.declared.Selector.{Selector}
 use Rattle.image.specs.Format
 use Rattle.image.specs.Encoding.{header, rule_bytes, rules_bytes, encode}
 use Rattle.image.proofs.Encoded.{header_length}
-use Rattle.image.specs.Code.Counting.{Selects}
+use Rattle.image.specs.Code.Counting.{selector, Selects}
 use Rattle.image.proofs.CountingOn.{state_of, class_of, symbol_of}
 use Rattle.builder.specs.declared.Matching.{Matching}
-use Rattle.builder.specs.declared.RuleBytes.{RuleBytes}
-use Rattle.grammar.specs.Grammar.{grammar_refusal}
+use Rattle.builder.specs.declared.ImageRule.{ImageRule}
+use Rattle.builder.specs.declared.RulePair.{RulePair}
+use Rattle.grammar.specs.Grammar.{rules}
 use Rattle.builder.specs.Classes.{class_count}
-use Rattle.builder.specs.Table.{made}
+use Rattle.builder.specs.Table.{state_count, made}
 use Rattle.builder.specs.Image.{symbols_of, built_rules, built_length, rules_made, map_made, parts, built}
-use Rattle.builder.specs.Code.Writing.{rule_of, RowsReady, with_rules}
+use Rattle.builder.specs.Code.Writing.{rule_of, RowsReady, MadePair, with_rule, with_rules}
 use Rattle.builder.proofs.PartsMade.{made_at, rules_length}
+use Rattle.builder.proofs.CodePairs.{place, place_below, place_selects, first_there, second_there}
 use Rattle.builder.proofs.CodeWriting.{map_read}
 
 -- the bytes of the rules from index i on
@@ -38,7 +39,7 @@ rules_none : (how : Matching) (i : ℕ) (gs : List ℕ) → made_bytes how 0 i g
 unfolding rules_made rules_bytes
 rules_none how i gs = refl
 
-bytes_are : (r : RuleBytes) → rule_bytes (rule_of r) ≡ r.kind ∷ r.state ∷ r.symbol ∷ r.direction ∷ []
+bytes_are : (r : ImageRule) → rule_bytes (rule_of r) ≡ r.kind ∷ r.state ∷ r.symbol ∷ r.direction ∷ []
 unfolding rule_bytes
 bytes_are r = refl
 
@@ -83,7 +84,7 @@ front_kept a b bytes o h l e =
     ∙ take-take Format.rules_offset o a h
 
 pub rules_next :
-    (how : Matching) (gs a b c : List ℕ) (i n g : ℕ) (r : RuleBytes) → RulesWritten how gs a b i → i < built_rules gs → n ≡ class_count gs → g ≡ symbols_of gs →
+    (how : Matching) (gs a b c : List ℕ) (i n g : ℕ) (r : ImageRule) → RulesWritten how gs a b i → i < built_rules gs → n ≡ class_count gs → g ≡ symbols_of gs →
     length c ≡ length b →
     c ≡ written b (Format.rules_offset + Format.rule_length * i) (r.kind ∷ r.state ∷ r.symbol ∷ r.direction ∷ []) →
     rule_of r ≡ made how gs (i / g / (n + 2)) (i / g % (n + 2)) (i % g) → RulesWritten how gs a c (i + 1)
@@ -118,17 +119,63 @@ rules_next how gs a b c i n g r w more en eg same put q =
           ∙ w.written;
     }
 
--- the rule that is selected is the one with the index
-pub selected :
-    (how : Matching) (gs : List ℕ) (s : Selector) (k g i : ℕ) (r : RuleBytes) → Selects s k g i →
-    rule_of r ≡ made how gs s.state s.class s.symbol → rule_of r ≡ made how gs (i / g / k) (i / g % k) (i % g)
-selected how gs s k g i r w q = rw (state_of s k g i w, class_of s k g i w, symbol_of s k g i w) q
+-- THE LOOPS over states, classes and rules: the next rule is that of a state, a class and a symbol
+pub record Next (how : Matching) (gs before now : List ℕ) (i p x a : ℕ) : Type 0 where
+  pub written : RulesWritten how gs before now i
+  pub at : i ≡ place gs p x a
+
+module _
+    {how : Matching} {gs before now : List ℕ} {i p x a : ℕ}
+    (w : Next how gs before now i p x a) (state : p < state_count) (class : x < class_count gs + 2) (symbol-there : a < symbols_of gs)
+  where
+    pub index_below : i < built_rules gs
+    index_below = omega (arith, w.at, place_below gs p x a state class symbol-there)
+
+    pub rule_room : Format.rules_offset + Format.rule_length * i + Format.rule_length ≤ length now
+    rule_room = omega (arith, index_below, w.written.long)
+
+    pub rule_next :
+        {after : List ℕ} (r : ImageRule) → length after ≡ length now → after ≡ with_rule now i r → rule_of r ≡ made how gs p x a → Next how gs before after (i + 1) p x (a + 1)
+    rule_next {after} r same put q =
+        let s : Selects (selector p x a) (class_count gs + 2) (symbols_of gs) i =
+        subst (λ (n : ℕ). Selects (selector p x a) (class_count gs + 2) (symbols_of gs) n) (sym w.at) (place_selects gs p x a state class symbol-there)
+        in
+        record {
+          written = rules_next how gs before now after i (class_count gs) (symbols_of gs) r w.written index_below refl refl same put
+              (rw (state_of (selector p x a) _ _ i s, class_of (selector p x a) _ _ i s, symbol_of (selector p x a) _ _ i s) q);
+          at = omega (arith, w.at);
+        }
+
+-- the two rules of a pair
+pub second_room :
+    {how : Matching} {gs before now : List ℕ} {i p x k : ℕ} (one : List ℕ) (w : Next how gs before now i p x (1 + 2 * k)) →
+    p < state_count → x < class_count gs + 2 → k < rules gs → length one ≡ length now →
+    Format.rules_offset + Format.rule_length * (i + 1) + Format.rule_length ≤ length one
+second_room {gs = gs} {p = p} {x = x} {k = k} one w state class there same =
+    omega (arith, w.at, w.written.long, place_below gs p x (1 + 2 * k + 1) state class (second_there gs k there))
+
+pub pair_next :
+    {how : Matching} {gs before now one two : List ℕ} {i p x k : ℕ} (w : Next how gs before now i p x (1 + 2 * k)) →
+    p < state_count → x < class_count gs + 2 → k < rules gs → (r : RulePair) → MadePair gs p x k r →
+    length one ≡ length now → one ≡ with_rule now i r.first → length two ≡ length one → two ≡ with_rule one (i + 1) r.second →
+    Next how gs before two (i + 2) p x (1 + 2 * (k + 1))
+pair_next {how} {gs} {before} {two = two} {i = i} {p = p} {x = x} {k = k} w state class there r made-pair same-one put-one same-two put-two =
+    let first : 1 + 2 * k ≡ suc (2 * k) = omega arith in
+    let second : 1 + 2 * k + 1 ≡ suc (suc (2 * k)) = omega arith in
+    let after-one =
+    rule_next w state class (first_there gs k there) r.first same-one put-one (made-pair.first how ∙ ap (made how gs p x) (sym first))
+    in
+    let after-two =
+    rule_next after-one state class (second_there gs k there) r.second same-two put-two (made-pair.second how ∙ ap (made how gs p x) (sym second))
+    in
+    let index : i + 1 + 1 ≡ i + 2 = omega arith in
+    let symbol-next : 1 + 2 * k + 1 + 1 ≡ 1 + 2 * (k + 1) = omega arith in
+    subst (λ (n : ℕ). Next how gs before two n p x (1 + 2 * (k + 1))) index (subst (Next how gs before two (i + 1 + 1) p x) symbol-next after-two)
 
 -- the class map stays while the rules are written
 pub ready_kept : (how : Matching) (gs a b : List ℕ) (n i : ℕ) → RowsReady gs a n → RulesWritten how gs a b i → RowsReady gs b n
 ready_kept how gs a b n i w r =
     record {
-      good = w.good;
       long = omega (arith, r.long);
       classes_are = w.classes_are;
       map =
@@ -140,10 +187,10 @@ ready_kept how gs a b n i w r =
 
 -- THE WHOLE IMAGE: the header, the class map, the rules
 pub ready_after :
-    (gs a b : List ℕ) (n : ℕ) → (grammar_refusal gs).number ≡ 0 → n ≡ class_count gs → Format.rules_offset ≤ length a → length b ≡ length a →
+    (gs a b : List ℕ) (n : ℕ) → n ≡ class_count gs → Format.rules_offset ≤ length a → length b ≡ length a →
     take Format.rules_offset b ≡ take Format.map_offset a ++ map_made Format.map_length 0 gs → RowsReady gs b n
-ready_after gs a b n good e h same q =
-    record { good = good; long = omega arith; classes_are = e; map = map_read gs a b (omega arith) q }
+ready_after gs a b n e h same q =
+    record { long = omega arith; classes_are = e; map = map_read gs a b (omega arith) q }
 
 pub image_whole :
     (how : Matching) (gs a b c d : List ℕ) (n k g : ℕ) → n ≡ built_rules gs → k ≡ class_count gs → g ≡ symbols_of gs → Format.map_offset ≤ length a →

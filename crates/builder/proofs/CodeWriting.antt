@@ -1,5 +1,5 @@
 -- Writing the header part after part, and the class map from the front: what is written so far, with what is left to write, is the whole. Assumes nothing.
-use mathlib.Core.Path.{◌≡◌, refl, sym, ap, ◌∙◌}
+use mathlib.Core.Path.{◌≡◌, refl, sym, ap, subst, ◌∙◌}
 use mathlib.Core.List.{List, [], ◌∷◌, ◌++◌, append-nil}
 use Prim.Native.Nat.{ℕ, suc, ◌+◌, ◌*◌, ◌-◌, ◌<◌, ◌≤◌}
 use native.Mathlib.Nat.{zero-add}
@@ -96,7 +96,7 @@ map_start gs a h =
 pub map_room : (gs a b : List ℕ) (class v : ℕ) → MapWritten gs (set a Format.map_offset 0) b class v → length b ≡ length a
 map_room gs a b class v w = w.long ∙ length-set a Format.map_offset 0
 
-pub map_next :
+map_next :
     (gs a b : List ℕ) (class v class' : ℕ) → MapWritten gs a b class v → Format.rules_offset ≤ length b → v < 255 → class' ≡ class_of gs (v + 1) →
     MapWritten gs a (set b (Format.map_offset + (v + 1)) class') class' (v + 1)
 map_next gs a b class v class' w h more e =
@@ -120,6 +120,17 @@ map_next gs a b class v class' w h more e =
           ∙ w.written);
       later = drop-set-lt Format.rules_offset b (Format.map_offset + (v + 1)) class' (omega arith) ∙ w.later;
     }
+
+-- value v's class is stored where those before it are
+pub map_more :
+    (gs a b : List ℕ) (class v class' : ℕ) → MapWritten gs a b class (v - 1) → Format.rules_offset ≤ length b → 1 ≤ v → v < 256 → class' ≡ class_of gs v →
+    MapWritten gs a (set b (Format.map_offset + v) class') class' (v + 1 - 1)
+map_more gs a b class v class' w h least more e =
+    let back : v - 1 + 1 ≡ v = omega arith in
+    let on : v - 1 + 1 ≡ v + 1 - 1 = omega arith in
+    subst (λ (n : ℕ). MapWritten gs a (set b (Format.map_offset + v) class') class' n) on
+    (subst (λ (n : ℕ). MapWritten gs a (set b (Format.map_offset + n) class') class' (v - 1 + 1)) back
+    (map_next gs a b class (v - 1) class' w h (omega arith) (e ∙ ap (class_of gs) (sym back))))
 
 map_filled :
     (gs a b : List ℕ) (class v : ℕ) → MapWritten gs (set a Format.map_offset 0) b class v → 255 ≤ v → take Format.rules_offset b ≡ take Format.map_offset a ++ map_made Format.map_length 0 gs

@@ -10,7 +10,7 @@ use native.Mathlib.Omega.{arith}
 use lib.Dec.{leb, eqb}
 use borrow.Author.Tests.{leb-true, le-leb, eqb-true, eq-eqb}
 use Rattle.machine.specs.Verdicts.{nil, cons}
-use Rattle.grammar.specs.declared.ByteRange.TheVariants.{Between}
+use Rattle.grammar.proofs.Matches.{between}
 use Rattle.grammar.specs.declared.Expression.{Expression}
 use Rattle.grammar.specs.declared.Expression.TheVariants.{Sequence, Choice, Not, Empty, Range}
 use Rattle.grammar.specs.Grammar.{rules, expression, range_of}
@@ -67,7 +67,7 @@ either_true : (a b : Bool) → (a || b) ≡ true → (a ≡ true) ⊎ (b ≡ tru
 either_true true b e = inl refl
 either_true false b e = inr e
 
-ends_at : (b c u : ℕ) → cuts_at (Between b c) u ≡ true → ((u ≡ b) ⊎ (u ≡ c + 1)) × (b ≤ c)
+ends_at : (b c u : ℕ) → cuts_at (between b c) u ≡ true → ((u ≡ b) ⊎ (u ≡ c + 1)) × (b ≤ c)
 unfolding cuts_at
 ends_at b c u e =
     let (ends, order) = both_true (eqb b u || eqb (c + 1) u) (leb b c) e in
@@ -77,7 +77,7 @@ ends_at b c u e =
     go (inl p) = inl (sym (eqb-true b u p))
     go (inr p) = inr (sym (eqb-true (c + 1) u p))
 
-cuts_end : (b c u : ℕ) → (u ≡ b) ⊎ (u ≡ c + 1) → b ≤ c → cuts_at (Between b c) u ≡ true
+cuts_end : (b c u : ℕ) → (u ≡ b) ⊎ (u ≡ c + 1) → b ≤ c → cuts_at (between b c) u ≡ true
 unfolding cuts_at
 cuts_end b c u end order = both_hold (eqb b u || eqb (c + 1) u) (leb b c) (go end) (le-leb b c order)
   where

@@ -1,13 +1,12 @@
 -- Byte classes of a grammar: bytes that no range tells apart. A class begins at each cut, the first byte of a range or the one after its last; a range that matches nothing has none. Assumes nothing: these are definitions.
-use Rattle.std.specs.Prelude.{Bool, false, ◌&&◌, ◌||◌, cond, List, ℕ, zero, suc, ◌+◌, leb, eqb}
+use Rattle.std.specs.Prelude.{Bool, false, ◌&&◌, ◌||◌, cond, List, ℕ, zero, suc, ◌+◌, leb, eqb, Option, Some, None}
 use Rattle.grammar.specs.declared.ByteRange.{ByteRange}
-use Rattle.grammar.specs.declared.ByteRange.TheVariants.{Between, Nothing}
 use Rattle.grammar.specs.Grammar.{rules, expression, range_of}
 
 -- whether a range cuts at v: at one of its two ends, if its first byte is not above its last
-unfoldable pub cuts_at : ByteRange → (v : ℕ) → Bool
-cuts_at Nothing v = false
-cuts_at (Between b c) v = (eqb b v || eqb (c + 1) v) && leb b c
+unfoldable pub cuts_at : Option ByteRange → (v : ℕ) → Bool
+cuts_at None v = false
+cuts_at (Some r) v = (eqb r.low v || eqb (r.high + 1) v) && leb r.low r.high
 
 -- whether a rule from k on cuts at v
 unfoldable pub cut_from : (left k : ℕ) → List ℕ → (v : ℕ) → Bool

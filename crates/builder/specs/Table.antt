@@ -1,9 +1,8 @@
 -- The table of a grammar's machine: its states and symbols, the six rules of each grammar rule, and the rule that a state, a class and a symbol select. Assumes nothing: these are definitions.
-use Rattle.std.specs.Prelude.{Bool, false, ◌&&◌, ◌||◌, cond, List, ℕ, zero, suc, ◌+◌, ◌*◌, ◌/◌, ◌%◌, ◌^◌, ltb, eqb}
+use Rattle.std.specs.Prelude.{Bool, false, ◌&&◌, ◌||◌, cond, List, ℕ, zero, suc, ◌+◌, ◌*◌, ◌/◌, ◌%◌, ◌^◌, ltb, eqb, Option, Some, None}
 use Rattle.image.specs.Format
 use Rattle.image.specs.Image.{Rule}
 use Rattle.grammar.specs.declared.ByteRange.{ByteRange}
-use Rattle.grammar.specs.declared.ByteRange.TheVariants.{Between, Nothing}
 use Rattle.grammar.specs.declared.Expression.{Expression}
 use Rattle.grammar.specs.declared.Expression.TheVariants.{Sequence, Choice, Not, Empty, Range}
 use Rattle.grammar.specs.Grammar.{expression, range_of}
@@ -124,9 +123,9 @@ row_zero how n p k =
     (cond (eqb p state_ok && ltb k n) (on_byte how) no_rule))
 
 -- whether a byte class, and no marker, is in a range
-unfoldable pub class_inside : List ℕ → ByteRange → (class : ℕ) → Bool
-class_inside gs Nothing k = false
-class_inside gs (Between b c) k = ltb k (class_count gs) && class_in gs b c k
+unfoldable pub class_inside : List ℕ → Option ByteRange → (class : ℕ) → Bool
+class_inside gs None k = false
+class_inside gs (Some r) k = ltb k (class_count gs) && class_in gs r.low r.high k
 
 -- the six rules of rule k for a class
 unfoldable pub rows_at : List ℕ → (k class : ℕ) → Rows

@@ -3,7 +3,7 @@ ghost use Rattle.std.specs.Prelude.{◌≡◌, ◌++◌, ◌+◌, ◌<◌, ◌�
 ghost use Rattle.image.specs.Format.{map_offset, map_length, rules_offset};
 ghost use Rattle.builder.specs.Classes.{class_count as class_count_of};
 ghost use Rattle.builder.specs.Image.{map_made};
-ghost use Rattle.builder.specs.Code.Marking.{MarksRange, MarksCuts, Unmarked};
+ghost use Rattle.builder.specs.Code.Marking.{MarksRange, MarksCuts};
 
 use grammar::ByteRange;
 use grammar::check::{RULE_BYTES, expression_of, range_of};
@@ -11,49 +11,40 @@ use image::format::{MAP_LENGTH, MAP_OFFSET};
 
 // Marks where a range begins, and the value after its last byte if there is one. A range with its low byte above its high byte has no mark.
 #[tactic(auto, using(crate::proofs::CodeMarks::mark_laws), unfolding(crate::specs::Classes::cuts_at))]
-fn mark_range(marks: &mut [u8], r: ByteRange)
-    requires { length marks.old ≡ map_length }
+fn mark_range(marks: &mut [u8; MAP_LENGTH], r: Option<ByteRange>)
     ensures { MarksRange r marks.old marks.new }
 {
-    let ByteRange::Between(b, c) = r else {
+    let Some(ByteRange { low, high }) = r else {
         return;
     };
-    if c < b {
+    if high < low {
         return;
     }
-    let first = b as usize;
-    marks[first] = 1;
-    if c < 255 {
-        let after = c as usize + 1;
-        marks[after] = 1;
+    marks[low as usize] = 1;
+    if high < 255 {
+        marks[high as usize + 1] = 1;
     }
 }
 
-// Marks the cuts of all ranges of a grammar. Each rule is looked at once, not once for each byte value.
-fn mark_cuts(grammar: &[u8], marks: &mut [u8])
-    requires { Unmarked marks.old }
-    ensures { MarksCuts grammar.now marks.new }
+// The cuts of all ranges of a grammar, marked: 1 where a class begins, else 0. Each rule is looked at once, not once for each byte value.
+fn marked_cuts(grammar: &[u8]) -> [u8; MAP_LENGTH]
+    ensures { MarksCuts grammar.now result }
 {
-    let count = grammar.len() / RULE_BYTES;
-    let mut k: usize = 0;
-    while k < count {
-        let r = range_of(expression_of(grammar, k));
-        mark_range(marks, r);
-        k += 1;
+    let mut marks = [0u8; MAP_LENGTH];
+    for k in 0..grammar.len() / RULE_BYTES {
+        mark_range(&mut marks, range_of(expression_of(grammar, k)));
     }
+    marks
 }
 
 // K, the count of classes.
 pub fn class_count(grammar: &[u8]) -> u32
     ensures { result ≡ class_count_of grammar.now }
 {
-    let mut marks = [0u8; MAP_LENGTH];
-    mark_cuts(grammar, &mut marks);
+    let marks = marked_cuts(grammar);
     let mut class: u32 = 0;
-    let mut v: usize = 0;
-    while v < 255 {
-        v += 1;
-        class += marks[v] as u32;
+    for v in 1..MAP_LENGTH {
+        class += u32::from(marks[v]);
     }
     class + 1
 }
@@ -65,15 +56,11 @@ pub fn write_map(grammar: &[u8], image: &mut [u8])
         ≡ take map_offset image.old ++ map_made map_length 0 grammar.now
         ++ drop rules_offset image.old }
 {
-    let mut marks = [0u8; MAP_LENGTH];
-    mark_cuts(grammar, &mut marks);
+    let marks = marked_cuts(grammar);
     let mut class: u8 = 0;
-    let mut v: usize = 0;
     image[MAP_OFFSET] = 0;
-    while v < 255 {
-        v += 1;
+    for v in 1..MAP_LENGTH {
         class += marks[v];
-        let at = MAP_OFFSET + v;
-        image[at] = class;
+        image[MAP_OFFSET + v] = class;
     }
 }

@@ -9,40 +9,26 @@ pub mod rows;
 ghost use Rattle.std.specs.Prelude.{◌≡◌};
 ghost use Rattle.builder.specs.Matching.{default_matching};
 
-use refusal::Refusal;
+pub use planning::Plan;
 
 // What of a capture a grammar must match for the built machine to accept: the whole of it, or a leading part (a prefix match).
-#[derive(Clone, Copy)]
+#[derive(Clone, Copy, Debug, PartialEq, Eq)]
 pub enum Matching {
     Whole,
     Leading,
 }
 
 // The choice where none is given.
+#[tactic(auto, unfolding(crate::specs::Matching::default_matching))]
 pub fn default_matching() -> Matching
     ensures { result ≡ default_matching }
 {
     Matching::Leading
 }
 
-// The answer of building: the image's length.
-#[derive(Clone, Copy)]
-pub enum Built {
-    Refused(Refusal),
-    Image(usize),
-}
-
-// What building needs of a grammar: the count of classes, of the image's rules, and the image's length.
-#[derive(Clone, Copy)]
-pub struct Plan {
-    pub classes: u32,
-    pub count: u32,
-    pub long: usize,
-}
-
 // A rule of the image, as its four bytes.
 #[derive(Clone, Copy)]
-pub struct RuleBytes {
+pub struct ImageRule {
     pub kind: u8,
     pub state: u8,
     pub symbol: u8,
@@ -52,6 +38,6 @@ pub struct RuleBytes {
 // The rules of a grammar rule's first and second symbol, in one state.
 #[derive(Clone, Copy)]
 pub struct RulePair {
-    pub first: RuleBytes,
-    pub second: RuleBytes,
+    pub first: ImageRule,
+    pub second: ImageRule,
 }

@@ -4,23 +4,22 @@ ghost use Rattle.grammar.specs.Grammar.{max_rules, PartsBelow};
 ghost use Rattle.builder.specs.Table.{push_first, to_second, pass_byte, pop_fail, row, rows, by_state, unruled as unruled_of, select as select_of, on_byte as on_byte_of, row_zero};
 ghost use Rattle.builder.specs.Code.Writing.{rule_of, Few, Picks};
 
-use crate::{Matching, RuleBytes, RulePair};
+use crate::{ImageRule, Matching, RulePair};
 use grammar::Expression;
 use image::format::{
     DIRECTION_RIGHT, DIRECTION_STAY, KIND_CHANGE, KIND_NONE, KIND_POP, KIND_PUSH, POP_RETURN,
     POP_STAY,
 };
 
-// The states.
-const START: u8 = 0;
-
-const WORK: u8 = 1;
-
-const OK: u8 = 2;
-
-const FAIL: u8 = 3;
-
-const DONE: u8 = 4;
+// The states of a built machine.
+#[derive(Clone, Copy, Debug, PartialEq, Eq)]
+pub enum State {
+    Start,
+    Work,
+    Ok,
+    Fail,
+    Done,
+}
 
 pub const STATES: u8 = 5;
 
@@ -28,114 +27,110 @@ pub const STATES: u8 = 5;
 pub const FINALS: u32 = 16;
 
 // The rules that do not depend on a grammar rule: none, and pops whose head stays or returns.
-pub const NO_RULE: RuleBytes = RuleBytes {
+pub const NO_RULE: ImageRule = ImageRule {
     kind: KIND_NONE,
     state: 0,
     symbol: 0,
     direction: 0,
 };
 
-const POP_OK: RuleBytes = RuleBytes {
+const POP_OK: ImageRule = ImageRule {
     kind: KIND_POP,
-    state: OK,
+    state: State::Ok as u8,
     symbol: 0,
     direction: POP_STAY,
 };
 
-const POP_FAIL: RuleBytes = RuleBytes {
+const POP_FAIL: ImageRule = ImageRule {
     kind: KIND_POP,
-    state: FAIL,
+    state: State::Fail as u8,
     symbol: 0,
     direction: POP_STAY,
 };
 
-const BACK_OK: RuleBytes = RuleBytes {
+const BACK_OK: ImageRule = ImageRule {
     kind: KIND_POP,
-    state: OK,
+    state: State::Ok as u8,
     symbol: 0,
     direction: POP_RETURN,
 };
 
-const BACK_FAIL: RuleBytes = RuleBytes {
+const BACK_FAIL: ImageRule = ImageRule {
     kind: KIND_POP,
-    state: FAIL,
+    state: State::Fail as u8,
     symbol: 0,
     direction: POP_RETURN,
 };
 
 // A push of a rule's first symbol.
-fn push(k: u8) -> RuleBytes
+fn push(k: u8) -> ImageRule
     requires { k < max_rules }
     ensures { rule_of result ≡ push_first k }
 {
-    let symbol = 2 * k + 1;
-    RuleBytes {
+    ImageRule {
         kind: KIND_PUSH,
-        state: WORK,
-        symbol,
+        state: State::Work as u8,
+        symbol: 2 * k + 1,
         direction: DIRECTION_STAY,
     }
 }
 
 // A change to a rule's second symbol.
-fn change(k: u8) -> RuleBytes
+fn change(k: u8) -> ImageRule
     requires { k < max_rules }
     ensures { rule_of result ≡ to_second k }
 {
-    let symbol = 2 * k + 2;
-    RuleBytes {
+    ImageRule {
         kind: KIND_CHANGE,
-        state: WORK,
-        symbol,
+        state: State::Work as u8,
+        symbol: 2 * k + 2,
         direction: DIRECTION_STAY,
     }
 }
 
 // A byte that is in the range is passed; any other, and a marker, fails.
-fn one_byte(k: u8, inside: bool) -> RuleBytes
+fn one_byte(k: u8, inside: bool) -> ImageRule
     requires { k < max_rules }
     ensures { rule_of result ≡ cond inside (pass_byte k) pop_fail }
 {
-    let symbol = 2 * k + 1;
     if inside {
-        return RuleBytes {
+        ImageRule {
             kind: KIND_CHANGE,
-            state: OK,
-            symbol,
+            state: State::Ok as u8,
+            symbol: 2 * k + 1,
             direction: DIRECTION_RIGHT,
-        };
+        }
+    } else {
+        POP_FAIL
     }
-    POP_FAIL
 }
 
 // Whether a grammar rule's symbols have no rule in a state: start and done.
+#[tactic(auto, unfolding(crate::specs::Table::unruled))]
 pub fn unruled(state: u32) -> bool
     ensures { result ≡ unruled_of state }
 {
-    if state < WORK as u32 {
-        return true;
-    }
-    (FAIL as u32) < state
+    state < State::Work as u32 || state > State::Fail as u32
 }
 
 // The rule of a state, of those for work, ok and fail.
-fn by_state(state: u32, work: RuleBytes, ok: RuleBytes, fail: RuleBytes) -> RuleBytes
+#[tactic(auto, unfolding(crate::specs::Table::by_state))]
+fn by_state(state: u32, work: ImageRule, ok: ImageRule, fail: ImageRule) -> ImageRule
     ensures { rule_of result ≡ by_state state (row (rule_of work) (rule_of ok) (rule_of fail)) }
 {
-    if state == WORK as u32 {
-        return work;
+    if state == State::Work as u32 {
+        work
+    } else if state == State::Ok as u32 {
+        ok
+    } else if state == State::Fail as u32 {
+        fail
+    } else {
+        NO_RULE
     }
-    if state == OK as u32 {
-        return ok;
-    }
-    if state == FAIL as u32 {
-        return fail;
-    }
-    NO_RULE
 }
 
 // The rule of rule k's first symbol in a state; inside says of a range whether the class is in it.
-fn first_rule(e: Expression, k: u8, inside: bool, state: u32) -> RuleBytes
+fn first_rule(e: Expression, k: u8, inside: bool, state: u32) -> ImageRule
     requires { Few k e }
     ensures { rule_of result ≡ select_of (rows e k inside) false state }
 {
@@ -149,16 +144,14 @@ fn first_rule(e: Expression, k: u8, inside: bool, state: u32) -> RuleBytes
 }
 
 // The rule of a rule's second symbol in a state: neither the rule's number nor the class matters.
-fn second_rule(e: Expression, state: u32) -> RuleBytes
+fn second_rule(e: Expression, state: u32) -> ImageRule
     requires { PartsBelow max_rules e }
     ensures { (k : ℕ) (inside : Bool) → rule_of result ≡ select_of (rows e k inside) true state }
 {
     match e {
         Expression::Sequence(_, c) => by_state(state, push(c), POP_OK, BACK_FAIL), // back to before b
         Expression::Choice(_, c) => by_state(state, push(c), POP_OK, POP_FAIL),
-        Expression::Not(_) => NO_RULE,
-        Expression::Empty => NO_RULE,
-        Expression::Range(_, _) => NO_RULE,
+        Expression::Not(_) | Expression::Empty | Expression::Range(_, _) => NO_RULE,
     }
 }
 
@@ -167,29 +160,22 @@ pub fn pair_by(e: Expression, k: u8, inside: bool, state: u32) -> RulePair
     requires { Few k e }
     ensures { Picks (rows e k inside) state result }
 {
-    let first = first_rule(e, k, inside, state);
-    let second = second_rule(e, state);
-    RulePair { first, second }
-}
-
-fn stands(state: u32, class: u32, at: u32, on: u32) -> bool
-    ensures { result ≡ (eqb state at && eqb class on) }
-{
-    if state != at {
-        return false;
+    RulePair {
+        first: first_rule(e, k, inside, state),
+        second: second_rule(e, state),
     }
-    class == on
 }
 
 // Ok on a byte, with symbol 0: the one rule that the choice decides.
-fn on_byte(matching: Matching) -> RuleBytes
+#[tactic(auto, unfolding(crate::specs::Table::on_byte))]
+fn on_byte(matching: Matching) -> ImageRule
     ensures { rule_of result ≡ on_byte_of matching }
 {
     match matching {
         Matching::Whole => NO_RULE,
-        Matching::Leading => RuleBytes {
+        Matching::Leading => ImageRule {
             kind: KIND_CHANGE,
-            state: OK,
+            state: State::Ok as u8,
             symbol: 0,
             direction: DIRECTION_RIGHT,
         },
@@ -197,32 +183,28 @@ fn on_byte(matching: Matching) -> RuleBytes
 }
 
 // The rows of symbol 0: start on the left marker, ok on the right one, and ok on a byte.
-pub fn row_zero(classes: u32, state: u32, class: u32, matching: Matching) -> RuleBytes
+#[tactic(auto, unfolding(crate::specs::Table::row_zero))]
+pub fn row_zero(classes: u32, state: u32, class: u32, matching: Matching) -> ImageRule
     requires { classes < 256 }
     ensures { rule_of result ≡ row_zero matching classes state class }
 {
-    if stands(state, class, START as u32, classes) {
-        return RuleBytes {
+    if state == State::Start as u32 && class == classes {
+        ImageRule {
             kind: KIND_PUSH,
-            state: WORK,
+            state: State::Work as u8,
             symbol: 1,
             direction: DIRECTION_RIGHT,
-        };
-    }
-    let right = classes + 1;
-    if stands(state, class, OK as u32, right) {
-        return RuleBytes {
+        }
+    } else if state == State::Ok as u32 && class == classes + 1 {
+        ImageRule {
             kind: KIND_POP,
-            state: DONE,
+            state: State::Done as u8,
             symbol: 0,
             direction: POP_STAY,
-        };
+        }
+    } else if state == State::Ok as u32 && class < classes {
+        on_byte(matching)
+    } else {
+        NO_RULE
     }
-    if state != OK as u32 {
-        return NO_RULE;
-    }
-    if classes <= class {
-        return NO_RULE;
-    }
-    on_byte(matching)
 }

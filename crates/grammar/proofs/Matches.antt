@@ -10,6 +10,10 @@ use Rattle.std.specs.Prelude.{Option, Some, None}
 use Rattle.grammar.specs.Grammar.{range_of}
 use Rattle.grammar.specs.Parsing.{Rules, in_range}
 
+-- the range of two bytes
+abbrev pub between : (low high : ℕ) → Option ByteRange
+between b c = Some (record { low = b; high = c })
+
 -- whether a range has the value
 unfoldable pub matches : Option ByteRange → (value : ℕ) → Bool
 matches None v = false

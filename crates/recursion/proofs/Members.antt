@@ -66,6 +66,9 @@ union_members a b (suc l) =
 pub union_more : (a b : ℕ) → a ≤ bit_or a b
 union_more a b = omega (arith, or_add_and a b, and_le_r a b)
 
+-- what a union has
+pub ruleset union_laws = (union_members, union_more)
+
 -- NONE
 pub no_members : (l : ℕ) → member 0 l ≡ false
 unfolding member

@@ -41,6 +41,7 @@ impl RuleSet {
         (self.bits >> k) % 2 == 1
     }
 
+    #[tactic(auto, using(crate::proofs::Members::single_members))]
     pub fn single(k: u8) -> RuleSet
         requires { k < 32 }
         ensures { (l : ℕ) → member result l ≡ eqb l k }
@@ -48,6 +49,7 @@ impl RuleSet {
         RuleSet { bits: 1 << k }
     }
 
+    #[tactic(auto, using(crate::proofs::Members::union_laws))]
     pub fn union(self, other: RuleSet) -> RuleSet
         ensures { ((l : ℕ) → member result l ≡ (member self l || member other l)) × (self ≤ result) }
     {

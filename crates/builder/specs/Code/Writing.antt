@@ -1,22 +1,20 @@
 -- What the parts of building answer and write: the four bytes of a rule as a rule, and what each part may assume. Assumes nothing: these are definitions.
-use Rattle.std.specs.Prelude.{◌≡◌, Bool, true, false, ◌&&◌, List, [], ◌∷◌, ◌++◌, ℕ, ◌+◌, ◌*◌, ◌%◌, ◌<◌, ◌≤◌, ltb, leb, length, take}
+use Rattle.std.specs.Prelude.{◌≡◌, Bool, true, false, ◌&&◌, List, [], ◌∷◌, ◌++◌, ℕ, ◌+◌, ◌*◌, ◌<◌, ◌≤◌, ltb, leb, length, take, Option, Some, None}
 use Rattle.image.specs.Format
 use Rattle.codec.specs.Bytes.{byte, written}
 use Rattle.image.specs.Image.{Rule}
 use Rattle.image.specs.Encoding.{rules_bytes}
 use Rattle.grammar.specs.declared.Expression.{Expression}
 use Rattle.grammar.specs.declared.ByteRange.{ByteRange}
-use Rattle.grammar.specs.declared.ByteRange.TheVariants.{Between, Nothing}
-use Rattle.image.specs.declared.Selector.{Selector}
 use Rattle.builder.specs.declared.Matching.{Matching}
-use Rattle.builder.specs.declared.RuleBytes.{RuleBytes}
+use Rattle.builder.specs.declared.ImageRule.{ImageRule}
 use Rattle.builder.specs.declared.RulePair.{RulePair}
-use Rattle.grammar.specs.Grammar.{max_rules, rules, PartsBelow, grammar_refusal}
+use Rattle.grammar.specs.Grammar.{max_rules, rules, PartsBelow}
 use Rattle.builder.specs.Classes.{class_of, class_count}
-use Rattle.builder.specs.Image.{built_rules, built_length, symbols_of, rules_made}
-use Rattle.builder.specs.Table.{rule, Rows, select, made}
+use Rattle.builder.specs.Image.{built_rules, rules_made}
+use Rattle.builder.specs.Table.{symbol, rule, Rows, select, made}
 
-abbrev pub rule_of : RuleBytes → Rule
+abbrev pub rule_of : ImageRule → Rule
 rule_of r = rule r.kind r.state r.symbol r.direction
 
 -- rule k and what it is: k and the rules that it names have symbols that are bytes
@@ -28,13 +26,12 @@ pub record Few (k : ℕ) (e : Expression) : Type 0 where
 unfoldable pub class_between : (image : List ℕ) → (low high class : ℕ) → Bool
 class_between bs b c k = leb b c && (leb (byte bs (Format.map_offset + b)) k && leb k (byte bs (Format.map_offset + c)))
 
-unfoldable pub inside_by : (image : List ℕ) → (classes : ℕ) → ByteRange → (class : ℕ) → Bool
-inside_by bs n Nothing k = false
-inside_by bs n (Between b c) k = ltb k n && class_between bs b c k
+unfoldable pub inside_by : (image : List ℕ) → (classes : ℕ) → Option ByteRange → (class : ℕ) → Bool
+inside_by bs n None k = false
+inside_by bs n (Some r) k = ltb k n && class_between bs r.low r.high k
 
--- an image with its class map, for a grammar that is not refused
+-- an image with its class map
 pub record RowsReady (gs image : List ℕ) (classes : ℕ) : Type 0 where
-  pub good : (grammar_refusal gs).number ≡ 0
   pub long : Format.rules_offset ≤ length image
   pub classes_are : classes ≡ class_count gs
   pub map : (v : ℕ) → v < Format.map_length → byte image (Format.map_offset + v) ≡ class_of gs v
@@ -44,30 +41,17 @@ pub record RuleReady (gs image : List ℕ) (classes k : ℕ) : Type 0 where
   pub rows : RowsReady gs image classes
   pub rule_there : k < rules gs
 
--- and the first of the two symbols of a rule
-pub record PairReady (gs image : List ℕ) (classes symbol : ℕ) : Type 0 where
-  pub rows : RowsReady gs image classes
-  pub symbol_odd : symbol % 2 ≡ 1
-  pub symbol_there : symbol < symbols_of gs
-
--- THE RULES OF TWO SYMBOLS: those that a state picks of a rule's six; the table's, for what selects the first, by either choice
+-- THE RULES OF TWO SYMBOLS: those that a state picks of a rule's six; the table's, for state, class and rule k, by either choice
 pub record Picks (six : Rows) (p : ℕ) (r : RulePair) : Type 0 where
   pub first : rule_of r.first ≡ select six false p
   pub second : rule_of r.second ≡ select six true p
 
-pub record MadePair (gs : List ℕ) (s : Selector) (r : RulePair) : Type 0 where
-  pub first : (how : Matching) → rule_of r.first ≡ made how gs s.state s.class s.symbol
-  pub second : (how : Matching) → rule_of r.second ≡ made how gs s.state s.class (s.symbol + 1)
-
--- a buffer of the image's length, for a grammar that is not refused
-pub record WriteReady (gs image : List ℕ) (classes count : ℕ) : Type 0 where
-  pub good : (grammar_refusal gs).number ≡ 0
-  pub long : length image ≡ built_length gs
-  pub classes_are : classes ≡ class_count gs
-  pub count_is : count ≡ built_rules gs
+pub record MadePair (gs : List ℕ) (p class k : ℕ) (r : RulePair) : Type 0 where
+  pub first : (how : Matching) → rule_of r.first ≡ made how gs p class (symbol false k)
+  pub second : (how : Matching) → rule_of r.second ≡ made how gs p class (symbol true k)
 
 -- the image with one rule written at its index
-abbrev pub with_rule : (image : List ℕ) → (i : ℕ) → RuleBytes → List ℕ
+abbrev pub with_rule : (image : List ℕ) → (i : ℕ) → ImageRule → List ℕ
 with_rule image i r = written image (Format.rules_offset + Format.rule_length * i) (r.kind ∷ r.state ∷ r.symbol ∷ r.direction ∷ [])
 
 -- the image with its rules, after what stands before them

@@ -1,138 +1,76 @@
--- `builder::build::write_rules` meets its contract: a turn writes the rule of symbol 0, or the two of a grammar rule. Assumes nothing.
-use mathlib.Core.Path.{◌≡◌, sym, ap, ◌∙◌}
-use Prim.Native.Nat.{ℕ, ◌+◌, ◌<◌, ◌%◌}
+-- `builder::build::write_rules` meets its contract: a turn over the classes writes the rule of symbol 0, and one over the rules those of a pair. Assumes nothing.
+use mathlib.Core.Path.{refl, ◌∙◌}
 use native.Mathlib.Omega.{arith}
-use Rattle.image.specs.declared.Selector.{Selector}
-use Rattle.image.proofs.CountingOn.{selects_first, selects_next, counts_on, selects_as}
-use Rattle.builder.specs.Image.{symbols_of, built_rules}
-use Rattle.builder.proofs.CodeClasses.{grammar_short, classes_most, symbols_most, count_most, symbols_some}
+use Rattle.grammar.proofs.GrammarGood.{good_grammar}
+use Rattle.builder.proofs.CodeClasses.{classes_most, symbols_some, count_most}
 use Rattle.builder.proofs.CodeRows.{zero_is}
-use Rattle.builder.proofs.CodePairs.{begins_next, pair_there, next_symbol}
-use Rattle.builder.proofs.CodeRules.{rules_start, rules_next, rules_end, selected, ready_kept, length_is}
+use Rattle.builder.proofs.CodePairs.{class_done, all_done, first_there}
+use Rattle.builder.proofs.CodeRules.{rules_start, rules_end, rule_room, rule_next, second_room, pair_next, ready_kept}
 use Rattle.builder.proofs.build.write_rules.Goals as goal
 
-pub symbol_count-symbols-requires : goal.symbol_count-symbols-requires
-symbol_count-symbols-requires c = grammar_short _ c.requires.0.good
+pub overflow_cast-count : goal.overflow_cast-count
+overflow_cast-count c = omega (arith, c.count-count.ensures, (good_grammar _ c.args.plan.grammar.right).rules_most)
 
-pub overflow_add-columns : goal.overflow_add-columns
-overflow_add-columns c =
-    omega (arith, c.requires.0.classes_are, classes_most _ c.requires.0.good)
+pub loop-state-init : goal.loop-state-init
+loop-state-init c = record { written = rules_start _ _ _ c.requires.room; at = omega arith }
 
-pub loop-i-init : goal.loop-i-init
-loop-i-init c =
-    let gs = c.args.grammar.now in
-    let symbols : 0 < symbols_of gs = symbols_some gs in (
-      rules_start _ gs c.args.image.now c.requires.1.long,
-      selects_as c.first-s.ensures (selects_first _ _ (omega arith) (omega (arith, c.symbol_count-symbols.ensures))),
-      λ some. absurd (some (ap (λ (s : Selector). s.symbol) c.first-s.ensures)),
-    )
+pub overflow_add-class-end : goal.overflow_add-class-end
+overflow_add-class-end c = omega (arith, c.args.plan.classes_are, classes_most _ c.args.plan.grammar.right)
 
-pub row_zero-r-requires : goal.row_zero-r-requires
-row_zero-r-requires c =
-    omega (arith, c.requires.0.classes_are, classes_most _ c.requires.0.good)
+pub row_zero-requires : goal.row_zero-requires
+row_zero-requires c = omega (arith, c.args.plan.classes_are, classes_most _ c.args.plan.grammar.right)
 
 pub write_rule-requires : goal.write_rule-requires
 write_rule-requires c =
-    omega (arith, c.loop-i.invariant.0.long, c.loop-i-test.true, c.requires.1.count_is)
-
-pub next-s-requires : goal.next-s-requires
-next-s-requires c =
-    counts_on _ _ _ _ c.loop-i.invariant.1
-    (omega (arith, c.loop-i.invariant.0.within, count_most c.args.grammar.now c.requires.0.good))
+    rule_room c.loop-class.invariant (omega (arith, c.loop-state-test.true, c.from-state-end.ensures))
+    (omega (arith, c.loop-class-test.true, c.args.plan.classes_are)) (symbols_some _)
 
 pub overflow_add-i : goal.overflow_add-i
-overflow_add-i c =
-    omega (arith, c.loop-i.invariant.0.within, count_most c.args.grammar.now c.requires.0.good)
+overflow_add-i c = omega (arith, c.loop-class.invariant.written.within, count_most _ c.args.plan.grammar.right)
 
-pub loop-i-smaller-then-s-eq0 : goal.loop-i-smaller-then-s-eq0
-loop-i-smaller-then-s-eq0 c =
-    omega (arith, c.loop-i-test.true)
-
-pub loop-i-preserved-then-s-eq0 : goal.loop-i-preserved-then-s-eq0
-loop-i-preserved-then-s-eq0 c =
-    let gs = c.args.grammar.now in
-    let more : c.loop-i.i < built_rules gs = omega (arith, c.loop-i-test.true, c.requires.1.count_is) in
-    let even : c.loop-i.s.symbol % 2 ≡ 0 = ap (λ (n : ℕ). n % 2) c.if-s-eq0.true in (
-      rules_next _ gs c.args.image.now c.loop-i.image c.write_rule.new.image c.loop-i.i _ _ c.row_zero-r.result c.loop-i.invariant.0
-          more c.requires.0.classes_are c.symbol_count-symbols.ensures c.write_rule.auto.image c.write_rule.ensures
-          (selected _ _ _ _ _ _ _ c.loop-i.invariant.1 (zero_is _ _ _ _ _ _ _ c.requires.0.classes_are c.if-s-eq0.true c.row_zero-r.ensures)),
-      selects_as c.next-s.ensures (selects_next _ _ _ _ c.loop-i.invariant.1),
-      begins_next _ _ _ _ c.next-s.ensures even,
-    )
+pub loop-k-init : goal.loop-k-init
+loop-k-init c =
+    rule_next c.loop-class.invariant (omega (arith, c.loop-state-test.true, c.from-state-end.ensures))
+    (omega (arith, c.loop-class-test.true, c.args.plan.classes_are)) (symbols_some _) _ c.write_rule.auto.image c.write_rule.ensures
+    (zero_is _ _ _ _ _ _ _ c.args.plan.classes_are refl c.row_zero.ensures)
 
 pub made_pair-pair-requires : goal.made_pair-pair-requires
 made_pair-pair-requires c =
     record {
-      rows = ready_kept _ c.args.grammar.now c.args.image.now c.loop-i.image _ c.loop-i.i c.requires.0 c.loop-i.invariant.0;
-      symbol_odd = c.loop-i.invariant.2 c.if-s-eq0.false;
-      symbol_there = omega (arith, c.loop-i.invariant.1.symbol_below, c.symbol_count-symbols.ensures);
+      rows = ready_kept _ _ _ _ _ _ c.requires.ready c.loop-k.invariant.written;
+      rule_there = omega (arith, c.loop-k-test.true, c.count-count.ensures);
     }
 
-pub write_rule-requires-else-s-eq0 : goal.write_rule-requires-else-s-eq0
-write_rule-requires-else-s-eq0 c =
-    omega (arith, c.loop-i.invariant.0.long, c.loop-i-test.true, c.requires.1.count_is)
+pub write_rule-requires-in-loop-k : goal.write_rule-requires-in-loop-k
+write_rule-requires-in-loop-k c =
+    rule_room c.loop-k.invariant (omega (arith, c.loop-state-test.true, c.from-state-end.ensures))
+    (omega (arith, c.loop-class-test.true, c.args.plan.classes_are)) (first_there _ _ (omega (arith, c.loop-k-test.true, c.count-count.ensures)))
 
-pub overflow_add-i-else-s-eq0 : goal.overflow_add-i-else-s-eq0
-overflow_add-i-else-s-eq0 c =
-    omega (arith, c.loop-i.invariant.0.within, count_most c.args.grammar.now c.requires.0.good)
+pub overflow_add-i-in-loop-k : goal.overflow_add-i-in-loop-k
+overflow_add-i-in-loop-k c = omega (arith, c.loop-k.invariant.written.within, count_most _ c.args.plan.grammar.right)
 
-pub write_rule-requires-else-s-eq0-2 : goal.write_rule-requires-else-s-eq0-2
-write_rule-requires-else-s-eq0-2 c =
-    let gs = c.args.grammar.now in
-    let more : c.loop-i.i < built_rules gs = omega (arith, c.loop-i-test.true, c.requires.1.count_is) in
-    let there = pair_there gs c.loop-i.s _ _ _ c.loop-i.invariant.1 c.requires.0.classes_are c.symbol_count-symbols.ensures more c.loop-i.invariant.2 c.if-s-eq0.false in
-    omega (arith, there.later, c.loop-i.invariant.0.long, c.write_rule-else-s-eq0.auto.image)
+pub write_rule-requires-in-loop-k-2 : goal.write_rule-requires-in-loop-k-2
+write_rule-requires-in-loop-k-2 c =
+    second_room _ c.loop-k.invariant (omega (arith, c.loop-state-test.true, c.from-state-end.ensures))
+    (omega (arith, c.loop-class-test.true, c.args.plan.classes_are)) (omega (arith, c.loop-k-test.true, c.count-count.ensures)) c.write_rule-in-loop-k.auto.image
 
-pub overflow_add-symbol : goal.overflow_add-symbol
-overflow_add-symbol c =
-    let gs = c.args.grammar.now in
-    omega (arith, c.loop-i.invariant.1.symbol_below, c.symbol_count-symbols.ensures, symbols_most gs c.requires.0.good)
+pub overflow_add-i-in-loop-k-2 : goal.overflow_add-i-in-loop-k-2
+overflow_add-i-in-loop-k-2 c = omega (arith, c.loop-k.invariant.written.within, count_most _ c.args.plan.grammar.right)
 
-pub next-s-requires-else-s-eq0 : goal.next-s-requires-else-s-eq0
-next-s-requires-else-s-eq0 c =
-    let gs = c.args.grammar.now in
-    let more : c.loop-i.i < built_rules gs = omega (arith, c.loop-i-test.true, c.requires.1.count_is) in
-    let there = pair_there gs c.loop-i.s _ _ _ c.loop-i.invariant.1 c.requires.0.classes_are c.symbol_count-symbols.ensures more c.loop-i.invariant.2 c.if-s-eq0.false in
-    counts_on _ _ _ _ (selects_as (sym (next_symbol c.loop-i.s _ _ there.two)) (selects_next _ _ _ _ c.loop-i.invariant.1))
-    (omega (arith, there.later, count_most gs c.requires.0.good))
+pub loop-k-preserved : goal.loop-k-preserved
+loop-k-preserved c =
+    pair_next c.loop-k.invariant (omega (arith, c.loop-state-test.true, c.from-state-end.ensures))
+    (omega (arith, c.loop-class-test.true, c.args.plan.classes_are)) (omega (arith, c.loop-k-test.true, c.count-count.ensures)) _ c.made_pair-pair.ensures
+    c.write_rule-in-loop-k.auto.image c.write_rule-in-loop-k.ensures c.write_rule-in-loop-k-2.auto.image c.write_rule-in-loop-k-2.ensures
 
-pub overflow_add-i-else-s-eq0-2 : goal.overflow_add-i-else-s-eq0-2
-overflow_add-i-else-s-eq0-2 c =
-    omega (arith, c.loop-i.invariant.0.within, count_most c.args.grammar.now c.requires.0.good)
-
-pub loop-i-smaller : goal.loop-i-smaller
-loop-i-smaller c =
-    omega (arith, c.loop-i-test.true)
-
-pub loop-i-preserved : goal.loop-i-preserved
-loop-i-preserved c =
-    let gs = c.args.grammar.now in
-    let more : c.loop-i.i < built_rules gs = omega (arith, c.loop-i-test.true, c.requires.1.count_is) in
-    let there = pair_there gs c.loop-i.s _ _ _ c.loop-i.invariant.1 c.requires.0.classes_are c.symbol_count-symbols.ensures more c.loop-i.invariant.2 c.if-s-eq0.false in
-    let here = c.loop-i.invariant.1 in
-    let next = selects_as (sym (next_symbol c.loop-i.s _ _ there.two)) (selects_next _ _ _ _ here) in
-    let one =
-    rules_next _ gs c.args.image.now c.loop-i.image c.write_rule-else-s-eq0.new.image c.loop-i.i _ _ c.made_pair-pair.result.first c.loop-i.invariant.0
-    more c.requires.0.classes_are c.symbol_count-symbols.ensures c.write_rule-else-s-eq0.auto.image c.write_rule-else-s-eq0.ensures
-    (selected _ _ _ _ _ _ _ here (c.made_pair-pair.ensures.first _))
-    in
-    let both =
-    rules_next _ gs c.args.image.now c.write_rule-else-s-eq0.new.image c.write_rule-else-s-eq0-2.new.image (c.loop-i.i + 1) _ _ c.made_pair-pair.result.second one
-    there.later c.requires.0.classes_are c.symbol_count-symbols.ensures c.write_rule-else-s-eq0-2.auto.image c.write_rule-else-s-eq0-2.ensures
-    (selected _ _ _ _ _ _ _ next (c.made_pair-pair.ensures.second _))
-    in
-    let sum : c.loop-i.i + 1 + 1 ≡ c.loop-i.i + 2 = omega arith in
-    let even : (c.loop-i.s.symbol + 1) % 2 ≡ 0 = omega (arith, there.odd) in (
-      rw (sym sum) both,
-      rw (sym sum) (selects_as c.next-s-else-s-eq0.ensures (selects_next _ _ _ _ next)),
-      begins_next _ _ _ _ c.next-s-else-s-eq0.ensures even,
-    )
-
-pub shape_of-image : goal.shape_of-image
-shape_of-image c =
-    c.loop-i.invariant.0.long ∙ sym (c.requires.1.long ∙ length_is c.args.grammar.now)
+pub loop-class-preserved : goal.loop-class-preserved
+loop-class-preserved c =
+    record {
+      written = c.loop-k.invariant.written;
+      at = c.loop-k.invariant.at ∙ class_done _ _ _ _ (omega (arith, c.loop-k-test.false, c.count-count.ensures)) (omega (arith, c.loop-k.auto.k-end, c.count-count.ensures));
+    }
 
 pub returns : goal.returns
 returns c =
-    rules_end _ c.args.grammar.now c.args.image.now c.loop-i.image c.loop-i.i c.loop-i.invariant.0
-    (omega (arith, c.loop-i-test.false, c.requires.1.count_is))
+    rules_end _ _ _ _ _ c.loop-state.invariant.written
+    (omega (arith, c.loop-state.invariant.at, all_done c.args.plan.grammar.bytes.now c.loop-state.state (omega (arith, c.loop-state-test.false, c.loop-state.auto.state-end, c.from-state-end.ensures))))

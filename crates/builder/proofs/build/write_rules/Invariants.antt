@@ -1,12 +1,13 @@
--- The invariants and measures of `builder::build::write_rules`.
-use Prim.Native.Nat.{◌-◌}
-use Rattle.image.specs.Code.Counting.{Selects}
-use Rattle.builder.proofs.CodePairs.{Begins}
-use Rattle.builder.proofs.CodeRules.{RulesWritten}
+-- The invariants of `builder::build::write_rules`: the next rule is that of the loops' state, class and rule.
+use Prim.Native.Nat.{◌+◌, ◌*◌}
+use Rattle.builder.proofs.CodeRules.{Next}
 use Rattle.builder.proofs.build.write_rules.Given as goal
 
-abbrev pub invariant-loop-i : goal.invariant-loop-i
-invariant-loop-i l = RulesWritten l.matching l.grammar l.initial.image l.image l.i × Selects l.s l.columns l.symbols l.i × Begins l.s
+abbrev pub invariant-loop-state : goal.invariant-loop-state
+invariant-loop-state l = Next l.matching l.grammar.bytes.now l.fn.image l.image l.i l.state 0 0
 
-abbrev pub decreases-loop-i : goal.decreases-loop-i
-decreases-loop-i l = l.count - l.i
+abbrev pub invariant-loop-class : goal.invariant-loop-class
+invariant-loop-class l = Next l.matching l.grammar.bytes.now l.fn.image l.image l.i l.state l.class 0
+
+abbrev pub invariant-loop-k : goal.invariant-loop-k
+invariant-loop-k l = Next l.matching l.grammar.bytes.now l.fn.image l.image l.i l.state l.class (1 + 2 * l.k)

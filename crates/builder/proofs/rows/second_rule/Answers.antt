@@ -1,7 +1,7 @@
 -- `builder::rows::second_rule` meets its contract: an arm for each kind of rule; only a sequence and a choice have rules here. Assumes nothing.
 use Rattle.grammar.specs.Grammar.{PartsBelow}
 use Rattle.builder.specs.Table.{rows, select}
-use Rattle.builder.proofs.CodeRows.{parts_of, never}
+use Rattle.builder.proofs.CodeRows.{parts_of, no_second}
 use Rattle.builder.proofs.rows.second_rule.Goals as goal
 
 pub push-requires : goal.push-requires
@@ -21,13 +21,4 @@ unfolding rows select
 returns-in-Choice c = λ k inside. simp (c.in-Choice.is, ← c.push-in-Choice.ensures) c.by_state-in-Choice.ensures
 
 pub returns-in-Not : goal.returns-in-Not
-unfolding rows select
-returns-in-Not c = λ k inside. simp c.in-Not.is (never _)
-
-pub returns-in-Empty : goal.returns-in-Empty
-unfolding rows select
-returns-in-Empty c = λ k inside. simp c.in-Empty.is (never _)
-
-pub returns-in-Range : goal.returns-in-Range
-unfolding rows select
-returns-in-Range c = λ k inside. simp c.in-Range.is (never _)
+returns-in-Not c = no_second _ c.in-Not.is _
