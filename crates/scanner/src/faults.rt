@@ -179,17 +179,21 @@ fn at_end(spot: Spot, lines: usize, long: usize) -> Result<(), Refusal>
 pub fn check_text(text: &[u8]) -> TextCheck
     ensures { TextChecked text.now result }
 {
-    let mut offset = skip(text, 0);
+    let mut at: usize = 0;
     let mut lines: usize = 0;
     let mut spot = Spot::AtLine;
-    while offset < text.len() {
+    while at < text.len() {
+        let offset = skip(text, at);
+        if text.len() <= offset {
+            break;
+        }
         let first = FirstLines { text, count: lines };
         let moved = step_at(first, spot, offset);
         match moved.step {
             Ok(after) => {
                 lines += begun(spot);
                 spot = after;
-                offset = skip(text, moved.next);
+                at = moved.next;
             }
             Err(kind) => {
                 let checked = Err(Refusal::new(kind, offset));

@@ -8,7 +8,7 @@ ghost use Rattle.syntax.specs.Code.Heads.{heads};
 ghost use Rattle.scanner.specs.Code.Naming.{head_in, stops, PassesHeads, PassesNames};
 
 use crate::Head;
-use crate::tokens::{RANGE_BYTES, is_letter, is_reserved, letters_from, range_at, skip};
+use crate::tokens::{RANGE_BYTES, is_letter, is_reserved, letters_from, range_at, same, skip};
 
 // So many lines of a text: the first ones.
 #[derive(Clone, Copy)]
@@ -114,7 +114,7 @@ fn head_of(name: &[u8], word: &[u8]) -> Head
 {
     if word.is_empty() || is_reserved(word) {
         Head::Nothing
-    } else if name == word {
+    } else if same(name, word) {
         Head::Sought
     } else {
         Head::Other

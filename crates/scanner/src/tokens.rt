@@ -1,5 +1,6 @@
 // The scanner: the first token of a text from a place on, for every text and every place.
 ghost use Rattle.std.specs.Prelude.{◌≡◌, List, ℕ, ◌+◌, ◌<◌, ◌≤◌, length, drop};
+ghost use Rattle.std.specs.Str.{bytes_eq};
 ghost use Rattle.syntax.specs.Tokens.{letter, letters, sign_of, range_there, skipped};
 ghost use Rattle.scanner.specs.Code.Scanning.{token_of, reserved, Scans, Skips, ScansWord, ScansToken};
 
@@ -50,21 +51,28 @@ pub fn letters_from(text: &[u8], at: usize) -> &[u8]
     &text[at.min(text.len())..]
 }
 
+// Whether two words are the same letters.
+pub fn same(word: &[u8], other: &[u8]) -> bool
+    ensures { result ≡ bytes_eq word.now other.now }
+{
+    word.len() == other.len() && word.iter().eq(other.iter())
+}
+
 // Whether a run of letters is a reserved word.
 #[tactic(auto, using(crate::proofs::Tokenizing::same_bytes), unfolding(crate::specs::Code::Scanning::reserved))]
 pub fn is_reserved(word: &[u8]) -> bool
     ensures { result ≡ reserved word.now }
 {
-    word == b"empty".as_slice() || word == b"fail".as_slice()
+    same(word, b"empty") || same(word, b"fail")
 }
 
 // The token of a run of letters: a reserved word or a name.
 fn word_token(word: &[u8]) -> Token
     ensures { ScansWord word.now result }
 {
-    if word == b"empty".as_slice() {
+    if same(word, b"empty") {
         Token::Sign(Sign::Operand(Leaf::EmptyString))
-    } else if word == b"fail".as_slice() {
+    } else if same(word, b"fail") {
         Token::Sign(Sign::Operand(Leaf::Failure))
     } else {
         Token::Name(word.len())
