@@ -7,7 +7,7 @@ use native.Mathlib.Decide.{ℕ_discrete}
 use native.Mathlib.Omega.{arith}
 use lib.ListN.{length, get_or, set, drop, replicate, length-append, length-set}
 use lib.Seq.{get_or-set_same, get_or-set_other, drop-drop}
-use borrow.Author.Tests.{le-leb, lt-leb, leb-false, leb-true}
+use borrow.Author.Tests.{leb-false, leb-true}
 use Rattle.grammar.specs.Grammar.{max_rules}
 use Rattle.grammar.specs.declared.Expression.{Expression}
 use Rattle.syntax.specs.declared.Sign.TheVariants.{Equals, Semicolon}
@@ -20,10 +20,12 @@ use Rattle.syntax.specs.Code.Heads.{heads}
 use Rattle.syntax.proofs.Counting.{line_counted, helpers_counted}
 use Rattle.syntax.proofs.RuleLines.{helper_first}
 use Rattle.expressions.specs.declared.Rules.{Rules}
+use Rattle.expressions.specs.declared.Unfit.{Unfit}
+use Rattle.std.specs.Prelude.{Ok, Err}
 use Rattle.reader.specs.Calls.{padded}
 use Rattle.expressions.specs.Code.Building.{rule_put, put_rules}
 use Rattle.scanner.specs.Code.Scanning.{tokens_at}
-use Rattle.reader.specs.Code.Lines.{LineRead, LineRoom, LineIsRead, LinesRoom, EndsKept, LinesRight, LinesRead}
+use Rattle.reader.specs.Code.Lines.{LineRead, LineRoom, LineIsRead, LinesRoom, EndsKept, LinesMade, LinesRead}
 use Rattle.reader.proofs.Tables.{table, named_written, helpers_written, table_first, table_last}
 use Rattle.expressions.proofs.Lookings.{clash}
 
@@ -206,15 +208,9 @@ ends_next ds k ends n kept room is j h = go (ℕ_discrete j k)
 -- WHAT THE LOOP ANSWERS
 pub lines_over :
     (text : List ℕ) (at lines place k : ℕ) (rules : Rules) (ends : List ℕ) → ReadingLines text at lines place k rules ends → k < lines → (l : LineRead) →
-    LineIsRead text place k rules l → l.fits ≡ false → (made : Rules) → LinesRead text at lines (record { fits = false; rules = made; ends = ends })
-lines_over text at lines place k rules ends (le, fit, long, left) more l read over made ds r size =
-    let many : max_rules < needs ds = (next_line text lines ds place k rules (left ds r size).0 size fit more l read).0 over in
-    record {
-      fits = sym (lt-leb (needs ds) max_rules many);
-      count = λ few. clash (omega arith);
-      bytes = λ few. clash (omega arith);
-      ends = λ few. clash (omega arith);
-    }
+    LineIsRead text place k rules l → l.fits ≡ false → (e : Unfit) → LinesRead text at lines (Err e)
+lines_over text at lines place k rules ends (le, fit, long, left) more l read over e ds r size =
+    (next_line text lines ds place k rules (left ds r size).0 size fit more l read).0 over
 
 pub lines_next :
     (text : List ℕ) (at lines place k : ℕ) (rules : Rules) (ends : List ℕ) → ReadingLines text at lines place k rules ends → lines ≤ max_rules → k < lines → (l : LineRead) →
@@ -230,12 +226,12 @@ lines_next text at lines place k rules ends (le, fit, long, left) few more l rea
 
 pub lines_end :
     (text : List ℕ) (at lines place k : ℕ) (rules : Rules) (ends : List ℕ) → ReadingLines text at lines place k rules ends → lines ≤ k →
-    LinesRead text at lines (record { fits = true; rules = rules; ends = ends })
+    LinesRead text at lines (Ok (record { rules = rules; ends = ends }))
 unfolding named_from helpers_from
 lines_end text at lines place k rules ends (le, fit, long, left) end ds r size =
     go (left ds r size).0 (left ds r size).0.rest refl
   where
-    go : (l : LinesLeft text lines ds place k rules) → (es : List Definition) → l.rest ≡ es → LinesRight text ds (record { fits = true; rules = rules; ends = ends })
+    go : (l : LinesLeft text lines ds place k rules) → (es : List Definition) → l.rest ≡ es → LinesMade text ds (record { rules = rules; ends = ends })
     go l (d ∷ es) e = clash (omega (arith, l.count, ap length e))
     go l [] e =
         let ns = heads text in
@@ -249,12 +245,12 @@ lines_end text at lines place k rules ends (le, fit, long, left) end ds r size =
         let needed : rules.next ≡ needs ds = omega (arith, l.helpers_count, ap length helpers) in
         let count : length l.named ≡ lines = omega (arith, l.named_count) in
         record {
-          fits = sym (le-leb (needs ds) max_rules (omega arith));
-          count = λ few. needed;
-          bytes = λ few.
+          enough = omega arith;
+          count = needed;
+          bytes =
               l.bytes ∙ table_last lines l.named l.helpers count (omega (arith, l.helpers_count))
               ∙ ap (λ (xs : List Expression). padded (encode (xs ++ l.helpers))) (sym named)
               ∙ ap (λ (xs : List Expression). padded (encode (named_from ns 0 lines ds ++ xs))) (sym helpers)
               ∙ ap (λ (n : ℕ). padded (encode (named_from ns 0 n ds ++ helpers_from ns 0 n ds))) (sym size);
-          ends = λ few j h. (left ds r size).1 j (omega arith);
+          ends = λ j h. (left ds r size).1 j (omega arith);
         }

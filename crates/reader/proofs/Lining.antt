@@ -30,10 +30,14 @@ use Rattle.expressions.proofs.Deriving.{semicolon_stops}
 use Rattle.expressions.proofs.Descending.{unfit, fit}
 use Rattle.expressions.proofs.Lookings.{clash}
 
+-- a rule put at a line's number
+pub line_by : (at k : ℕ) (r s t : Rules) (x y : Expression) → t ≡ placed_at r k x → r ≡ s → x ≡ y → line_with at t ≡ line_with at (placed_at s k y)
+line_by at k r s t x y e f g = rw (e, f, g) refl
+
 -- THE TOP RULE, by cases
-pub bare_over : (x : Part) (k at i : ℕ) (r : LineRead) → x.node ≡ Numbered i → max_rules ≤ x.rules.next → r ≡ record { fits = false; at = at; rules = x.rules } → r ≡ topped x k at
+pub bare_over : (x : Part) (k at i : ℕ) → x.node ≡ Numbered i → max_rules ≤ x.rules.next → ◌≡◌ {A = LineRead} (record { fits = false; at = at; rules = x.rules }) (topped x k at)
 unfolding topped_by
-bare_over x k at i r e h is = is ∙ simp (e, le-leb max_rules x.rules.next h)
+bare_over x k at i e h = simp (e, le-leb max_rules x.rules.next h)
 
 pub bare_fits :
     (x : Part) (k at i : ℕ) (more : Rules) (r : LineRead) → x.node ≡ Numbered i → x.rules.next < max_rules → more ≡ advanced x.rules (Empty ∷ []) 0 →

@@ -1,14 +1,15 @@
 -- The call `read`: each of its answers is the one that the definitions give. Assumes nothing.
 use mathlib.Core.Path.{◌≡◌, refl, sym, ap, subst, ◌∙◌}
-use mathlib.Core.Bool.{true, false}
 use mathlib.Core.List.{List, [], ◌∷◌, ◌++◌}
 use Prim.Native.Nat.{ℕ, suc, ◌*◌, ◌<◌, ◌≤◌}
 use native.Mathlib.Omega.{arith}
 use lib.Dec.{ltb}
 use lib.ListN.{length}
-use borrow.Author.Tests.{eq-eqb, ne_eqb, lt-ltb, le-ltb, leb-true, leb-false}
+use borrow.Author.Tests.{eq-eqb, ne_eqb, lt-ltb, le-ltb, eqb-false}
 use Rattle.refusal.specs.declared.Refusal.{Refusal}
 use Rattle.refusal.specs.First.{refusal, no_refusal, or_else, refuse_if}
+use Rattle.refusal.specs.Checking.{checked}
+use Rattle.refusal.proofs.Checked.{checked-passes, checked-refuses, checked-refused}
 use Rattle.grammar.specs.Grammar.{max_rules}
 use Rattle.syntax.specs.Tokens.{Token, lexemes}
 use Rattle.syntax.specs.Trees.{Definition, names, Reads, LegalText, max_depth}
@@ -22,9 +23,11 @@ use Rattle.syntax.proofs.FaultsRight.{faults_right}
 use Rattle.syntax.proofs.Counting.{lines_needed, all_counted}
 use Rattle.syntax.proofs.Encoding.{length_encode}
 use Rattle.reader.specs.declared.Lines.{Lines}
-use Rattle.reader.specs.declared.ReadGrammar.{ReadGrammar}
+use Rattle.reader.specs.declared.GrammarBytes.{GrammarBytes}
+use Rattle.expressions.specs.declared.Unfit.{Unfit}
+use Rattle.std.specs.Prelude.{Result, Ok, Err}
 use Rattle.reader.specs.Calls.{padded, grammar_answer, ReadTells}
-use Rattle.reader.specs.Code.Lines.{LinesRight, LinesRead, TextRead}
+use Rattle.reader.specs.Code.Lines.{LinesMade, LinesRight, LinesRead, TextRead}
 use Rattle.scanner.proofs.Searching.{tokens_start}
 
 length_map : (ds : List Definition) → length (names ds) ≡ length ds
@@ -34,17 +37,17 @@ length_map (d ∷ ds) = ap suc (length_map ds)
 -- the same answer by the same parts
 answer_by :
     (m n : ℕ) (a b : List ℕ) → m ≡ n → a ≡ b →
-    ◌≡◌ {A = ReadGrammar} (record { refusal = no_refusal; length = m; bytes = a }) (record { refusal = no_refusal; length = n; bytes = b })
+    ◌≡◌ {A = Result GrammarBytes Refusal} (Ok (record { bytes = a; length = m })) (Ok (record { bytes = b; length = n }))
 answer_by m n a b e f = cc
 
--- A REFUSAL THAT IS ANSWERED
-pub refused_number : (f : Refusal) → (grammar_answer (Refused f)).refusal.number ≡ f.number
+-- A REFUSAL, as reading the lines answers it
+pub refused_text : (text : List ℕ) (f : Refusal) → ReadTells text (grammar_answer (Refused f)) → TextRead text (Err f)
 unfolding grammar_answer
-refused_number f = refl
+refused_text text f tells = record { tells = tells; kept = tt }
 
 -- 15 or 17, by the earliest fault
 pub fault_tells :
-    (text : List ℕ) → ((fault text).number ≡ 0 → ⊥) → ReadTells text (grammar_answer (Refused (refusal (fault text).number (fault text).place)))
+    (text : List ℕ) → ((fault text).number ≡ 0 → ⊥) → ReadTells text (grammar_answer (Refused (fault text)))
 fault_tells text some = record { reading = Refused (fault text); says = at_fault some; told = refl }
 
 -- A TEXT WITHOUT A FAULT is legal, and its lines' names are told by its tokens
@@ -76,7 +79,7 @@ module _ (text : List ℕ) (none : (fault text).number ≡ 0) where
       }
 
   -- 15, by the first name that no line defines
-  pub undefined_tells : (undefined.number ≡ 0 → ⊥) → ReadTells text (grammar_answer (Refused (refusal undefined.number undefined.place)))
+  pub undefined_tells : (undefined.number ≡ 0 → ⊥) → ReadTells text (grammar_answer (Refused undefined))
   unfolding later_refusal or_else
   undefined_tells some =
       let same : first_undefined (names ds) (lexemes text) ≡ later_refusal text ds =
@@ -99,52 +102,83 @@ module _ (text : List ℕ) (none : (fault text).number ≡ 0) where
     pub many_lines_tell : max_rules < length (heads text) → ReadTells text (grammar_answer (Refused (refusal 16 (length text))))
     many_lines_tell h = too_many (omega (arith, lines_are ds legal.1, lines_needed ds))
 
-    module _ (n : ℕ) (counted : n ≡ length (heads text)) (l : Lines) (built : LinesRead text 0 n l) where
+    module _ (n : ℕ) (counted : n ≡ length (heads text)) (l : Result Lines Unfit) (built : LinesRead text 0 n l) where
       lines_right : (es : List Definition) → LegalText text es → LinesRight text es l
       lines_right es k = built es (subst (λ (ts : List Token). Reads max_depth ts es) (tokens_start text) k.reads) (sym (counted ∙ lines_are es k))
 
       abbrev right : LinesRight text ds l
       right = lines_right ds legal.1
 
-      pub many_rules_tell : l.fits ≡ false → ReadTells text (grammar_answer (Refused (refusal 16 (length text))))
-      many_rules_tell f = too_many (leb-false (needs ds) max_rules (sym right.fits ∙ f))
+      pub many_rules_tell : (e : Unfit) → l ≡ Err e → ReadTells text (grammar_answer (Refused (refusal 16 (length text))))
+      many_rules_tell e is = too_many (subst (λ (r : Result Lines Unfit). LinesRight text ds r) is right)
 
       -- the grammar
-      enough : l.fits ≡ true → (es : List Definition) → LegalText text es → needs es ≤ max_rules
-      enough f es k = leb-true (needs es) max_rules (sym (lines_right es k).fits ∙ f)
+      made : (r : Lines) → l ≡ Ok r → (es : List Definition) → LegalText text es → LinesMade text es r
+      made r is es k = subst (λ (q : Result Lines Unfit). LinesRight text es q) is (lines_right es k)
 
-      pub read_next : l.fits ≡ true → l.rules.next ≤ max_rules
-      read_next f =
-          let few = enough f ds legal.1 in
-          omega (arith, right.count few)
+      pub read_next : (r : Lines) → l ≡ Ok r → r.rules.next ≤ max_rules
+      read_next r is =
+          let m = made r is ds legal.1 in
+          omega (arith, m.count, m.enough)
 
-      grammar_told :
-          l.fits ≡ true →
-          ReadTells text (record { refusal = no_refusal; length = 4 * l.rules.next; bytes = l.rules.bytes })
+      grammar_told : (r : Lines) → l ≡ Ok r → ReadTells text (Ok (record { bytes = r.rules.bytes; length = 4 * r.rules.next }))
       unfolding refuse_if grammar_answer grammar_of all_rules
-      grammar_told f =
-          let few = enough f ds legal.1 in
-          let later : later_refusal text ds ≡ no_refusal = later_is ∙ simp (le-ltb max_rules (needs ds) few) in
+      grammar_told r is =
+          let m = made r is ds legal.1 in
+          let later : later_refusal text ds ≡ no_refusal = later_is ∙ simp (le-ltb max_rules (needs ds) m.enough) in
           let same : encode (named_from (heads text) 0 (length ds) ds ++ helpers_from (heads text) 0 (length ds) ds) ≡ grammar_of ds =
           ap (λ (ns : List (List ℕ)). encode (named_from ns 0 (length ds) ds ++ helpers_from ns 0 (length ds) ds)) names_are
           in
-          let long : 4 * l.rules.next ≡ length (grammar_of ds) = omega (arith, right.count few, length_encode (all_rules ds), all_counted ds) in
+          let long : 4 * r.rules.next ≡ length (grammar_of ds) = omega (arith, m.count, length_encode (all_rules ds), all_counted ds) in
           record {
             reading = Grammar (grammar_of ds);
             says = read legal.1 (ap (λ (f : Refusal). f.number) later);
-            told = answer_by _ _ _ _ long (right.bytes few ∙ ap (λ (gs : List ℕ). padded gs) same);
+            told = answer_by _ _ _ _ long (m.bytes ∙ ap (λ (gs : List ℕ). padded gs) same);
           }
 
       -- and what is kept of the lines
       pub read_grammar :
-          l.fits ≡ true →
-          TextRead text (record { grammar = record { refusal = no_refusal; length = 4 * l.rules.next; bytes = l.rules.bytes }; lines = n; ends = l.ends })
-      read_grammar f =
+          (r : Lines) → l ≡ Ok r →
+          TextRead text (Ok (record { grammar = record { bytes = r.rules.bytes; length = 4 * r.rules.next }; lines = n; ends = r.ends }))
+      read_grammar r is =
           record {
-            tells = grammar_told f;
-            few = λ z. omega (arith, lines_are ds legal.1, lines_needed ds, enough f ds legal.1);
-            kept = λ z es k. record { count = counted ∙ lines_are es k; ends = (lines_right es k).ends (enough f es k) };
+            tells = grammar_told r is;
+            kept = record {
+              few = omega (arith, lines_are ds legal.1, lines_needed ds, (made r is ds legal.1).enough);
+              kept = λ es k. record { count = counted ∙ lines_are es k; ends = (made r is es k).ends };
+            };
           }
 
--- what read_lines answers where it refuses, case by case
-pub ruleset refusal_laws = (refused_number, fault_tells, undefined_tells, many_lines_tell)
+-- WHAT read_lines ANSWERS, by what its checks say
+abbrev pub undefined_name : (text : List ℕ) → Refusal
+undefined_name text = first_undefined (heads text) (lexemes text)
+
+pub fault_text : (text : List ℕ) (e : Refusal) → checked (fault text) ≡ Err e → TextRead text (Err e)
+fault_text text e h =
+    subst (λ (f : Refusal). TextRead text (Err f)) (sym (checked-refuses (fault text) e h))
+    (refused_text text (fault text) (fault_tells text (eqb-false _ _ (checked-refused (fault text) e h))))
+
+pub undefined_text : (text : List ℕ) (e : Refusal) → checked (fault text) ≡ Ok tt → checked (undefined_name text) ≡ Err e → TextRead text (Err e)
+undefined_text text e none h =
+    subst (λ (f : Refusal). TextRead text (Err f)) (sym (checked-refuses (undefined_name text) e h))
+    (refused_text text (undefined_name text)
+    (undefined_tells text (checked-passes (fault text) none) (eqb-false _ _ (checked-refused (undefined_name text) e h))))
+
+pub many_lines_text :
+    (text : List ℕ) (f : Refusal) → f ≡ refusal 16 (length text) → checked (fault text) ≡ Ok tt → checked (undefined_name text) ≡ Ok tt →
+    max_rules < length (heads text) → TextRead text (Err f)
+many_lines_text text f is none defined h =
+    subst (λ (g : Refusal). TextRead text (Err g)) (sym is)
+    (refused_text text (refusal 16 (length text))
+    (many_lines_tell text (checked-passes (fault text) none) (checked-passes (undefined_name text) defined) h))
+
+pub many_rules_text :
+    (text : List ℕ) (f : Refusal) → f ≡ refusal 16 (length text) → checked (fault text) ≡ Ok tt → checked (undefined_name text) ≡ Ok tt →
+    (n : ℕ) → n ≡ length (heads text) → (e : Unfit) → LinesRead text 0 n (Err e) → TextRead text (Err f)
+many_rules_text text f is none defined n counted e built =
+    subst (λ (g : Refusal). TextRead text (Err g)) (sym is)
+    (refused_text text (refusal 16 (length text))
+    (many_rules_tell text (checked-passes (fault text) none) (checked-passes (undefined_name text) defined) n counted (Err e) built e refl))
+
+-- many lines are refused at a test, which no answer names: so a test that is turned round is refused at a goal that is then false
+pub ruleset refusal_laws = (many_lines_text)

@@ -12,25 +12,28 @@ pub struct Reader<'a> {
     pub at: usize,
 }
 
-// A text that was lent, read up to a place.
-pub fn new<'a>(text: &'a [u8], at: usize) -> Reader<'a>
-    ensures { (result.text ≡ text.entry) × (result.at ≡ at) }
-{
-    Reader { text, at }
-}
+impl<'a> Reader<'a> {
+    // A text that was lent, read up to a place.
+    pub fn new(text: &'a [u8], at: usize) -> Reader<'a>
+        ensures { (result.text ≡ text.entry) × (result.at ≡ at) }
+    {
+        Reader { text, at }
+    }
 
-// The same text, read past one lexeme more.
-pub fn passed<'a>(r: Reader<'a>) -> Reader<'a>
-    ensures { (result.text ≡ r.entry.text) × Passes r.entry.text.now r.entry.at result.at }
-{
-    let at = after(r.text, r.at);
-    Reader { text: r.text, at }
+    // The same text, read past one lexeme more.
+    pub fn passed(self) -> Reader<'a>
+        ensures { (result.text ≡ self.entry.text) × Passes self.entry.text.now self.entry.at result.at }
+    {
+        Reader {
+            text: self.text,
+            at: after(self.text, self.at),
+        }
+    }
 }
 
 // Where the expression of the line at a place begins: past the line's name and the equals sign.
 pub fn body_at(text: &[u8], at: usize) -> usize
     ensures { PassesTwo text.now at result }
 {
-    let body = passed(passed(new(text, at)));
-    body.at
+    Reader::new(text, at).passed().passed().at
 }

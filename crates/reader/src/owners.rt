@@ -1,23 +1,26 @@
 // The line that a rule is of, by the numbers that reading kept.
-ghost use Rattle.std.specs.Prelude.{◌≤◌};
+ghost use Rattle.std.specs.Prelude.{◌≡◌, ◌≤◌, nat_lt, position};
 ghost use Rattle.grammar.specs.Grammar.{max_rules};
 ghost use Rattle.reader.specs.Code.Lines.{RuleOfLine};
 
-// The line that a rule is of, among so many lines. A line's own rule has the line's number, and helper rules are numbered after those, line by line.
-pub fn line_of_rule(lines: usize, ends: [u8; 31], rule: usize) -> usize
-    requires { lines ≤ max_rules }
-    ensures { RuleOfLine lines ends rule result }
+use crate::ReadText;
+
+// The first line whose rules end after a rule.
+fn ends_after(ends: &[u8], rule: usize) -> Option<usize>
+    ensures { result ≡ position (λ end. nat_lt rule end) ends.now }
 {
-    if rule < lines {
-        return rule;
-    }
-    let mut k: usize = 0;
-    while k < lines {
-        let next = ends[k] as usize;
-        if rule < next {
-            return k;
+    ends.iter().position(|&end| rule < usize::from(end))
+}
+
+impl ReadText {
+    // The line that a rule is of. A line's own rule has the line's number, and helper rules are numbered after those, line by line.
+    pub fn line_of(&self, rule: usize) -> usize
+        requires { self.now.lines ≤ max_rules }
+        ensures { RuleOfLine self.now.lines self.now.ends rule result }
+    {
+        if rule < self.lines {
+            return rule;
         }
-        k += 1;
+        ends_after(&self.ends[..self.lines], rule).unwrap_or(self.lines)
     }
-    k
 }

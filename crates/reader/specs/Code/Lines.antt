@@ -1,5 +1,5 @@
 -- What reading the lines of a legal text answers: the bytes of their grammar, if 31 rules are enough. Assumes nothing: these are definitions.
-use Rattle.std.specs.Prelude.{◌≡◌, Bool, true, false, cond, List, [], ◌∷◌, ◌++◌, ℕ, suc, ◌+◌, ◌-◌, ◌<◌, ◌≤◌, leb, length, get_or}
+use Rattle.std.specs.Prelude.{◌≡◌, Bool, true, false, cond, List, [], ◌∷◌, ◌++◌, ℕ, suc, ◌+◌, ◌-◌, ◌<◌, ◌≤◌, leb, length, get_or, Result, Ok, Err}
 use Rattle.grammar.specs.Grammar.{max_rules}
 use Rattle.grammar.specs.declared.Expression.TheVariants.{Sequence, Choice, Empty}
 use Rattle.syntax.specs.declared.Node.{Node}
@@ -12,10 +12,12 @@ use Rattle.syntax.specs.Compile.{compile, line_rule, line_helpers, named_from, h
 use Rattle.syntax.specs.RuleLines.{first_helper, LineOfRule}
 use Rattle.syntax.specs.Code.Heads.{heads}
 use Rattle.expressions.specs.declared.Rules.{Rules}
-use Rattle.reader.specs.declared.LineRead as Code
+use Rattle.expressions.specs.declared.Unfit.{Unfit}
+use Rattle.refusal.specs.declared.Refusal.{Refusal}
+use Rattle.reader.specs.declared.GrammarBytes.{GrammarBytes}
 use Rattle.reader.specs.declared.Lines.{Lines}
 use Rattle.reader.specs.declared.ReadText.{ReadText}
-use Rattle.expressions.specs.Code.Building.{rules_of, rule_put, put_rules, advanced, placed_at}
+use Rattle.expressions.specs.Code.Building.{rule_put, put_rules, advanced, placed_at}
 use Rattle.expressions.specs.Code.Operators.{Part}
 use Rattle.reader.specs.Calls.{padded, ReadTells}
 use Rattle.scanner.specs.Code.Scanning.{tokens_at}
@@ -27,16 +29,17 @@ pub record LineRead : Type 0 where
   pub at : ℕ
   pub rules : Rules
 
--- the code's, over the bytes that were lent
-abbrev pub line_of : Code.LineRead → (bytes : List ℕ) → LineRead
-line_of l bs = record { fits = l.fits; at = l.at; rules = rules_of bs l.numbering }
-
 -- the rules that a line may need: those that are left, and its own
 abbrev pub with_left : Rules → Rules
 with_left r = record { bytes = r.bytes; next = r.next; left = suc max_rules - r.next }
 
 abbrev pub line_with : (at : ℕ) → Rules → LineRead
 line_with i r = record { fits = true; at = i; rules = r }
+
+-- what the code answers, over the rules that were lent: the place after the line
+abbrev pub line_of : Result ℕ Unfit → Rules → LineRead
+line_of (Ok i) r = line_with i r
+line_of (Err e) r = record { fits = false; at = e.at; rules = r }
 
 -- the place after the first two tokens from a place on
 abbrev pub PassesTwo : (text : List ℕ) → (at to : ℕ) → Type 0
@@ -87,16 +90,19 @@ pub record LinesRoom (text : List ℕ) (lines : ℕ) : Type 0 where
 abbrev pub EndsKept : (ds : List Definition) → (k : ℕ) → (ends : List ℕ) → Type 0
 EndsKept ds k ends = (j : ℕ) → j < k → get_or ends j 0 ≡ first_helper ds (suc j)
 
-pub record LinesRight (text : List ℕ) (ds : List Definition) (r : Lines) : Type 0 where
-  pub fits : r.fits ≡ leb (needs ds) max_rules
-  pub count : needs ds ≤ max_rules → r.rules.next ≡ needs ds
-  pub bytes :
-      needs ds ≤ max_rules →
-      r.rules.bytes ≡ padded (encode (named_from (heads text) 0 (length ds) ds ++ helpers_from (heads text) 0 (length ds) ds))
-  pub ends : needs ds ≤ max_rules → EndsKept ds (length ds) r.ends
+pub record LinesMade (text : List ℕ) (ds : List Definition) (r : Lines) : Type 0 where
+  pub enough : needs ds ≤ max_rules
+  pub count : r.rules.next ≡ needs ds
+  pub bytes : r.rules.bytes ≡ padded (encode (named_from (heads text) 0 (length ds) ds ++ helpers_from (heads text) 0 (length ds) ds))
+  pub ends : EndsKept ds (length ds) r.ends
+
+-- the lines are read if 31 rules are enough, and only then
+abbrev pub LinesRight : (text : List ℕ) → List Definition → Result Lines Unfit → Type 0
+LinesRight text ds (Ok r) = LinesMade text ds r
+LinesRight text ds (Err e) = max_rules < needs ds
 
 -- whatever so many lines the tokens from a place on are
-abbrev pub LinesRead : (text : List ℕ) → (at lines : ℕ) → Lines → Type 0
+abbrev pub LinesRead : (text : List ℕ) → (at lines : ℕ) → Result Lines Unfit → Type 0
 LinesRead text i n r = (ds : List Definition) → Reads max_depth (tokens_at text i) ds → length ds ≡ n → LinesRight text ds r
 
 -- WHAT READING KEEPS OF THE LINES: how many there are, and where each line's rules end
@@ -104,11 +110,23 @@ pub record LinesKept (ds : List Definition) (lines : ℕ) (numbers : List ℕ) :
   pub count : lines ≡ length ds
   pub ends : EndsKept ds (length ds) numbers
 
--- a text that was read: whatever lines it is, they are kept
-pub record TextRead (text : List ℕ) (r : ReadText) : Type 0 where
-  pub tells : ReadTells text r.grammar
-  pub few : r.grammar.refusal.number ≡ 0 → r.lines ≤ max_rules
-  pub kept : r.grammar.refusal.number ≡ 0 → (ds : List Definition) → LegalText text ds → LinesKept ds r.lines r.ends
+-- the grammar alone
+abbrev pub grammar_in : Result ReadText Refusal → Result GrammarBytes Refusal
+grammar_in (Ok t) = Ok t.grammar
+grammar_in (Err f) = Err f
+
+-- of a text that was read: whatever lines it is, they are kept
+pub record TextKept (text : List ℕ) (t : ReadText) : Type 0 where
+  pub few : t.lines ≤ max_rules
+  pub kept : (ds : List Definition) → LegalText text ds → LinesKept ds t.lines t.ends
+
+abbrev pub KeptIfRead : (text : List ℕ) → Result ReadText Refusal → Type 0
+KeptIfRead text (Ok t) = TextKept text t
+KeptIfRead text (Err f) = Unit {0}
+
+pub record TextRead (text : List ℕ) (r : Result ReadText Refusal) : Type 0 where
+  pub tells : ReadTells text (grammar_in r)
+  pub kept : KeptIfRead text r
 
 -- the line that a rule is of, whatever lines were kept
 abbrev pub RuleOfLine : (lines : ℕ) → (ends : List ℕ) → (rule line : ℕ) → Type 0

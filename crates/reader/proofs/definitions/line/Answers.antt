@@ -1,31 +1,16 @@
 -- `reader::definitions::line` meets its contract. Assumes nothing.
-use Rattle.reader.proofs.Lining.{line_over, line_read, line_ready, line_part}
-use Rattle.reader.specs.Code.Lines.{LineRead}
-use Rattle.expressions.specs.Code.Levels.{level_of}
-use mathlib.Core.Path.{ap}
-use mathlib.Core.List.{[]}
-use native.Mathlib.Omega.{arith}
-use borrow.Author.Tests.{not-true, not-false}
+use mathlib.Core.Path.{refl}
+use Rattle.expressions.specs.Code.Operators.{read_of}
+use Rattle.expressions.proofs.Emitting.{handed_on}
+use Rattle.reader.proofs.Lining.{line_over, line_read}
 use Rattle.reader.proofs.definitions.line.Goals as goal
 
-pub expression-x-requires : goal.expression-x-requires
-expression-x-requires c =
-    ((omega arith, omega arith), line_ready _ _ _ _ c.requires (c.refilled.ensures _))
-
-pub returns-then-not-x : goal.returns-then-not-x
-unfolding level_of
-returns-then-not-x c =
-    line_over _ _ _ _ _ c.requires c.body_at-body.ensures _ (c.refilled.ensures _)
-    _ c.expression-x.ensures (not-true _ c.if-not-x.true) _ (ap (λ (y : LineRead). y.fits) (c.unread.ensures []))
-
-pub topped-requires : goal.topped-requires
-topped-requires c = (
-  c.requires.below,
-  line_part _ _ _ _ _ c.requires (c.refilled.ensures _) (c.expression-x.ensures.spent (not-false _ c.if-not-x.false)),
-)
+pub returns-in_err-x : goal.returns-in_err-x
+returns-in_err-x c =
+    rw (handed_on _ _ c.from_residual.ensures.1)
+    (line_over _ _ _ _ _ c.requires c.body_at-body.ensures _ c.refill.ensures _ c.in_err-x.ensures refl _ refl)
 
 pub returns : goal.returns
-unfolding level_of
 returns c =
-    line_read _ _ _ _ _ c.requires c.body_at-body.ensures _ (c.refilled.ensures _)
-    _ c.expression-x.ensures (not-false _ c.if-not-x.false) _ c.after-end.ensures _ c.topped.ensures
+    line_read _ _ _ _ _ c.requires c.body_at-body.ensures _ c.refill.ensures (read_of c.in_ok-x.x c.expression.new.rules) c.in_ok-x.ensures refl _
+    c.after-end.ensures _ c.topped.ensures
