@@ -7,8 +7,9 @@ use native.Mathlib.Omega.{arith}
 use native.Mathlib.Numerals.{add-one}
 use lib.ListN.{length, get_or, set, take, drop, length-append, take-append-drop, drop_of_length-le}
 use lib.Seq.{take-suc, take_all, take-nil, drop-nil, drop-cons, set_split}
-use Rattle.answer_line.specs.Line.{written, BufferHolds}
-use Rattle.answer_line.specs.Code.Writing.{Adds}
+use Rattle.answer_line.specs.declared.Line.{Line}
+use Rattle.answer_line.specs.Line.{written, BufferHolds, Lined, max_line}
+use Rattle.answer_line.specs.Code.Writing.{Adds, Writes}
 
 -- no room
 written_none : (text : List ℕ) → written text [] ≡ []
@@ -84,19 +85,25 @@ add_both {a} {b} {x} {i} {y} {j} {z} f g =
       counted = omega (arith, f.counted, g.counted, length_added f, length-append a b);
     }
 
--- a text that is added at the first byte is the text held
-pub holds_first : {text buffer after : List ℕ} {count : ℕ} → Adds text buffer 0 after count → BufferHolds text buffer after count
-holds_first f = record { bytes = f.bytes; counted = omega (arith, f.counted) }
+-- the same of a line
+pub write_nothing : (x : Line) → Writes [] x x
+write_nothing x = record { adds = add_nothing x.out.now x.at; same_buffer = refl }
 
--- a word, one byte more and the whole of it
+pub write_both : {a b : List ℕ} {x y z : Line} → Writes a x y → Writes b y z → Writes (a ++ b) x z
+write_both f g = record { adds = add_both f.adds g.adds; same_buffer = g.same_buffer ∙ f.same_buffer }
+
+-- a word, one byte more
 pub word_more :
-    (word : List ℕ) (i : ℕ) {x : List ℕ} {a : ℕ} {y : List ℕ} {b : ℕ} {z : List ℕ} {k : ℕ} → i < length word → Adds (take i word) x a y b →
-    Adds (get_or word i 0 ∷ []) y b z k → Adds (take (i + 1) word) x a z k
-word_more word i h f g = rw (add-one i, take-suc word i 0 h) (add_both f g)
+    (word : List ℕ) (i : ℕ) {x y z : Line} → i < length word → Writes (take i word) x y → Writes (get_or word i 0 ∷ []) y z → Writes (take (i + 1) word) x z
+word_more word i h f g = rw (add-one i, take-suc word i 0 h) (write_both f g)
 
-pub word_whole :
-    (word : List ℕ) (i : ℕ) {x : List ℕ} {a : ℕ} {y : List ℕ} {b : ℕ} → length word ≤ i → Adds (take i word) x a y b → Adds word x a y b
-word_whole word i {x} {a} {y} {b} h f = subst (λ (w : List ℕ). Adds w x a y b) (take_all i word h) f
+-- a text that is written from the first byte on is the text held
+pub line_held :
+    {text out : List ℕ} {first last : Line} → Writes text first last → length text ≤ max_line → first.at ≡ 0 →
+    (first.out.ghost_name ≡ last.out.ghost_name → out ≡ last.out.now) → Lined text first.out.now out last.at
+line_held {text} {out} {first} {last} w short start same =
+    let f : Adds text first.out.now 0 last.out.now last.at = subst (λ (n : ℕ). Adds text first.out.now n last.out.now last.at) start w.adds in
+    record { holds = record { bytes = same (sym w.same_buffer) ∙ f.bytes; counted = omega (arith, f.counted) }; short = short }
 
 -- a text that has room is counted whole, and the later bytes are as they were
 pub record Whole (text buffer buffer_now : List ℕ) (count : ℕ) : Type 0 where

@@ -1,75 +1,88 @@
-// The answer's line as bytes, written into a buffer one byte after the other as far as there is room. Each function takes the place to go on at, and answers the next one.
+// The answer's line as bytes, written into a buffer one byte after the other as far as there is room.
 #![tactic(auto)]
 
-ghost use Rattle.std.specs.Prelude.{◌∷◌, []};
-ghost use Rattle.answer_line.specs.Line.{Lined, decimal, field, verdict_word, refusal_line, recursion_line, passes_line, answer_line};
-ghost use Rattle.answer_line.specs.Code.Writing.{Adds, AddsConfig};
+ghost use Rattle.std.specs.Prelude.{◌≡◌, ◌∷◌, []};
+ghost use Rattle.answer_line.specs.Line.{Lined, line_feed, decimal, field, verdict_word, refusal_line, recursion_line, passes_line, answer_line};
+ghost use Rattle.answer_line.specs.Code.Writing.{Writes, WritesConfig};
 
 use machine::{Config, Verdict};
 use refusal::Refusal;
 
-fn put(out: &mut [u8], at: usize, byte: u8) -> usize
-    ensures { Adds (byte ∷ []) out.old at out.new result }
-{
-    if out.len() <= at {
-        return at;
+// A buffer that a line is written into, and the place to go on at.
+// kept: not written by write!, since no clause says that it succeeds, and where it fails none says what it wrote.
+#[derive(Drop)]
+struct Line<'a> {
+    out: &'a mut [u8],
+    at: usize,
+}
+
+impl Line<'_> {
+    #[tactic(auto, using(crate::proofs::Writing::put_full, crate::proofs::Writing::put_room))]
+    fn put(&mut self, byte: u8)
+        ensures { Writes (byte ∷ []) self.old self.new }
+    {
+        if self.at < self.out.len() {
+            self.out[self.at] = byte;
+            self.at += 1;
+        }
     }
-    out[at] = byte;
-    at + 1
-}
 
-fn put_word(out: &mut [u8], at: usize, word: &[u8]) -> usize
-    ensures { Adds word.now out.old at out.new result }
-{
-    let mut next = at;
-    let mut i: usize = 0;
-    while i < word.len() {
-        next = put(out, next, word[i]);
-        i += 1;
+    fn word(&mut self, word: &[u8])
+        ensures { Writes word.now self.old self.new }
+    {
+        for &byte in word {
+            self.put(byte);
+        }
     }
-    next
-}
 
-// A number in decimal: all digits but the last, then the last.
-fn put_number(out: &mut [u8], at: usize, number: u64) -> usize
-    ensures { Adds (decimal number) out.old at out.new result }
-{
-    let last = number % 10;
-    let digit = b'0' + last as u8;
-    if number < 10 {
-        return put(out, at, digit);
+    // A number in decimal: all digits but the last, then the last.
+    fn number(&mut self, number: u64)
+        ensures { Writes (decimal number) self.old self.new }
+    {
+        if number >= 10 {
+            self.number(number / 10);
+        }
+        self.put(b'0' + (number % 10) as u8);
     }
-    let rest = number / 10;
-    let next = put_number(out, at, rest);
-    put(out, next, digit)
+
+    // A number after a space.
+    fn field(&mut self, number: u64)
+        ensures { Writes (field number) self.old self.new }
+    {
+        self.put(b' ');
+        self.number(number);
+    }
+
+    // A configuration: state, head, symbol.
+    fn config(&mut self, c: Config)
+        ensures { WritesConfig c self.old self.new }
+    {
+        self.field(u64::from(c.state));
+        self.field(u64::from(c.head));
+        self.field(u64::from(c.symbol));
+    }
+
+    // Ends the line, and answers how many bytes of it are in the buffer.
+    fn finish(&mut self) -> usize
+        ensures feed { Writes (line_feed ∷ []) self.old self.new }
+        ensures count { result ≡ self.new.at }
+    {
+        self.put(b'\n');
+        self.at
+    }
 }
 
-// A number after a space.
-fn put_field(out: &mut [u8], at: usize, number: u64) -> usize
-    ensures { Adds (field number) out.old at out.new result }
-{
-    let next = put(out, at, b' ');
-    put_number(out, next, number)
-}
-
-// A configuration: state, head, symbol.
-fn put_config(out: &mut [u8], at: usize, c: Config) -> usize
-    ensures { AddsConfig c out.old at out.new result }
-{
-    let state = put_field(out, at, c.state as u64);
-    let head = put_field(out, state, c.head as u64);
-    put_field(out, head, c.symbol as u64)
-}
-
-fn put_verdict(out: &mut [u8], at: usize, verdict: Verdict) -> usize
-    ensures { Adds (verdict_word verdict) out.old at out.new result }
+// A verdict's word.
+#[tactic(auto, unfolding(crate::specs::Line::verdict_word))]
+fn word_of(verdict: Verdict) -> &'static [u8]
+    ensures { result.now ≡ verdict_word verdict }
 {
     match verdict {
-        Verdict::Accepted => put_word(out, at, b"accepted"),
-        Verdict::Ended => put_word(out, at, b"ended"),
-        Verdict::Stuck => put_word(out, at, b"stuck"),
-        Verdict::Looping => put_word(out, at, b"looping"),
-        Verdict::Halted => put_word(out, at, b"halted"),
+        Verdict::Accepted => b"accepted",
+        Verdict::Ended => b"ended",
+        Verdict::Stuck => b"stuck",
+        Verdict::Looping => b"looping",
+        Verdict::Halted => b"halted",
     }
 }
 
@@ -77,35 +90,41 @@ fn put_verdict(out: &mut [u8], at: usize, verdict: Verdict) -> usize
 pub fn put_refusal(out: &mut [u8], refusal: Refusal) -> usize
     ensures { Lined (refusal_line refusal) out.old out.new result }
 {
-    let word = put_word(out, 0, b"refused");
-    let number = put_field(out, word, refusal.number as u64);
-    let place = put_field(out, number, refusal.place as u64);
-    put(out, place, b'\n')
+    let mut line = Line { out, at: 0 };
+    line.word(b"refused");
+    line.field(u64::from(refusal.number()));
+    line.field(refusal.place() as u64);
+    line.finish()
 }
 
 // The line of a typed grammar with a rule that leads back to itself: the rule's number, and the offset of its line's name.
 pub fn put_recursion(out: &mut [u8], rule: usize, name: usize) -> usize
     ensures { Lined (recursion_line rule name) out.old out.new result }
 {
-    let word = put_word(out, 0, b"refused 19");
-    let number = put_field(out, word, rule as u64);
-    let place = put_field(out, number, name as u64);
-    put(out, place, b'\n')
+    let mut line = Line { out, at: 0 };
+    line.word(b"refused 19");
+    line.field(rule as u64);
+    line.field(name as u64);
+    line.finish()
 }
 
 // The line of one with no such rule.
+#[tactic(auto, using(crate::proofs::Writing::line_held, crate::proofs::LineLength::passes_short), unfolding(crate::specs::Line::passes_line))]
 pub fn put_passes(out: &mut [u8]) -> usize
     ensures { Lined passes_line out.old out.new result }
 {
-    put_word(out, 0, b"passes\n")
+    let mut line = Line { out, at: 0 };
+    line.word(b"passes\n");
+    line.at
 }
 
 // The line of an answer.
 pub fn put_answer(out: &mut [u8], verdict: Verdict, readings: u32, end: Config) -> usize
     ensures { Lined (answer_line verdict readings end) out.old out.new result }
 {
-    let word = put_verdict(out, 0, verdict);
-    let count = put_field(out, word, readings as u64);
-    let config = put_config(out, count, end);
-    put(out, config, b'\n')
+    let mut line = Line { out, at: 0 };
+    line.word(word_of(verdict));
+    line.field(u64::from(readings));
+    line.config(end);
+    line.finish()
 }

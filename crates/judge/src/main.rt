@@ -6,7 +6,7 @@ ghost use Rattle.grammar_judge.specs.Calls.{lent};
 ghost use Rattle.judge.specs.Program.{Buffers, Prints};
 
 use answer::answer;
-use transfer::{complain, cut_short, read_whole, write_on};
+use transfer::{complain, read_whole, write_on};
 
 // The line for the input that stands at the start of its buffer, in buffers of the sizes that the program has.
 fn line_of(
@@ -39,7 +39,7 @@ fn main(rt: HostRuntime) {
     let count = read.count;
     let long = line_of(&input, count, &mut image, &mut notes, &mut work, &mut line);
     let stop = write_on(&mut rt.stdout(), &line[..long]);
-    if cut_short(stop, long) {
+    if stop.cut_short(long) {
         complain(&mut errors, b"judge: the line cannot be written", stop);
     }
 }

@@ -7,9 +7,8 @@ use Rattle.syntax.specs.Reading.{Refused, Grammar, ReadSays}
 use Rattle.typed.specs.declared.left_recursion.TextRecursion.{TextRecursion}
 use Rattle.typed.specs.declared.left_recursion.TextRecursion.TheVariants.{Passes, Refused as Unread, Recursive}
 use Rattle.typed.specs.Recursion.{TextRecursionSays}
-use Rattle.transfer.specs.declared.Outcome.{Outcome}
 use Rattle.transfer.specs.declared.Stop.{Stop}
-use Rattle.transfer.specs.Transfers.{has_failed, Stopped}
+use Rattle.transfer.specs.Transfers.{Outcome, has_failed, Stopped}
 use Rattle.read_text.specs.declared.Output.{Output}
 
 -- the longest text, in bytes

@@ -12,7 +12,7 @@ use refusal::Refusal;
 use std::env::FillError;
 use std::io::Write;
 use std::rt::Env;
-use transfer::{Stop, complain, cut_short, failed, read_on, write_on};
+use transfer::{Stop, complain, read_on, write_on};
 use typed::left_recursion::{TextRecursion, check_text_recursion};
 
 // The longest text, in bytes.
@@ -102,7 +102,7 @@ fn output_of<E: Write>(input: &[u8], stop: Stop, checks: bool, errors: &mut E) -
     requires { Buffer input.now stop }
     ensures { Writes checks stop.last (take stop.count input.now) result }
 {
-    if failed(stop) {
+    if stop.failed() {
         return unread(errors, stop);
     }
     let count = stop.count;
@@ -128,7 +128,7 @@ fn main(rt: HostRuntime) {
     let bytes = output.bytes;
     let long = output.length;
     let end = write_on(&mut rt.stdout(), &bytes[..long]);
-    if cut_short(end, long) {
+    if end.cut_short(long) {
         complain(&mut errors, b"read_text: the output cannot be written", end);
     }
 }

@@ -41,6 +41,7 @@ impl Stop {
 }
 
 // How many bytes are an input, and how reading stopped.
+// kept: no Result, since WholeInput says how reading stopped where it did not fail too.
 #[derive(Clone, Copy)]
 pub struct Input {
     pub count: usize,
