@@ -1,64 +1,16 @@
--- Totals with one line more, by that line's case, as the code makes them. Assumes nothing.
+-- What a line adds to totals leaves room for the next. Assumes nothing.
 use Rattle.std.specs.Prelude.{Err, Ok}
-use mathlib.Core.Path.{◌≡◌}
 use mathlib.Core.Bool.{Bool, true, false, cond}
 use Prim.Native.Nat.{ℕ, ◌+◌, ◌≤◌}
-use native.Mathlib.Nat.{add-zero}
 use native.Mathlib.Omega.{arith}
 use lib.Dec.{eqb}
 use Rattle.machine.specs.declared.Verdict.{Verdict}
 use Rattle.machine.specs.declared.Verdict.TheVariants.{Accepted, Ended, Stuck, Looping, Halted}
 use Rattle.machine.specs.Replies.{verdict_number}
-use Rattle.refusal.specs.declared.Refusal.{Refusal}
 use Rattle.simulator.specs.Answers.{Judged}
-use Rattle.simulator.specs.declared.Judgement.{Judgement}
 use Rattle.bundle.specs.declared.Totals.{Totals}
 use Rattle.bundle.specs.Report.{gives, is_refused, line_readings}
 use Rattle.bundle.specs.Code.Judging.{max_u32, RoomAfter, with_line}
-
-abbrev totals_of : (accepted ended stuck looping halted refused readings : ℕ) → Totals
-totals_of a e s l h f n =
-    record { accepted = a; ended = e; stuck = s; looping = l; halted = h; refused = f; readings = n }
-
-module _ (t : Totals) (j : Judgement) where
-  pub accepted_added :
-      j.verdict ≡ Accepted →
-      totals_of (t.accepted + 1) t.ended t.stuck t.looping t.halted t.refused (t.readings + j.readings) ≡ with_line t (Ok j)
-  unfolding with_line gives is_refused line_readings verdict_number
-  accepted_added e = rw e (simp add-zero)
-
-  pub ended_added :
-      j.verdict ≡ Ended →
-      totals_of t.accepted (t.ended + 1) t.stuck t.looping t.halted t.refused (t.readings + j.readings) ≡ with_line t (Ok j)
-  unfolding with_line gives is_refused line_readings verdict_number
-  ended_added e = rw e (simp add-zero)
-
-  pub stuck_added :
-      j.verdict ≡ Stuck →
-      totals_of t.accepted t.ended (t.stuck + 1) t.looping t.halted t.refused (t.readings + j.readings) ≡ with_line t (Ok j)
-  unfolding with_line gives is_refused line_readings verdict_number
-  stuck_added e = rw e (simp add-zero)
-
-  pub looping_added :
-      j.verdict ≡ Looping →
-      totals_of t.accepted t.ended t.stuck (t.looping + 1) t.halted t.refused (t.readings + j.readings) ≡ with_line t (Ok j)
-  unfolding with_line gives is_refused line_readings verdict_number
-  looping_added e = rw e (simp add-zero)
-
-  pub halted_added :
-      j.verdict ≡ Halted →
-      totals_of t.accepted t.ended t.stuck t.looping (t.halted + 1) t.refused (t.readings + j.readings) ≡ with_line t (Ok j)
-  unfolding with_line gives is_refused line_readings verdict_number
-  halted_added e = rw e (simp add-zero)
-
-pub refused_added :
-    (t : Totals) {r : Judged} (f : Refusal) → r ≡ Err f →
-    totals_of t.accepted t.ended t.stuck t.looping t.halted (t.refused + 1) t.readings ≡ with_line t r
-unfolding with_line gives is_refused line_readings
-refused_added t f e = rw e (simp add-zero)
-
-pub answer_added : (t : Totals) {u : Totals} {r : Judged} {j : Judgement} → r ≡ Ok j → u ≡ with_line t (Ok j) → u ≡ with_line t r
-answer_added t e h = rw e h
 
 -- what a line adds is 1 at most, but for its readings, which have 32 bits
 gives_most : (v : Verdict) (r : Judged) → gives v r ≤ 1

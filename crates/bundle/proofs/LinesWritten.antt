@@ -1,10 +1,11 @@
--- A line's seven stores, and the lines in cells when one more is written. Assumes nothing.
+-- A line's seven cells copied, and the lines in cells when one more is written. Assumes nothing.
 use mathlib.Core.Path.{◌≡◌, sym, ap, ◌∙◌}
-use mathlib.Core.List.{List, [], ◌∷◌, ◌++◌}
-use Prim.Native.Nat.{ℕ, suc, ◌+◌, ◌*◌, ◌≤◌}
+use mathlib.Core.List.{List, [], ◌∷◌, ◌++◌, append_assoc}
+use Prim.Native.Nat.{ℕ, ◌+◌, ◌*◌, ◌-◌}
 use native.Mathlib.Omega.{arith}
-use lib.ListN.{length, drop, set}
-use lib.Seq.{sets-eq, drop-drop}
+use lib.ListN.{length, take, drop}
+use lib.Seq.{drop-drop}
+use borrow.Rule.Slice.PartMut.{put_mid}
 use Rattle.codec.specs.Bytes.{written}
 use Rattle.machine.specs.declared.Reply.{Reply}
 use Rattle.simulator.specs.Answers.{Judged}
@@ -12,36 +13,13 @@ use Rattle.simulator.specs.Replies.{of_judged}
 use Rattle.bundle.specs.Report.{line_width, line_cells, lines_cells}
 use Rattle.bundle.proofs.LineCells.{lines_append, lines_first, lines_then_rest}
 
--- seven stores
-pub seven_stored :
-    (l : List ℕ) (i a b c d e f g : ℕ) → i + 7 ≤ length l →
-    set (set (set (set (set (set (set l i a) (i + 1) b) (i + 2) c) (i + 3) d) (i + 4) e) (i + 5) f) (i + 6) g
-    ≡ written l i (a ∷ b ∷ c ∷ d ∷ e ∷ f ∷ g ∷ [])
-unfolding written
-seven_stored l i a b c d e f g h =
-    let one : i + 1 ≡ suc i = omega arith in
-    let two : i + 2 ≡ suc (suc i) = omega arith in
-    let three : i + 3 ≡ suc (suc (suc i)) = omega arith in
-    let four : i + 4 ≡ suc (suc (suc (suc i))) = omega arith in
-    let five : i + 5 ≡ suc (suc (suc (suc (suc i)))) = omega arith in
-    let six : i + 6 ≡ suc (suc (suc (suc (suc (suc i))))) = omega arith in
-    rw (one, two, three, four, five, six) (sets-eq (a ∷ b ∷ c ∷ d ∷ e ∷ f ∷ g ∷ []) l i h)
-
-pub line_stored :
-    (l : List ℕ) (i : ℕ) (p : Reply) → line_width * i + line_width ≤ length l →
-    set
-    (set
-    (set
-    (set (set (set (set l (7 * i) p.refusal) (7 * i + 1) p.place) (7 * i + 2) p.verdict) (7 * i + 3) p.count)
-    (7 * i + 4)
-    p.end.state)
-    (7 * i + 5)
-    p.end.head)
-    (7 * i + 6)
-    p.end.symbol
-    ≡ written l (line_width * i) (line_cells p)
-unfolding line_cells
-line_stored l i p h = seven_stored l (7 * i) _ _ _ _ _ _ _ h
+-- seven cells copied into their place
+pub line_copied :
+    (l : List ℕ) (k : ℕ) {ys : List ℕ} (p : Reply) → ys ≡ line_cells p → put_mid k (k + 7 - k) l ys ≡ written l k (line_cells p)
+unfolding written line_cells
+line_copied l k p e =
+    let width : k + 7 - k ≡ 7 = omega arith in
+    rw (e, width, drop-drop 7 k l) (sym (append_assoc (take k l) (line_cells p) (drop (k + 7) l)))
 
 -- written behind those that stand there
 pub line_behind :

@@ -1,5 +1,6 @@
 -- The pairs of a bundle checked one by one: what is left of the check at each of them. Assumes nothing.
-use mathlib.Core.Path.{◌≡◌, refl, sym, ◌∙◌}
+use Rattle.std.specs.Prelude.{Ok, Err}
+use mathlib.Core.Path.{◌≡◌, refl, ap, ◌∙◌}
 use mathlib.Core.Bool.{◌&&◌, cond}
 use mathlib.Core.List.{List}
 use Prim.Native.Nat.{ℕ, suc, ◌+◌, ◌-◌, ◌<◌, ◌≤◌}
@@ -11,6 +12,8 @@ use Rattle.codec.specs.declared.Pair.{Pair}
 use Rattle.codec.specs.Numbers.{pair_at}
 use Rattle.refusal.specs.declared.Refusal.{Refusal}
 use Rattle.refusal.specs.First.{refusal, no_refusal}
+use Rattle.refusal.specs.Checking.{checked}
+use Rattle.refusal.proofs.Checked.{refuses-made}
 use Rattle.bundle.specs.Format.{pair_place, offset, end, pairs_from}
 use Rattle.bundle.proofs.PairsRead.{offset_is, end_is}
 
@@ -33,16 +36,16 @@ one_more xs n floor i h =
     rw (e, s) refl
 
 module _ {xs : List ℕ} {n floor i at : ℕ} {p : Pair} (left : PairsLeft xs n floor i) (h : i < n) (e : at ≡ pair_place i) (q : p ≡ pair_at xs at) where
-  pub starts_early : {f : Refusal} → p.offset < floor → f ≡ refusal 18 at → f ≡ pairs_from n 0 (pair_place n) xs
+  pub starts_early : {f : Refusal} → p.offset < floor → f ≡ refusal 18 at → Err f ≡ checked (pairs_from n 0 (pair_place n) xs)
   starts_early k r =
       let o = offset_is xs i e q in
-      r ∙ (rw (left.same, one_more xs n floor i h, lt-leb floor (offset xs i) (omega (arith, k, o)), e) refl)
+      refuses-made _ _ r refl ∙ ap checked (rw (left.same, one_more xs n floor i h, lt-leb floor (offset xs i) (omega (arith, k, o)), e) refl)
 
-  pub ends_late : {f : Refusal} → floor ≤ p.offset → length xs < p.offset + p.long → f ≡ refusal 18 at → f ≡ pairs_from n 0 (pair_place n) xs
+  pub ends_late : {f : Refusal} → floor ≤ p.offset → length xs < p.offset + p.long → f ≡ refusal 18 at → Err f ≡ checked (pairs_from n 0 (pair_place n) xs)
   ends_late k m r =
       let o = offset_is xs i e q in
       let z = end_is xs i e q in
-      r ∙ (rw (left.same, one_more xs n floor i h, le-leb floor (offset xs i) (omega (arith, k, o)), lt-leb (end xs i) (length xs) (omega (arith, m, z)), e) refl)
+      refuses-made _ _ r refl ∙ ap checked (rw (left.same, one_more xs n floor i h, le-leb floor (offset xs i) (omega (arith, k, o)), lt-leb (end xs i) (length xs) (omega (arith, m, z)), e) refl)
 
   pub next_left : floor ≤ p.offset → p.offset + p.long ≤ length xs → PairsLeft xs n (p.offset + p.long) (i + 1)
   next_left k m =
@@ -53,8 +56,9 @@ module _ {xs : List ℕ} {n floor i at : ℕ} {p : Pair} (left : PairsLeft xs n 
         same = left.same ∙ (rw (one_more xs n floor i h, le-leb floor (offset xs i) (omega (arith, k, o)), le-leb (end xs i) (length xs) (omega (arith, m, z)), z) refl);
       }
 
-pub none_left : {xs : List ℕ} {n floor i : ℕ} → PairsLeft xs n floor i → n ≤ i → no_refusal ≡ pairs_from n 0 (pair_place n) xs
-unfolding pairs_from
+pub none_left : {xs : List ℕ} {n floor i : ℕ} → PairsLeft xs n floor i → n ≤ i → Ok tt ≡ checked (pairs_from n 0 (pair_place n) xs)
+unfolding pairs_from checked
 none_left {xs} {n} {floor} {i} left h =
     let e : n - i ≡ 0 = omega arith in
-    sym (left.same ∙ (rw e refl))
+    let none : pairs_from n 0 (pair_place n) xs ≡ no_refusal = left.same ∙ (rw e refl) in
+    rw none refl

@@ -8,7 +8,7 @@ use lib.ListN.{length, take, drop}
 use Rattle.machine.specs.Replies.{refusal_reply, count_reply}
 use Rattle.simulator.specs.Answers.{Judged}
 use Rattle.bundle.specs.Answers.{Report}
-use Rattle.bundle.specs.declared.Report.TheVariants.{Lines}
+use Rattle.bundle.specs.Answers as answers
 use Rattle.bundle.specs.Format.{count, call_refusal}
 use Rattle.bundle.specs.Report.{line_width, lines_cells, totals}
 use Rattle.bundle.specs.Calls.{BundleJudged, BundleSays}
@@ -71,7 +71,7 @@ bundle_independent bs xs r s l m l' m' a x a' x' b y b' y' p q f g = go (ℕ_dis
         let second : take n m' ≡ lines_cells g'.lines =
         ap (take n) g'.lines_now ∙ lines_first g'.lines (count xs) (drop n l') (all_lines bs xs s l' m' a' x' b' y' g')
         in (
-          f'.answers ∙ ap (λ (rs : List Judged). Lines (count xs) (totals rs)) same ∙ sym g'.answers,
+          f'.answers ∙ ap (λ (rs : List Judged). answers.lines (count xs) (totals rs)) same ∙ sym g'.answers,
           λ z. first ∙ ap lines_cells same ∙ sym second,
         )
 
@@ -91,7 +91,7 @@ bundle_determined bs xs r s l m m' a x x' b y y' f g = go (ℕ_discrete (call_re
         let g' = bundle_judged bs xs s l m' a x' b y' e g in
         let same : f'.lines ≡ g'.lines = same_lines bs xs r s l m l m' a x a x' b y b y' refl refl f' g' in
         let cells = cells_determined bs xs 0 0 f'.lines g'.lines a x b y a x' b y' refl refl refl f'.judged g'.judged in (
-          f'.answers ∙ ap (λ (rs : List Judged). Lines (count xs) (totals rs)) same ∙ sym g'.answers,
+          f'.answers ∙ ap (λ (rs : List Judged). answers.lines (count xs) (totals rs)) same ∙ sym g'.answers,
           f'.lines_now ∙ ap (λ (rs : List Judged). lines_cells rs ++ drop (line_width * count xs) l) same ∙ sym g'.lines_now,
           cells.0,
           cells.1,

@@ -10,11 +10,11 @@ use Rattle.simulator.specs.Answers.{Judged}
 use Rattle.simulator.specs.Calls.{JudgeSays}
 use Rattle.simulator.specs.Replies.{of_judged}
 use Rattle.bundle.specs.declared.Totals.{Totals}
-use Rattle.bundle.specs.declared.Report.TheVariants.{Lines}
+use Rattle.bundle.specs.Answers as answers
 use Rattle.bundle.specs.Format.{max_captures, count, capture}
 use Rattle.bundle.specs.Report.{line_width, line_cells, lines_cells, sum, totals}
 use Rattle.bundle.specs.Calls.{InOrder, done, next, BundleJudged}
-use Rattle.bundle.specs.Code.Judging.{Listed, CallChecked, RoomAfter, with_line}
+use Rattle.bundle.specs.Code.Judging.{RoomAfter, with_line}
 use Rattle.bundle.proofs.LineCells.{lines_long as cells_of_lines}
 use Rattle.bundle.proofs.LinesWritten.{line_behind}
 use Rattle.simulator.proofs.LengthsKept.{lengths_kept}
@@ -43,62 +43,75 @@ pub record SoFar (bs xs : List ℕ) (i : ℕ) (t : Totals) (l l_now a a_now b b_
   pub notes_long : length a_now ≡ length a
   pub work_long : length b_now ≡ length b
 
-pub none_yet : {bs xs l a b : List ℕ} {t : Totals} → t ≡ totals [] → SoFar bs xs 0 t l l a a b b
+abbrev totals_of : (accepted ended stuck looping halted refused readings : ℕ) → Totals
+totals_of a e s l h f n = record { accepted = a; ended = e; stuck = s; looping = l; halted = h; refused = f; readings = n }
+
+all_zero :
+    (t : Totals) → t.accepted ≡ 0 → t.ended ≡ 0 → t.stuck ≡ 0 → t.looping ≡ 0 → t.halted ≡ 0 → t.refused ≡ 0 → t.readings ≡ 0 →
+    t ≡ totals []
+unfolding totals sum
+all_zero t a e s l h f n =
+    let same : totals_of t.accepted t.ended t.stuck t.looping t.halted t.refused t.readings ≡ totals_of 0 0 0 0 0 0 0 = cc in same
+
+-- of default totals, all of them 0
+pub none_yet :
+    {bs xs l a b : List ℕ} {t : Totals} →
+    (t.accepted ≡ 0) × ((t.ended ≡ 0) × ((t.stuck ≡ 0) × ((t.looping ≡ 0) × ((t.halted ≡ 0) × ((t.refused ≡ 0) × ((t.readings ≡ 0) × Unit {0})))))) →
+    SoFar bs xs 0 t l l a a b b
 unfolding totals sum lines_cells
-none_yet {bs} {xs} {l} {a} {b} {t} e =
+none_yet {bs} {xs} {l} {a} {b} {t} (accepted, (ended, (stuck, (looping, (halted, (refused, (readings, _))))))) =
     record {
       lines = [];
       many = refl;
       within = omega arith;
       completed = λ qs x y s. s;
-      totals_are = e;
-      room = rw e (record { accepted = omega arith; ended = omega arith; stuck = omega arith; looping = omega arith; halted = omega arith; refused = omega arith; readings = omega arith });
+      totals_are = all_zero t accepted ended stuck looping halted refused readings;
+      room =
+          record {
+            accepted = omega (arith, accepted);
+            ended = omega (arith, ended);
+            stuck = omega (arith, stuck);
+            looping = omega (arith, looping);
+            halted = omega (arith, halted);
+            refused = omega (arith, refused);
+            readings = omega (arith, readings);
+          };
       lines_now = refl;
       notes_long = refl;
       work_long = refl;
     }
 
-module _ {bs xs l m a x b y : List ℕ} {i n : ℕ} {t : Totals} (so : SoFar bs xs i t l m a x b y) (c : CallChecked bs xs n l) where
-  module _ (h : i < n) where
-    pub one_left : i < count xs
-    one_left = let e = c.counted in omega (arith, e, h)
+module _ {bs xs l m a x b y : List ℕ} {i : ℕ} {t : Totals} (so : SoFar bs xs i t l m a x b y) where
+  pub totals_room : {n : ℕ} → i < n → n ≤ max_captures → RoomAfter max_captures t
+  totals_room h few = room_for (omega (arith, h, few)) so.room
 
-    pub listed : Listed xs i
-    listed = record { good = c.bundle; there = one_left }
+  module _ (room : line_width * count xs ≤ length l) where
+    -- the lent lines keep their length
+    lines_long : length m ≡ length l
+    lines_long =
+        let w = so.within in
+        let rest = length-drop (line_width * i) l in
+        let front = cells_of_lines so.lines ∙ ap (λ (n : ℕ). line_width * n) so.many in
+        let both = length-append (lines_cells so.lines) (drop (line_width * i) l) in
+        ap length so.lines_now ∙ (omega (arith, room, w, rest, front, both))
 
-    pub few_enough : i < max_captures
-    few_enough = let few = c.bundle.counted.few in let k = one_left in omega (arith, few, k)
+    pub line_room : {n : ℕ} → n ≡ count xs → i < n → n ≤ max_captures → (i < max_captures) × (line_width * i + line_width ≤ length m)
+    line_room e h few =
+        let same = lines_long in
+        (omega (arith, h, few), omega (arith, e, h, room, same))
 
-    pub totals_room : RoomAfter max_captures t
-    totals_room = let k = few_enough in room_for (omega (arith, k)) so.room
-
-  -- the lent lines keep their length
-  pub lines_long : length m ≡ length l
-  lines_long =
-      let e = c.counted in
-      let k = c.room in
-      let w = so.within in
-      let rest = length-drop (line_width * i) l in
-      let front = cells_of_lines so.lines ∙ ap (λ (n : ℕ). line_width * n) so.many in
-      let both = length-append (lines_cells so.lines) (drop (line_width * i) l) in
-      ap length so.lines_now ∙ (omega (arith, e, k, w, rest, front, both))
-
-  pub line_room : i < n → (i < max_captures) × (line_width * i + line_width ≤ length m)
-  line_room h =
-      let k = c.room in
-      let same = lines_long in
-      (few_enough h, omega (arith, h, k, same))
-
-  pub all_done : n ≤ i → BundleJudged bs xs (Lines (count xs) t) l m a x b y
-  all_done h =
-      let all : i ≡ count xs = let e = c.counted in let w = so.within in omega (arith, e, h, w) in
-      let whole : SoFar bs xs (count xs) t l m a x b y = rw all at so in
-      record {
-        lines = whole.lines;
-        judged = rw (append-nil whole.lines) at (whole.completed [] x y done);
-        answers = ap (Lines (count xs)) whole.totals_are;
-        lines_now = whole.lines_now;
-      }
+pub all_done :
+    {bs xs l m a x b y : List ℕ} {i : ℕ} {t : Totals} → SoFar bs xs i t l m a x b y → {n : ℕ} → n ≡ count xs → n ≤ i →
+    BundleJudged bs xs (answers.lines (count xs) t) l m a x b y
+all_done {bs} {xs} {l} {m} {a} {x} {b} {y} {i} {t} so e h =
+    let all : i ≡ count xs = let w = so.within in omega (arith, h, w) in
+    let whole : SoFar bs xs (count xs) t l m a x b y = rw all at so in
+    record {
+      lines = whole.lines;
+      judged = rw (append-nil whole.lines) at (whole.completed [] x y done);
+      answers = ap (answers.lines (count xs)) whole.totals_are;
+      lines_now = whole.lines_now;
+    }
 
 -- one capture more is judged, its line written and counted
 pub one_more :

@@ -12,7 +12,7 @@ use Rattle.machine.specs.declared.Verdict.TheVariants.{Accepted, Ended, Stuck, L
 use Rattle.machine.specs.Replies.{verdict_number}
 use Rattle.simulator.specs.Answers.{Judged}
 use Rattle.simulator.specs.Replies.{of_judged}
-use Rattle.bundle.specs.declared.Report.TheVariants.{Lines}
+use Rattle.bundle.specs.Answers as answers
 use Rattle.bundle.specs.declared.Totals.{Totals}
 use Rattle.bundle.specs.Format.{count}
 use Rattle.bundle.specs.Report.{line_width, line_cells, lines_cells, refusal_cell, verdict_cell, readings_cell, sum, gives, is_refused, line_readings, totals, sum_of_lines}
@@ -50,7 +50,7 @@ over_cells bs xs k f rs l m a x b y o e h =
     ∙ ap (λ (n : ℕ). sum_of_lines n k f m) all
 
 pub totals_sum :
-    (bs xs : List ℕ) (n : ℕ) (t : Totals) (l m a x b y : List ℕ) → BundleSays bs xs (Lines n t) l m a x b y →
+    (bs xs : List ℕ) (n : ℕ) (t : Totals) (l m a x b y : List ℕ) → BundleSays bs xs (answers.lines n t) l m a x b y →
     ((v : Verdict) →
     get_or (totals_cells t) (verdict_number v) 0
     ≡ sum_of_lines (count xs) verdict_cell (λ k. cond (eqb k (verdict_number v)) 1 0) m)
@@ -101,7 +101,7 @@ all_counted (r ∷ rs) =
     omega (arith, one, rest)
 
 pub totals_whole :
-    (bs xs : List ℕ) (n : ℕ) (t : Totals) (l m a x b y : List ℕ) → BundleSays bs xs (Lines n t) l m a x b y →
+    (bs xs : List ℕ) (n : ℕ) (t : Totals) (l m a x b y : List ℕ) → BundleSays bs xs (answers.lines n t) l m a x b y →
     (n ≡ count xs) × (t.accepted + t.ended + t.stuck + t.looping + t.halted + t.refused ≡ count xs)
 unfolding totals
 totals_whole bs xs n t l m a x b y s =

@@ -1,5 +1,5 @@
 -- A BUNDLE as bytes: a count, then as many pairs of offset and length, then captures; and when it is wrong, with the place: refusal 18. Numbers have 32 bits. Assumes nothing: these are definitions.
-use Rattle.std.specs.Prelude.{◌&&◌, ◌||◌, cond, List, ℕ, zero, suc, ◌+◌, ◌*◌, ltb, leb, eqb, length}
+use Rattle.std.specs.Prelude.{◌&&◌, ◌||◌, cond, List, ℕ, zero, suc, ◌+◌, ◌*◌, ltb, leb, eqb, length, Result, Ok, Err}
 use Rattle.refusal.specs.declared.Refusal.{Refusal}
 use Rattle.refusal.specs.First.{refusal, no_refusal, or_else}
 use Rattle.codec.specs.Bytes.{section}
@@ -45,6 +45,10 @@ unfoldable pub bundle_refusal : (bundle : List ℕ) → Refusal
 bundle_refusal xs =
     cond (eqb (count xs) 0 || (ltb max_captures (count xs) || ltb (length xs) (pair_place (count xs)))) (refusal 18 0)
     (pairs_from (count xs) 0 (pair_place (count xs)) xs)
+
+-- a bundle's bytes where it is not refused
+unfoldable pub bundle_of : (bundle : List ℕ) → Result (List ℕ) Refusal
+bundle_of xs = cond (eqb (bundle_refusal xs).number 0) (Ok xs) (Err (bundle_refusal xs))
 
 -- THE CALL REFUSES by 1 to 6, of the image, then by 18
 unfoldable pub call_refusal : (image bundle : List ℕ) → Refusal

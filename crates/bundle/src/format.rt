@@ -1,11 +1,12 @@
 // The format of a bundle: its check (18), and each capture as the part of the bundle that its pair names.
-ghost use Rattle.std.specs.Prelude.{◌≡◌, ◌≤◌, length};
-ghost use Rattle.refusal.specs.First.{refusal};
-ghost use Rattle.bundle.specs.Format.{max_captures, pairs_offset, count as count_of, pair_place, capture, pairs_from, bundle_refusal};
-ghost use Rattle.bundle.specs.Code.Judging.{Listed};
+ghost use Rattle.std.specs.Prelude.{◌≡◌, ◌<◌, ◌≤◌, ℕ, List, length};
+ghost use Rattle.refusal.specs.Checking.{checked};
+ghost use Rattle.bundle.specs.Format.{max_captures, pairs_offset, count as count_of, pair_place, capture, pairs_from, bundle_refusal, bundle_of};
+ghost use Rattle.bundle.specs.Conditions.{BundleRight};
 
 use codec::{read_pair, read_u32};
-use refusal::Refusal;
+use refusal::{Kind, Refusal};
+use std::marker::Model;
 
 // The most captures.
 pub const MAX_CAPTURES: usize = 64;
@@ -18,6 +19,7 @@ const PAIRS_OFFSET: usize = 4;
 const PAIR_WIDTH: usize = 8;
 
 // Where pair i stands; of the count, where the pairs end.
+#[tactic(auto, unfolding(crate::specs::Format::pair_place))]
 fn place_of(i: usize) -> usize
     requires { i ≤ max_captures }
     ensures { result ≡ pair_place i }
@@ -26,6 +28,7 @@ fn place_of(i: usize) -> usize
 }
 
 // How many captures.
+#[tactic(auto, unfolding(crate::specs::Format::count))]
 pub fn count(bundle: &[u8]) -> usize
     requires { pairs_offset ≤ length bundle.now }
     ensures { result ≡ count_of bundle.now }
@@ -33,68 +36,82 @@ pub fn count(bundle: &[u8]) -> usize
     read_u32(bundle, COUNT_OFFSET) as usize
 }
 
-fn refused(place: usize) -> Refusal
-    ensures { result ≡ refusal 18 place }
-{
-    Refusal { number: 18, place }
-}
-
 // The pairs one by one, of a bundle with room for them: each starts no earlier than the one before ends, and ends inside the bundle.
-#[tactic(auto, using(crate::proofs::PairsChecked::starts_early, crate::proofs::PairsChecked::ends_late, crate::proofs::PairsChecked::next_left, crate::proofs::PairsChecked::none_left))]
-fn pairs_refusal(bundle: &[u8], count: usize) -> Refusal
+#[tactic(auto, using(crate::proofs::PairsRead::pair_room, crate::proofs::PairsChecked::at_first, crate::proofs::PairsChecked::starts_early, crate::proofs::PairsChecked::ends_late, crate::proofs::PairsChecked::next_left, crate::proofs::PairsChecked::none_left))]
+fn check_pairs(bundle: &[u8], count: usize) -> Result<(), Refusal>
     requires { (count ≤ max_captures) × (pair_place count ≤ length bundle.now) }
-    ensures { result ≡ pairs_from count 0 (pair_place count) bundle.now }
+    ensures { result ≡ checked (pairs_from count 0 (pair_place count) bundle.now) }
 {
     let mut floor = place_of(count);
-    let mut i: usize = 0;
-    while i < count {
+    for i in 0..count {
         let at = place_of(i);
         let pair = read_pair(bundle, at);
         let offset = pair.offset as usize;
-        let long = pair.long as usize;
-        let end = offset + long;
-        if offset < floor {
-            return refused(at);
-        }
-        if bundle.len() < end {
-            return refused(at);
+        let end = offset + pair.long as usize;
+        if offset < floor || bundle.len() < end {
+            return Err(Refusal::new(Kind::Bundle, at));
         }
         floor = end;
-        i += 1;
     }
-    Refusal {
-        number: 0,
-        place: 0,
-    }
+    Ok(())
 }
 
-// Refusal 18, or number 0.
-pub fn refusal_of(bundle: &[u8]) -> Refusal
-    ensures { result ≡ bundle_refusal bundle.now }
+// Refusal 18.
+#[tactic(auto, using(crate::proofs::CountChecked::no_count, crate::proofs::CountChecked::no_capture, crate::proofs::CountChecked::many_captures, crate::proofs::CountChecked::no_room, crate::proofs::CountChecked::by_pairs))]
+pub fn check_bundle(bundle: &[u8]) -> Result<(), Refusal>
+    ensures { result ≡ checked (bundle_refusal bundle.now) }
 {
     if bundle.len() < PAIRS_OFFSET {
-        return refused(0);
+        return Err(Refusal::new(Kind::Bundle, 0));
     }
     let captures = count(bundle);
-    if captures == 0 {
-        return refused(0);
+    if captures == 0 || MAX_CAPTURES < captures || bundle.len() < place_of(captures) {
+        return Err(Refusal::new(Kind::Bundle, 0));
     }
-    if MAX_CAPTURES < captures {
-        return refused(0);
-    }
-    if bundle.len() < place_of(captures) {
-        return refused(0);
-    }
-    pairs_refusal(bundle, captures)
+    check_pairs(bundle, captures)
 }
 
-// Capture i: the bundle's own bytes.
-pub fn capture_of(bundle: &[u8], i: usize) -> &[u8]
-    requires { Listed bundle.now i }
-    ensures { result.now ≡ capture bundle.now i }
-{
-    let pair = read_pair(bundle, place_of(i));
-    let offset = pair.offset as usize;
-    let long = pair.long as usize;
-    &bundle[offset..offset + long]
+// A bundle that is not refused: clauses see its bytes.
+#[derive(Drop)]
+pub struct Bundle<'a> {
+    bytes: &'a [u8],
+}
+
+impl<'a> Model for Bundle<'a> {
+    ghost Value = { List ℕ };
+
+    ghost view = { λ b. b.bytes.now };
+
+    ghost invariant = { λ b. BundleRight b.bytes.now };
+}
+
+impl<'a> Bundle<'a> {
+    #[tactic(auto, using(crate::proofs::CallChecked::passed_right, crate::proofs::CallChecked::made, crate::proofs::CallChecked::refused_bundle))]
+    pub fn new(bytes: &'a [u8]) -> Result<Bundle<'a>, Refusal>
+        ensures { result ≡ bundle_of bytes.now }
+    {
+        check_bundle(bytes)?;
+        Ok(Bundle { bytes })
+    }
+
+    // How many captures.
+    #[tactic(auto, using(crate::proofs::CallChecked::count_there))]
+    pub fn count(&self) -> usize
+        ensures counted { result ≡ count_of self.now }
+        ensures few { result ≤ max_captures }
+    {
+        count(self.bytes)
+    }
+
+    // Capture i: the bundle's own bytes.
+    #[tactic(auto, using(crate::proofs::PairsRead::few_before, crate::proofs::PairsRead::pair_inside, crate::proofs::PairsRead::part_inside, crate::proofs::PairsRead::part_is))]
+    pub fn capture(&self, i: usize) -> &'a [u8]
+        requires { i < count_of self.now }
+        ensures { result.now ≡ capture self.now i }
+    {
+        let pair = read_pair(self.bytes, place_of(i));
+        let offset = pair.offset as usize;
+        let long = pair.long as usize;
+        &self.bytes[offset..offset + long]
+    }
 }

@@ -1,14 +1,18 @@
 // A shift's captures in one bundle: its format and check (18), each capture as a part of it, and all of them judged by one image.
 #![tactic(auto)]
 
+ghost use Rattle.std.specs.Prelude.{◌≡◌};
+
 pub mod format;
 pub mod judging;
-pub mod lines;
+pub mod report;
 
+use machine::Verdict;
 use refusal::Refusal;
+use simulator::Judgement;
 
 // A report's last line: how many lines give each verdict, how many are refusals, and the sum of readings.
-#[derive(Clone, Copy)]
+#[derive(Clone, Copy, Default)]
 pub struct Totals {
     pub accepted: u64,
     pub ended: u64,
@@ -19,9 +23,35 @@ pub struct Totals {
     pub readings: u64,
 }
 
-// The answer of the call `judge_bundle`: how many lines there are, one a capture, and their totals.
+impl Totals {
+    ghost use Rattle.bundle.specs.Format.{max_captures};
+    ghost use Rattle.bundle.specs.Code.Judging.{RoomAfter, with_line};
+
+    // One line more.
+    #[tactic(auto, unfolding(crate::specs::Code::Judging::with_line, crate::specs::Report::gives, crate::specs::Report::is_refused, crate::specs::Report::line_readings, machine::specs::Replies::verdict_number))]
+    pub fn add(&mut self, line: &Result<Judgement, Refusal>)
+        requires { RoomAfter max_captures self.old }
+        ensures { self.new ≡ with_line self.old line.now }
+    {
+        match line {
+            Ok(judgement) => {
+                self.readings += u64::from(judgement.readings);
+                match judgement.verdict {
+                    Verdict::Accepted => self.accepted += 1,
+                    Verdict::Ended => self.ended += 1,
+                    Verdict::Stuck => self.stuck += 1,
+                    Verdict::Looping => self.looping += 1,
+                    Verdict::Halted => self.halted += 1,
+                }
+            }
+            Err(_) => self.refused += 1,
+        }
+    }
+}
+
+// What the call `judge_bundle` answers: how many lines there are, one a capture, and their totals.
 #[derive(Clone, Copy)]
-pub enum Report {
-    Refused(Refusal),
-    Lines(usize, Totals),
+pub struct Lines {
+    pub count: usize,
+    pub totals: Totals,
 }

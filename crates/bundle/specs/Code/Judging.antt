@@ -1,24 +1,9 @@
--- What judging a bundle's captures asks of checked input. Assumes nothing: these are definitions.
-use Rattle.std.specs.Prelude.{◌≡◌, List, ℕ, ◌*◌, ◌+◌, ◌<◌, ◌≤◌, length}
+-- What adding a line to totals asks of them, and gives. Assumes nothing: these are definitions.
+use Rattle.std.specs.Prelude.{ℕ, ◌*◌, ◌+◌, ◌≤◌}
 use Rattle.machine.specs.declared.Verdict.TheVariants.{Accepted, Ended, Stuck, Looping, Halted}
-use Rattle.image.specs.Refusals.{image_refusal}
 use Rattle.simulator.specs.Answers.{Judged}
 use Rattle.bundle.specs.declared.Totals.{Totals}
-use Rattle.bundle.specs.Format.{count}
-use Rattle.bundle.specs.Conditions.{BundleRight}
-use Rattle.bundle.specs.Report.{line_width, gives, is_refused, line_readings}
-
--- capture i is one of a bundle that is not refused
-pub record Listed (xs : List ℕ) (i : ℕ) : Type 0 where
-  pub good : BundleRight xs
-  pub there : i < count xs
-
--- image and bundle are not refused, and there is room for the lines
-pub record CallChecked (bs xs : List ℕ) (n : ℕ) (lines : List ℕ) : Type 0 where
-  pub image : (image_refusal bs).number ≡ 0
-  pub bundle : BundleRight xs
-  pub counted : n ≡ count xs
-  pub room : line_width * n ≤ length lines
+use Rattle.bundle.specs.Report.{gives, is_refused, line_readings}
 
 -- the most that 32 bits hold: more readings no line has
 abbrev pub max_u32 : ℕ
