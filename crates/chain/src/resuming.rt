@@ -7,8 +7,7 @@ use crate::cells::symbol_told;
 use crate::numbers::{in_row, row_of};
 use crate::{Environment, Mode, Registers};
 use image::lookup;
-use machine::terminating::termination_verdict;
-use machine::{Action, Config, Termination};
+use machine::{Action, Config, Termination, Verdict};
 
 pub fn registers_of(
     mode: Mode,
@@ -58,7 +57,7 @@ pub fn after_pop(
     let sizes = e.sizes;
     if depth == 0 {
         let accepting = lookup::accepts(e.finals, sizes.places, state, head);
-        let verdict = termination_verdict(Termination::Over { accepting });
+        let verdict = Verdict::from(Termination::Over { accepting });
         return registers_of(Mode::Done(verdict), d, number, false, 0, readings);
     }
     let j = depth - 1;

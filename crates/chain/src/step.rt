@@ -11,7 +11,6 @@ use crate::numbers::{config_from, moved_number, row_of};
 use crate::resuming::{after_pop, registers_of, resumed, unmoved};
 use crate::{Environment, Mode, Registers};
 use image::lookup;
-use machine::terminating::stop_verdict;
 use machine::{Action, Config, Verdict};
 
 // After the last open configuration is cleared the verdict stands.
@@ -85,7 +84,7 @@ fn first_look(
     let pushed = r.pushed;
     match action {
         Action::Stop(reason) => {
-            let verdict = stop_verdict(reason);
+            let verdict = Verdict::from(reason);
             opened(r, Mode::Clear(verdict), at, k, pushed, notes, work)
         }
         Action::Change(c) => {

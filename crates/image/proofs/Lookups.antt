@@ -4,15 +4,12 @@ use mathlib.Core.List.{List}
 use Prim.Native.Nat.{ℕ, ◌+◌, ◌*◌, ◌≤◌}
 use native.Mathlib.Nat.{mul-le-mul}
 use native.Mathlib.Omega.{arith}
-use lib.Dec.{eqb}
-use borrow.Author.Tests.{eq-eqb, ne_eqb}
 use Rattle.machine.proofs.Digits.{digits_apart}
 use Rattle.machine.specs.declared.Config.{Config}
 use Rattle.image.specs.declared.Sizes.{Sizes}
 use Rattle.machine.specs.declared.Action.{Action}
-use Rattle.machine.specs.declared.Action.TheVariants.{Pop}
 use Rattle.image.specs.Format
-use Rattle.image.specs.Image.{Rule, classes, symbols, rule_from, rule_offset, rule_at, sizes_of, class_under, rule_of, action_by, action}
+use Rattle.image.specs.Image.{classes, symbols, rule_from, rule_offset, rule_at, sizes_of, class_under, rule_of, action_by, action}
 use Rattle.image.specs.Refusals.{Unrefused}
 use Rattle.image.specs.Code.Lookup.{LookupReady, RuleFits, offset_by, RuleReady}
 use Rattle.image.proofs.Rules.{good, class_below, rule_index, state_there, head_there, symbol_there, rule_whole, left_room}
@@ -53,13 +50,6 @@ module _ {s : Sizes} {p k a : ℕ} (fits : RuleFits s p k a) where
 
   pub index_is : p * s.rules + k * s.symbols + a ≡ (p * (s.classes + 2) + k) * s.symbols + a
   index_is = rw fits.rules_are (sym (digits_apart p k a (s.classes + 2) s.symbols))
-
--- what a pop's rule does
-pub pop_is :
-    (r : Rule) (i p : ℕ) → (r.kind ≡ 1 → ⊥) → (r.kind ≡ 2 → ⊥) → r.kind ≡ 3 → p ≡ r.state →
-    Pop p (eqb r.direction 1) ≡ action_by r i
-unfolding action_by
-pop_is r i p a b d e = simp (ne_eqb _ _ a, ne_eqb _ _ b, eq-eqb _ _ d) (ap (λ (q : ℕ). Pop q (eqb r.direction 1)) e)
 
 module _ {bs cs : List ℕ} {s : Sizes} {c : Config} (l : LookupReady bs cs s c) {k : ℕ} (ek : k ≡ class_under bs cs c.head) where
   offset_is : offset_by s c.state k c.symbol ≡ Format.rules_offset + Format.rule_length * rule_index bs cs c

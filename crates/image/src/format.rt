@@ -35,6 +35,7 @@ pub const ZERO_OFFSET: usize = 27;
 pub const RULE_LENGTH: usize = 4;
 
 // Its kinds.
+// kept: bytes of the format and no enum: the lookup and the validator match the byte itself, and any other byte is no kind.
 pub const KIND_NONE: u8 = 0;
 
 pub const KIND_CHANGE: u8 = 1;

@@ -6,7 +6,8 @@ pub mod format;
 pub mod lookup;
 
 // The counts that every lookup needs: classes K, symbols G, tape places n + 2, and how many rules one state has, (K + 2) G.
-#[derive(Clone, Copy)]
+// kept: no struct of image, capture and counts with their fact: the judge's record is made of counts alone (start_in), and lookup::action_of, which the pages name, may ask for no such type.
+#[derive(Clone, Copy, Debug, PartialEq, Eq)]
 pub struct Sizes {
     pub classes: u32,
     pub symbols: u32,
@@ -15,7 +16,7 @@ pub struct Sizes {
 }
 
 // What selects a rule: state, class under the head, top symbol.
-#[derive(Clone, Copy)]
+#[derive(Clone, Copy, Debug, PartialEq, Eq)]
 pub struct Selector {
     pub state: u32,
     pub class: u32,

@@ -4,33 +4,28 @@ ghost use Rattle.image.specs.Format;
 ghost use Rattle.machine.specs.Terminating.{accepts_by};
 ghost use Rattle.machine.specs.Run.{returned as returned_to};
 ghost use Rattle.codec.specs.Numbers.{u32_at};
-ghost use Rattle.image.specs.Image.{sizes_of, class_under, rule_from, moved, led_to, stop_reason, action_by, action};
+ghost use Rattle.image.specs.Image.{sizes_of, class_under, rule_from, moved, led_to, action_by, action};
 ghost use Rattle.image.specs.Refusals.{Unrefused};
 ghost use Rattle.image.specs.Code.Lookup.{Counted, LookupReady, RuleFits, offset_by, HeadMoves, RuleReady};
 
 use crate::Sizes;
 use crate::format::{
-    CLASSES_OFFSET, FINALS_OFFSET, KIND_HALT, MAP_OFFSET, RULE_LENGTH, RULES_OFFSET, SYMBOLS_OFFSET,
+    CLASSES_OFFSET, DIRECTION_LEFT, DIRECTION_RIGHT, FINALS_OFFSET, KIND_CHANGE, KIND_HALT,
+    KIND_POP, KIND_PUSH, MAP_OFFSET, POP_RETURN, RULE_LENGTH, RULES_OFFSET, SYMBOLS_OFFSET,
 };
 use codec::read_u32;
 use machine::{Action, Config, Reason};
 
-// A byte as a number of 32 bits.
-fn wide(b: u8) -> u32
-    ensures { result ≡ b }
-{
-    b as u32
-}
-
 // The counts, read once for all lookups.
+#[tactic(auto, using(crate::proofs::Rules::good, crate::proofs::Lookups::rules_few), unfolding(crate::specs::Image::sizes_of, crate::specs::Image::classes, crate::specs::Image::symbols))]
 pub fn sizes_of(image: &[u8], capture: &[u8]) -> Sizes
     requires { Unrefused image.now capture.now }
     ensures { result ≡ sizes_of image.now capture.now }
 {
     let n = capture.len() as u32;
     let places = n + 2;
-    let classes = wide(image[CLASSES_OFFSET]);
-    let symbols = wide(image[SYMBOLS_OFFSET]);
+    let classes = u32::from(image[CLASSES_OFFSET]);
+    let symbols = u32::from(image[SYMBOLS_OFFSET]);
     let rules = (classes + 2) * symbols;
     Sizes {
         classes,
@@ -57,16 +52,14 @@ fn class_under(image: &[u8], capture: &[u8], sizes: Sizes, head: u32) -> u32
     if head == 0 {
         return classes;
     }
-    let i = (head - 1) as usize;
-    if i < capture.len() {
-        let entry = MAP_OFFSET + capture[i] as usize;
-        wide(image[entry])
-    } else {
-        classes + 1
+    match capture.get((head - 1) as usize) {
+        Some(&b) => u32::from(image[MAP_OFFSET + usize::from(b)]),
+        None => classes + 1,
     }
 }
 
 // Where the rule for a state, a class and a symbol stands. The rules of one state were counted once, so that the next rule waits for one product after the state.
+#[tactic(auto, using(crate::proofs::Lookups::earlier_few, crate::proofs::Lookups::column_few, crate::proofs::Lookups::index_few))]
 fn rule_offset(sizes: Sizes, state: u32, class: u32, symbol: u32) -> usize
     requires { RuleFits sizes state class symbol }
     ensures { result ≡ offset_by sizes state class symbol }
@@ -78,60 +71,47 @@ fn rule_offset(sizes: Sizes, state: u32, class: u32, symbol: u32) -> usize
 }
 
 // The head after a move.
-fn moved_head(step: u32, head: u32) -> u32
-    requires { HeadMoves step head }
-    ensures { result ≡ moved step head }
+#[tactic(auto, unfolding(crate::specs::Image::moved))]
+fn moved_head(direction: u8, head: u32) -> u32
+    requires { HeadMoves direction head }
+    ensures { result ≡ moved direction head }
 {
-    if step == 1 {
-        head + 1
-    } else if step == 2 {
-        head - 1
-    } else {
-        head
+    match direction {
+        DIRECTION_RIGHT => head + 1,
+        DIRECTION_LEFT => head - 1,
+        _ => head,
     }
 }
 
 // The configuration that a change or a push leads to.
+#[tactic(auto, unfolding(crate::specs::Image::rule_from))]
 fn led_to(image: &[u8], offset: usize, head: u32) -> Config
     requires { RuleReady image.now offset head }
     ensures { result ≡ led_to (rule_from image.now offset) head }
 {
     Config {
-        state: wide(image[offset + 1]),
-        head: moved_head(wide(image[offset + 3]), head),
-        symbol: wide(image[offset + 2]),
-    }
-}
-
-// Why a rule that is no change, push or pop stops a run.
-fn reason_of(kind: u8) -> Reason
-    ensures { result ≡ stop_reason kind }
-{
-    if kind == KIND_HALT {
-        Reason::Halting
-    } else {
-        Reason::Missing
+        state: u32::from(image[offset + 1]),
+        head: moved_head(image[offset + 3], head),
+        symbol: u32::from(image[offset + 2]),
     }
 }
 
 // What the rule at an offset does with the head at a place.
+#[tactic(auto, unfolding(crate::specs::Image::rule_from, crate::specs::Image::action_by))]
 fn action_at(image: &[u8], offset: usize, head: u32) -> Action
     requires { RuleReady image.now offset head }
     ensures { result ≡ action_by (rule_from image.now offset) head }
 {
-    let kind = image[offset];
-    if kind == 1 {
-        return Action::Change(led_to(image, offset, head));
+    match image[offset] {
+        KIND_CHANGE => Action::Change(led_to(image, offset, head)),
+        KIND_PUSH => Action::Push(led_to(image, offset, head)),
+        KIND_POP => Action::Pop {
+            state: u32::from(image[offset + 1]),
+            returns: image[offset + 3] == POP_RETURN,
+        },
+        KIND_HALT => Action::Stop(Reason::Halting),
+        _ => Action::Stop(Reason::Missing),
     }
-    if kind == 2 {
-        return Action::Push(led_to(image, offset, head));
-    }
-    if kind == 3 {
-        let state = wide(image[offset + 1]);
-        let returns = image[offset + 3] == 1;
-        return Action::Pop { state, returns };
-    }
-    Action::Stop(reason_of(kind))
 }
 
 // What a configuration's rule does. It reads that one rule and no count.
@@ -146,13 +126,12 @@ pub fn action_of(image: &[u8], capture: &[u8], sizes: Sizes, c: Config) -> Actio
 }
 
 // Whether a run that ends with this state and head accepts.
+#[tactic(auto, unfolding(machine::specs::Terminating::accepts_by))]
 pub fn accepts(finals: u32, places: u32, state: u32, head: u32) -> bool
     requires { (state < Format.max_states) × (head < Format.max_places) }
     ensures { result ≡ accepts_by finals places state head }
 {
-    let bit = (finals >> state) % 2;
-    let next = head + 1;
-    bit == 1 && next == places
+    (finals >> state) % 2 == 1 && head + 1 == places
 }
 
 // The head after a pop: back at the removed entry's pointer, or where it is.

@@ -10,7 +10,7 @@ returns-then-depth-eq0 c =
     simp (
       eq-eqb _ _ c.if-depth-eq0.true,
       sym c.accepts-accepting.ensures,
-      sym c.termination_verdict-verdict.ensures,
+      sym c.from-verdict.ensures,
       sym c.requires.terminator.is,
     )
     c.registers_of.ensures
