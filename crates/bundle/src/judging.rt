@@ -9,13 +9,13 @@ ghost use Rattle.bundle.specs.Calls.{BundleJudged, BundleSays};
 use crate::format::Bundle;
 use crate::report::{LINES_CELLS, put_line};
 use crate::{Lines, Totals};
+use machine::replies::Answer;
 use refusal::Refusal;
 use simulator::judge::judge_by_checked;
-use simulator::replies::judge_reply;
 use validator::check::check_image;
 
 // The captures of a bundle in order, by an image that is checked.
-#[tactic(auto, using(crate::proofs::SoFar::none_yet, crate::proofs::SoFar::totals_room, crate::proofs::SoFar::line_room, crate::proofs::SoFar::one_more, crate::proofs::SoFar::all_done))]
+#[tactic(auto, using(crate::proofs::SoFar::none_yet, crate::proofs::SoFar::totals_room, crate::proofs::SoFar::line_room, crate::proofs::SoFar::one_more, crate::proofs::SoFar::all_done, simulator::proofs::Replying::judged_told))]
 fn judge_captures(
     image: &[u8],
     bundle: &Bundle,
@@ -31,7 +31,7 @@ fn judge_captures(
     let mut totals = Totals::default();
     for i in 0..bundle.count() {
         let judged = judge_by_checked(image, bundle.capture(i), notes, work);
-        put_line(lines, i, judge_reply(judged));
+        put_line(lines, i, judged.reply());
         totals.add(&judged);
     }
     totals

@@ -1,11 +1,14 @@
-// A report's lines: one written into the lent cells.
+// A report by numbers: a line written into the lent cells, and the count of lines.
 ghost use Rattle.std.specs.Prelude.{◌≡◌, ◌+◌, ◌*◌, ◌<◌, ◌≤◌, length};
 ghost use Rattle.codec.specs.Bytes.{written};
+ghost use Rattle.machine.specs.Replies.{count_reply};
 ghost use Rattle.bundle.specs.Format.{max_captures};
 ghost use Rattle.bundle.specs.Report.{line_width, line_cells};
 
+use crate::Lines;
 use crate::format::MAX_CAPTURES;
 use machine::Reply;
+use machine::replies::Answer;
 
 // A line's width in cells.
 pub const LINE_WIDTH: usize = 7;
@@ -28,4 +31,13 @@ pub fn put_line(lines: &mut [u64], i: usize, reply: Reply)
         u64::from(reply.end.head),
         u64::from(reply.end.symbol),
     ]);
+}
+
+// The lines are a count.
+impl Answer for Lines {
+    ghost told = { λ r. count_reply r.count };
+
+    fn reply(self) -> Reply {
+        self.count.reply()
+    }
 }

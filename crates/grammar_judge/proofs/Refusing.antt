@@ -1,32 +1,33 @@
 -- The refusals of a grammar and a capture, from the tests that the code makes before it writes. Assumes nothing.
-use mathlib.Core.Path.{◌≡◌, refl, sym, ap, ◌∙◌}
+use mathlib.Core.Path.{◌≡◌, refl, sym, ap, subst, ◌∙◌}
+use mathlib.Core.Bool.{false}
 use mathlib.Core.List.{List}
 use Prim.Native.Nat.{ℕ, ◌<◌, ◌≤◌}
 use native.Mathlib.Omega.{arith}
-use lib.Dec.{ltb}
+use lib.Dec.{ltb, eqb}
 use lib.ListN.{length}
-use borrow.Author.Tests.{eq-eqb, ne_eqb, ltb-false}
+use borrow.Author.Tests.{eq-eqb, eqb-false, ltb-false}
+use Rattle.std.specs.Prelude.{Result, Ok, Err}
 use Rattle.refusal.specs.declared.Refusal.{Refusal}
 use Rattle.image.specs.Format
 use Rattle.machine.specs.Run.{how_many}
 use Rattle.image.specs.Image.{machine}
 use Rattle.refusal.specs.First.{refusal, no_refusal, or_else, refuse_if}
 use Rattle.image.specs.Refusals.{image_refusal, capture_refusal}
+use Rattle.refusal.specs.Checking.{checked}
+use Rattle.refusal.proofs.Checked.{checked-refuses, checked-refused, refused-first, passed-first}
 use Rattle.refusal.proofs.Refused.{neither, not_refused as passed}
 use Rattle.image.proofs.CaptureRefused.{capture_fine, then_long, then_fine}
 use Rattle.simulator.specs.Calls.{judge_refusal}
 use Rattle.simulator.proofs.JudgeRefusals.{cells_refused, notes_refused, work_refused, not_refused}
-use Rattle.builder.specs.declared.Plan.{Plan}
 use Rattle.grammar.specs.Grammar.{grammar_refusal}
 use Rattle.builder.specs.declared.Matching.{Matching}
 use Rattle.builder.specs.declared.Matching.TheVariants.{Whole}
 use Rattle.builder.specs.Image.{built, built_length}
-use Rattle.builder.specs.Calls.{room_refusal, build_refusal}
-use Rattle.builder.specs.Code.Building.{Planned}
+use Rattle.builder.specs.Calls.{build_refusal}
 use Rattle.builder.proofs.Answered.{build_fine}
 use Rattle.builder.proofs.BuiltGood.{built_good}
-use Rattle.builder.proofs.CodeBuild.{room_told, long_is}
-use Rattle.grammar_judge.specs.Calls.{Lent, parts_refusal, lent_refusal}
+use Rattle.grammar_judge.specs.Calls.{Lent, parts_refusal, lent_refusal, JudgesBy, refused}
 
 -- 7 TO 9, by the tests on the capture and on the cells that the machine needs
 module _ (gs cs : List ℕ) (good : (grammar_refusal gs).number ≡ 0) (a b : ℕ) where
@@ -50,18 +51,22 @@ module _ (gs cs : List ℕ) (good : (grammar_refusal gs).number ≡ 0) (a b : �
       refused_none h = sym (not_refused (built Whole gs) cs a b fine_so_far (omega arith) (omega arith))
 
 -- 11 TO 13 first
-module _ (gs cs : List ℕ) (m a b : ℕ) (f : Refusal) (e : f ≡ build_refusal gs m) where
-  pub first_refused : (f.number ≡ 0 → ⊥) → f ≡ parts_refusal gs cs m a b
-  unfolding parts_refusal or_else
-  first_refused h = simp (← e, ne_eqb _ _ h)
+pub first_refused : (gs cs : List ℕ) (m a b : ℕ) (f : Refusal) → Err f ≡ checked (build_refusal gs m) → Err f ≡ checked (parts_refusal gs cs m a b)
+unfolding parts_refusal
+first_refused gs cs m a b f e = refused-first (build_refusal gs m) (judge_refusal (built Whole gs) cs a b) f (sym e)
 
-  pub then_refused : f.number ≡ 0 → (g : Refusal) → g ≡ judge_refusal (built Whole gs) cs a b → g ≡ parts_refusal gs cs m a b
-  unfolding parts_refusal or_else
-  then_refused none g h = simp (← e, eq-eqb _ _ none) h
+pub then_refused :
+    (gs cs : List ℕ) (m a b : ℕ) {r : Result Unit Refusal} → Ok tt ≡ checked (build_refusal gs m) → r ≡ checked (judge_refusal (built Whole gs) cs a b) →
+    r ≡ checked (parts_refusal gs cs m a b)
+unfolding parts_refusal
+then_refused gs cs m a b e h = h ∙ passed-first (build_refusal gs m) (judge_refusal (built Whole gs) cs a b) (sym e)
 
--- of a plan
-pub room_tested : (gs : List ℕ) (p : Plan) → Planned gs p → (n : ℕ) {g : Refusal} → g ≡ room_refusal p.long n → g ≡ build_refusal gs n
-room_tested gs p w n h = room_told gs (grammar_refusal gs) refl w.good n (long_is gs p w.is) h
+-- and nothing is written then
+pub lent_refuses : (gs cs : List ℕ) (x : Lent) (f : Refusal) → Err f ≡ checked (lent_refusal gs cs x) → JudgesBy gs cs (Err f) x x
+lent_refuses gs cs x f e =
+    let is : f ≡ lent_refusal gs cs x = checked-refuses _ _ (sym e) in
+    let some : eqb (lent_refusal gs cs x).number 0 ≡ false = checked-refused _ _ (sym e) in
+    subst (λ (g : Refusal). JudgesBy gs cs (Err g) x x) (sym is) (refused (eqb-false _ _ some))
 
 -- NOTHING REFUSED: room for the image, a good image with a short capture, and cells enough
 pub record Roomy (gs cs : List ℕ) (x : Lent) : Type 0 where

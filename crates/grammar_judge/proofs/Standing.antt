@@ -6,19 +6,18 @@ use Prim.Native.Nat.{ℕ, ◌≤◌}
 use native.Mathlib.Omega.{arith}
 use lib.ListN.{length, take, drop, length-append}
 use lib.Seq.{take_at}
+use Rattle.image.specs.Format
 use Rattle.machine.specs.Run.{how_many}
 use Rattle.image.specs.Image.{machine}
 use Rattle.simulator.specs.declared.Judgement.{Judgement}
 use Rattle.simulator.specs.Calls.{JudgeSays}
 use Rattle.simulator.proofs.Needing.{cells_are}
-use Rattle.builder.specs.declared.Plan.{Plan}
 use Rattle.builder.specs.declared.Matching.TheVariants.{Whole}
 use Rattle.builder.specs.Image.{built, built_length}
-use Rattle.builder.specs.Code.Building.{Planned, BufferReady, Short, CellsAre}
+use Rattle.builder.specs.Code.Building.{CellsAre}
 use Rattle.builder.proofs.BuiltImage.{built_length_is}
-use Rattle.builder.proofs.CodeBuild.{long_is, buffer_ready}
-use Rattle.grammar_judge.specs.Calls.{Lent}
-use Rattle.grammar_judge.specs.Code.Steps.{AnswerReady, JudgeReady, Builds}
+use Rattle.grammar_judge.specs.Calls.{Lent, lent_refusal, Builds}
+use Rattle.grammar_judge.specs.Code.Steps.{JudgeReady}
 use Rattle.grammar_judge.proofs.Refusing.{Roomy, roomy}
 
 -- THE IMAGE STANDS at the start of the buffer, before the later bytes
@@ -27,31 +26,25 @@ pub record Stands (gs m p : List ℕ) (long : ℕ) : Type 0 where
   pub part : take long p ≡ built Whole gs
   pub fits : long ≤ length p
 
-pub stands : (gs m w : List ℕ) (p : Plan) → Planned gs p → w ≡ built Whole gs → Stands gs m (w ++ drop p.long m) p.long
-stands gs m w p planned e =
-    let l : p.long ≡ built_length gs = long_is gs p planned.is in
-    let long : length w ≡ p.long = ap length e ∙ built_length_is Whole gs ∙ sym l in
+pub stands : (gs m w : List ℕ) (long : ℕ) → long ≡ built_length gs → w ≡ built Whole gs → Stands gs m (w ++ drop long m) long
+stands gs m w long l e =
+    let all : length w ≡ long = ap length e ∙ built_length_is Whole gs ∙ sym l in
     record {
-      bytes = ap (λ (x : List ℕ). x ++ drop p.long m) e ∙ ap (λ (n : ℕ). built Whole gs ++ drop n m) l;
-      part = take_at w _ p.long long ∙ e;
-      fits = omega (arith, length-append w (drop p.long m));
+      bytes = ap (λ (x : List ℕ). x ++ drop long m) e ∙ ap (λ (n : ℕ). built Whole gs ++ drop n m) l;
+      part = take_at w _ long all ∙ e;
+      fits = omega (arith, length-append w (drop long m));
     }
 
 -- WHAT THE STEPS MAY ASSUME, where nothing is refused
-module _ (gs cs : List ℕ) (p : Plan) (x : Lent) (ready : AnswerReady gs cs p x) where
+module _ (gs cs : List ℕ) (x : Lent) (unrefused : (lent_refusal gs cs x).number ≡ 0) where
   room : Roomy gs cs x
-  room = roomy gs cs x ready.no_refusal
+  room = roomy gs cs x unrefused
 
-  pub image_fits : p.long ≤ length x.image
-  image_fits = omega (arith, room.image_room, long_is gs p ready.planned.is)
+  pub image_fits : (long : ℕ) → long ≡ built_length gs → long ≤ length x.image
+  image_fits long l = omega (arith, room.image_room, l)
 
-  pub buffer_there : BufferReady gs p (take p.long x.image)
-  buffer_there =
-      let w = ready.planned in
-      buffer_ready gs x.image w.good p.long (long_is gs p w.is) image_fits p w.is
-
-  pub capture_short : Short gs (length cs)
-  capture_short = record { good = ready.planned.good; fits = room.short }
+  pub capture_short : length cs ≤ Format.max_capture
+  capture_short = room.short
 
   pub judge_ready : (bs : List ℕ) (cells : ℕ) → bs ≡ built Whole gs → CellsAre gs (length cs) cells → JudgeReady bs cs cells x.notes x.work
   judge_ready bs cells e count =

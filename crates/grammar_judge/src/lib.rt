@@ -6,8 +6,8 @@ ghost use Rattle.refusal.specs.Checking.{checked};
 ghost use Rattle.simulator.specs.Calls.{judge_refusal, JudgeSays};
 ghost use Rattle.builder.specs.declared.Matching.TheVariants.{Whole};
 ghost use Rattle.builder.specs.Image.{built};
-ghost use Rattle.grammar_judge.specs.Calls.{lent, lent_refusal, parts_refusal, JudgesBy};
-ghost use Rattle.grammar_judge.specs.Code.Steps.{JudgeReady, Builds};
+ghost use Rattle.grammar_judge.specs.Calls.{lent, lent_refusal, parts_refusal, Builds, JudgesBy};
+ghost use Rattle.grammar_judge.specs.Code.Steps.{JudgeReady};
 
 use builder::build::{build_checked, check_room};
 use builder::planning::{cells_of, plan_of};

@@ -12,3 +12,4 @@ pub mod LengthsKept
 pub mod JudgingRight
 pub mod StopsExact
 pub mod JudgedLikeStuck
+pub mod Replying

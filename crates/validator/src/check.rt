@@ -87,8 +87,7 @@ fn within(finals: u32, states: u8) -> bool
     requires { states ≤ max_states }
     ensures { result ≡ ltb finals (2 ^ states) }
 {
-    let rest = (finals as u64) >> (states as u64);
-    rest == 0
+    u64::from(finals) >> states == 0
 }
 
 // Refusal 5: the class map, byte by byte.
@@ -110,9 +109,9 @@ fn rule_count(image: &[u8]) -> u32
     requires { map_offset ≤ length image.now }
     ensures { result ≡ rule_count image.now }
 {
-    let states = image[STATES_OFFSET] as u32;
-    let classes = image[CLASSES_OFFSET] as u32;
-    let symbols = image[SYMBOLS_OFFSET] as u32;
+    let states = u32::from(image[STATES_OFFSET]);
+    let classes = u32::from(image[CLASSES_OFFSET]);
+    let symbols = u32::from(image[SYMBOLS_OFFSET]);
     states * (classes + 2) * symbols
 }
 

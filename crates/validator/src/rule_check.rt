@@ -6,7 +6,7 @@ ghost use Rattle.image.specs.Refusals.{move_off, stops, rule_bad, rules_refusal_
 ghost use Rattle.refusal.specs.Checking.{checked};
 ghost use Rattle.validator.specs.Code.Checking.{RuleInside, LengthChecked};
 
-use image::counting;
+use image::Selector;
 use image::format::{
     CLASSES_OFFSET, DIRECTION_LEFT, DIRECTION_RIGHT, KIND_HALT, KIND_NONE, KIND_POP, POP_RETURN,
     RULE_LENGTH, RULES_OFFSET, STATES_OFFSET, SYMBOLS_OFFSET,
@@ -84,16 +84,16 @@ pub fn check_rules(image: &[u8]) -> Result<(), Refusal>
     requires { LengthChecked image.now }
     ensures { result ≡ checked (rules_refusal_from (rule_count image.now) 0 image.now) }
 {
-    let columns = image[CLASSES_OFFSET] as u32 + 2;
-    let symbols = image[SYMBOLS_OFFSET] as u32;
-    let mut s = counting::first();
-    let mut at: usize = RULES_OFFSET;
-    while at < image.len() {
+    let columns = u32::from(image[CLASSES_OFFSET]) + 2;
+    let symbols = u32::from(image[SYMBOLS_OFFSET]);
+    let count = (image.len() - RULES_OFFSET) / RULE_LENGTH;
+    let mut s = Selector::first();
+    for i in 0..count {
+        let at = RULES_OFFSET + RULE_LENGTH * i;
         if rule_bad(image, at, s.class) {
             return Err(Refusal::new(Kind::Rule, at));
         }
-        at += RULE_LENGTH;
-        s = counting::next(s, columns, symbols);
+        s = s.next(columns, symbols);
     }
     Ok(())
 }

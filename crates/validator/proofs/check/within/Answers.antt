@@ -5,4 +5,4 @@ use Rattle.validator.proofs.CheckParts.{no_quotient}
 use Rattle.validator.proofs.check.within.Goals as goal
 
 pub returns : goal.returns
-returns c = rw (no_quotient c.args.finals (2 ^ c.args.states) (pow_pos _))
+returns c = rw (c.from.ensures, no_quotient c.args.finals (2 ^ c.args.states) (pow_pos _))

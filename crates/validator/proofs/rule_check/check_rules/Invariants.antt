@@ -1,11 +1,8 @@
--- The invariants and measures of `validator::rule_check::rules`.
+-- The invariant of `validator::rule_check::check_rules`.
+use Prim.Native.Nat.{◌+◌, ◌*◌}
+use Rattle.image.specs.Format
 use Rattle.validator.proofs.CheckLoops.{RulesLeft}
-use lib.ListN.{length}
-use Prim.Native.Nat.{◌-◌}
 use Rattle.validator.proofs.rule_check.check_rules.Given as goal
 
-abbrev pub invariant-loop-at : goal.invariant-loop-at
-invariant-loop-at l = RulesLeft l.image l.s l.at
-
-abbrev pub decreases-loop-at : goal.decreases-loop-at
-decreases-loop-at l = length l.image - l.at
+abbrev pub invariant-loop-i : goal.invariant-loop-i
+invariant-loop-i l = RulesLeft l.image l.s (Format.rules_offset + Format.rule_length * l.i)
