@@ -13,11 +13,17 @@ use Rattle.builder.specs.Image.{built, built_length}
 use Rattle.builder.specs.Calls.{build_refusal, BuildSays}
 use Rattle.builder.proofs.Answered.{build_determined, build_independent, build_refused}
 use Rattle.syntax.specs.Reading.{Refused, Grammar, ReadSays}
-use Rattle.grammar_judge.specs.Calls.{Lent, lent_refusal, SameRoom, SameCells}
+use Rattle.grammar_judge.specs.Calls as by
+use Rattle.grammar_judge.specs.Calls.{Lent, lent_refusal, SameRoom, SameCells, JudgesBy}
 use Rattle.grammar_judge.proofs.Refusing.{parts_fine}
 use Rattle.grammar_judge.proofs.Determined.{judged_determined, judged_independent}
 use Rattle.typed.specs.Calls.{BuildTextSays, JudgeTextSays, unread, read, refused, judged, BuildTextRefused, JudgeTextRefused, text_refused, room_refused, lent_refused}
 use Rattle.typed.proofs.ReadRight.{one_grammar, one_refusal, not_both}
+
+-- what judging by the grammar that was read says is what judging by the text says
+pub judged_by : {text gs cs : List ℕ} {r : Judged} {x y : Lent} → ReadSays text (Grammar gs) → JudgesBy gs cs r x y → JudgeTextSays text cs r x y
+judged_by t (by.refused h) = refused t h
+judged_by t (by.judged z b) = judged t z b.image_now b.judges
 
 -- BUILDING, where the text is refused and where it is read
 module _ {text : List ℕ} where

@@ -1,7 +1,6 @@
 -- Laws of the calls on grammars as text, by topic.
 pub mod ReadRight
 pub mod RuleNamed
-pub mod Calling
 pub mod Determined
 pub mod RecursionDetermined
 pub mod TypedJudged

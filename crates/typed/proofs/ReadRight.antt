@@ -6,7 +6,7 @@ use Prim.Native.Nat.{ℕ, ◌*◌, ◌-◌, ◌≤◌}
 use native.Mathlib.Omega.{arith}
 use lib.Dec.{eqb, ltb}
 use lib.ListN.{length, take, replicate, length-append}
-use lib.Seq.{take_at}
+use lib.Seq.{take_at, length-take-le}
 use Rattle.refusal.specs.declared.Refusal.{Refusal}
 use Rattle.refusal.specs.First.{or_else, refuse_if}
 use Rattle.grammar.specs.Grammar.{max_rules, rules}
@@ -22,7 +22,8 @@ use Rattle.syntax.specs.Reading.{Reading, Refused, Grammar, ReadSays, at_fault, 
 use Rattle.syntax.proofs.FaultsRight.{faults_right}
 use Rattle.syntax.proofs.ReadingExact.{reading_exact}
 use Rattle.syntax_theory.proofs.TypedRight.{typed_right}
-use Rattle.reader.specs.declared.ReadGrammar.{ReadGrammar}
+use Rattle.std.specs.Prelude.{Result, Ok, Err}
+use Rattle.reader.specs.declared.GrammarBytes.{GrammarBytes}
 use Rattle.reader.specs.Calls.{padded, grammar_answer, ReadTells}
 use Rattle.typed.specs.TypedCalls.{TypedGrammar}
 
@@ -119,12 +120,12 @@ typed_grammar text gs s =
     let t = lines_right l in
     record { lines = l.first ∷ l.rest; legal = l.legal; good = t.good; counted = rules_needed t }
 
--- THE STRUCT THAT READING ANSWERS: a refusal and no grammar, or a grammar at the start of its bytes
-pub record GrammarThere (text : List ℕ) (r : ReadGrammar) : Type 0 where
+-- WHAT READING ANSWERS: a refusal, or a grammar at the start of its bytes
+pub record GrammarThere (text : List ℕ) (r : GrammarBytes) : Type 0 where
   pub fits : r.length ≤ length r.bytes
   pub says : ReadSays text (Grammar (take r.length r.bytes))
 
-grammar_there : (text gs : List ℕ) (r : ReadGrammar) → ReadSays text (Grammar gs) → r.length ≡ length gs → r.bytes ≡ padded gs → GrammarThere text r
+grammar_there : (text gs : List ℕ) (r : GrammarBytes) → ReadSays text (Grammar gs) → r.length ≡ length gs → r.bytes ≡ padded gs → GrammarThere text r
 grammar_there text gs r s l b =
     let front : take r.length r.bytes ≡ gs = ap (take r.length) b ∙ take_at gs _ r.length (sym l) in
     record {
@@ -132,52 +133,34 @@ grammar_there text gs r s l b =
       says = rw front s;
     }
 
-told_refused :
-    (text : List ℕ) (r : ReadGrammar) (a : Reading) → ReadSays text a → r ≡ grammar_answer a → (r.refusal.number ≡ 0 → ⊥) →
-    ReadSays text (Refused r.refusal) × (r.length ≡ 0) × (r.bytes ≡ replicate (4 * max_rules) 0)
+told_refused : (text : List ℕ) (f : Refusal) (a : Reading) → ReadSays text a → Err f ≡ grammar_answer a → ReadSays text (Refused f)
 unfolding grammar_answer
-told_refused text r (Refused f) s e h = (
-  subst (λ (g : Refusal). ReadSays text (Refused g)) (sym (ap (λ (x : ReadGrammar). x.refusal) e)) s,
-  ap (λ (x : ReadGrammar). x.length) e,
-  ap (λ (x : ReadGrammar). x.bytes) e,
-)
-told_refused text r (Grammar gs) s e h = absurd (h (ap (λ (x : ReadGrammar). x.refusal.number) e))
+told_refused text f (Refused g) s e =
+    let same : g ≡ f = cc in
+    subst (λ (h : Refusal). ReadSays text (Refused h)) same s
+told_refused text f (Grammar gs) s e = absurd (let n : ◌≡◌ {A = ℕ} 0 1 = cc in omega arith)
 
-told_grammar :
-    (text : List ℕ) (r : ReadGrammar) (a : Reading) → ReadSays text a → r ≡ grammar_answer a → r.refusal.number ≡ 0 → GrammarThere text r
+told_grammar : (text : List ℕ) (r : GrammarBytes) (a : Reading) → ReadSays text a → Ok r ≡ grammar_answer a → GrammarThere text r
 unfolding grammar_answer
-told_grammar text r (Refused f) s e z = absurd (omega (arith, text_number s, ap (λ (x : ReadGrammar). x.refusal.number) e, z))
-told_grammar text r (Grammar gs) s e z =
-    grammar_there text gs r s (ap (λ (x : ReadGrammar). x.length) e) (ap (λ (x : ReadGrammar). x.bytes) e)
+told_grammar text r (Refused f) s e = absurd (let n : ◌≡◌ {A = ℕ} 0 1 = cc in omega arith)
+told_grammar text r (Grammar gs) s e =
+    let same : r ≡ record { bytes = padded gs; length = length gs } = cc in
+    grammar_there text gs r s (ap (λ (x : GrammarBytes). x.length) same) (ap (λ (x : GrammarBytes). x.bytes) same)
 
-told_fits :
-    (text : List ℕ) (r : ReadGrammar) (a : Reading) → ReadSays text a → r ≡ grammar_answer a →
-    (r.length ≤ length r.bytes) × (r.length ≤ 4 * max_rules)
-unfolding grammar_answer
-told_fits text r (Refused f) s e = rw e (omega arith, omega arith)
-told_fits text r (Grammar gs) s e =
-    let long : r.length ≡ length gs = ap (λ (x : ReadGrammar). x.length) e in
-    let most = (grammar_right gs (typed_grammar text gs s).good).long.most in
-    ((grammar_there text gs r s long (ap (λ (x : ReadGrammar). x.bytes) e)).fits, rw long most)
+module _ (text : List ℕ) (r : GrammarBytes) (t : ReadTells text (Ok r)) where
+  pub grammar_read : GrammarThere text r
+  grammar_read = told_grammar text r t.reading t.says t.told
 
-module _ (text : List ℕ) (r : ReadGrammar) (t : ReadTells text r) where
+  pub good_read : TypedGrammar text (take r.length r.bytes)
+  good_read = typed_grammar text _ grammar_read.says
+
   -- its length is that of some of its bytes, and of a grammar
   pub read_fits : (r.length ≤ length r.bytes) × (r.length ≤ 4 * max_rules)
-  read_fits = told_fits text r t.reading t.says t.told
+  read_fits = (grammar_read.fits, omega (arith, length-take-le r.length r.bytes grammar_read.fits, (grammar_right _ good_read.good).long.most))
 
-  pub text_refused : (r.refusal.number ≡ 0 → ⊥) → ReadSays text (Refused r.refusal)
-  text_refused h = (told_refused text r t.reading t.says t.told h).0
+pub text_refused : (text : List ℕ) (f : Refusal) → ReadTells text (Err f) → ReadSays text (Refused f)
+text_refused text f t = told_refused text f t.reading t.says t.told
 
-  -- a refused text has no grammar
-  pub nothing_read : (r.refusal.number ≡ 0 → ⊥) → (r.length ≡ 0) × (r.bytes ≡ replicate (4 * max_rules) 0)
-  nothing_read h = let (says, long, bytes) = told_refused text r t.reading t.says t.told h in (long, bytes)
-
-  pub grammar_read : r.refusal.number ≡ 0 → GrammarThere text r
-  grammar_read z = told_grammar text r t.reading t.says t.told z
-
-  pub good_read : r.refusal.number ≡ 0 → TypedGrammar text (take r.length r.bytes)
-  good_read z = typed_grammar text _ (grammar_read z).says
-
-pub read_determined : (text : List ℕ) (r s : ReadGrammar) → ReadTells text r → ReadTells text s → r ≡ s
+pub read_determined : (text : List ℕ) (r s : Result GrammarBytes Refusal) → ReadTells text r → ReadTells text s → r ≡ s
 read_determined text r s t u =
     t.told ∙ ap grammar_answer (one_answer text t.reading u.reading t.says u.says) ∙ sym u.told

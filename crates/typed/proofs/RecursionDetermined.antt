@@ -10,9 +10,9 @@ use Rattle.syntax.specs.Trees.{Definition, LegalText}
 use Rattle.syntax.specs.RuleLines.{LineOfRule, NameAt}
 use Rattle.syntax.proofs.ReadingExact.{unambiguous}
 use Rattle.syntax.proofs.RuleLines.{one_line}
-use Rattle.typed.specs.declared.left_recursion.TextRecursion.{TextRecursion}
-use Rattle.typed.specs.declared.left_recursion.TextRecursion.TheVariants.{Refused}
-use Rattle.typed.specs.Recursion.{TextRecursionSays, unread, passes, recursive}
+use Rattle.std.specs.Prelude.{Err}
+use Rattle.typed.specs.declared.left_recursion.RecursionFault.TheVariants.{Refused}
+use Rattle.typed.specs.Recursion.{TextRecursion, TextRecursionSays, unread, passes, recursive}
 use Rattle.typed.proofs.ReadRight.{one_grammar, one_refusal, not_both}
 
 -- one rule has one offset
@@ -33,7 +33,7 @@ never_nineteen e = let n : ◌≡◌ {A = ℕ} 0 19 = ap (λ (f : Refusal). f.nu
 
 pub text_recursion_determined :
     (text : List ℕ) (r s : TextRecursion) → TextRecursionSays text r → TextRecursionSays text s → r ≡ s
-text_recursion_determined text r s (unread t) (unread u) = ap Refused (one_refusal text _ _ t u)
+text_recursion_determined text r s (unread t) (unread u) = ap (λ (f : Refusal). Err (Refused f)) (one_refusal text _ _ t u)
 text_recursion_determined text r s (unread t) (passes u e) = absurd (not_both text _ _ t u)
 text_recursion_determined text r s (unread t) (recursive l u e p x) = absurd (not_both text _ _ t u)
 text_recursion_determined text r s (passes t e) (unread u) = absurd (not_both text _ _ u t)

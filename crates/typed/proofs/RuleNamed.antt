@@ -5,9 +5,11 @@ use mathlib.Core.List.{List}
 use Prim.Native.Nat.{ℕ, ◌<◌}
 use native.Mathlib.Omega.{arith}
 use lib.ListN.{get_or}
-use borrow.Author.Tests.{eq-eqb}
+use borrow.Author.Tests.{eq-eqb, eqb-false}
 use Rattle.refusal.specs.declared.Refusal.{Refusal}
 use Rattle.refusal.specs.First.{refusal, or_else}
+use Rattle.refusal.specs.Checking.{checked}
+use Rattle.refusal.proofs.Checked.{checked-refuses, checked-refused}
 use Rattle.grammar.specs.Grammar.{rules, grammar_refusal}
 use Rattle.grammar.proofs.ConditionsMet.{grammar_answer}
 use Rattle.recursion.specs.LeftRecursion.{RecursionRow, no_recursion, bad_grammar, recursive as leads_back}
@@ -20,9 +22,14 @@ use Rattle.syntax.specs.Reading.{Grammar, ReadSays}
 use Rattle.syntax.proofs.RuleLines.{line_there}
 use Rattle.scanner.proofs.LineNames.{name_at}
 use Rattle.reader.specs.Code.Lines.{LinesKept, RuleOfLine}
-use Rattle.typed.specs.declared.left_recursion.TextRecursion.TheVariants.{Passes, Recursive}
+use Rattle.std.specs.Prelude.{Ok, Err}
+use Rattle.typed.specs.declared.left_recursion.RecursionFault.TheVariants.{Recursive}
 use Rattle.typed.specs.Recursion.{TextRecursionSays, passes, recursive}
 use Rattle.typed.proofs.ReadRight.{typed_grammar}
+
+pub refused_some : (f : Refusal) {e : Refusal} → checked f ≡ Err e → e.number ≡ 0 → ⊥
+refused_some f {e} h z =
+    eqb-false _ _ (checked-refused f e h) (ap (λ (g : Refusal). g.number) (sym (checked-refuses f e h)) ∙ z)
 
 -- THE CHECK OF A GRAMMAR THAT WAS READ: 11 and 12 don't refuse it
 module _ (text gs : List ℕ) (says : ReadSays text (Grammar gs)) (f : Refusal) (is : f ≡ recursion_from (rules gs) 0 gs) where
@@ -33,7 +40,7 @@ module _ (text gs : List ℕ) (says : ReadSays text (Grammar gs)) (f : Refusal) 
   unfolding recursion_refusal or_else
   recursion_is = simp (eq-eqb (grammar_refusal gs).number 0 good) (sym is)
 
-  pub text_passes : f.number ≡ 0 → TextRecursionSays text Passes
+  pub text_passes : f.number ≡ 0 → TextRecursionSays text (Ok tt)
   text_passes z =
       let p = grammar_passes gs (ap (λ (g : Refusal). g.number) recursion_is ∙ z) in
       passes says ((recursion_answer gs 0 0).1 (no_recursion p))
@@ -52,7 +59,7 @@ module _ (text gs : List ℕ) (says : ReadSays text (Grammar gs)) (f : Refusal) 
     -- and the rule is of a line whose name stands in the text
     pub text_recursive :
         (lines line offset : ℕ) (ends : List ℕ) → ((ds : List Definition) → LegalText text ds → LinesKept ds lines ends) → RuleOfLine lines ends f.place line →
-        offset ≡ get_or (line_offsets true (lexemes text)) line 0 → TextRecursionSays text (Recursive f.place offset)
+        offset ≡ get_or (line_offsets true (lexemes text)) line 0 → TextRecursionSays text (Err (Recursive f.place offset))
     unfolding rules
     text_recursive lines line offset ends kept found e =
         let g = typed_grammar text gs says in

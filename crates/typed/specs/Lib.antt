@@ -3,4 +3,3 @@ pub mod Calls
 pub mod TypedCalls
 pub mod Recursion
 pub mod Replies
-pub mod Code

@@ -1,40 +1,42 @@
 // The check of a typed grammar for left recursion: beside the rule that leads back to itself it names a place in the text, which its author can look up.
+ghost use Rattle.std.specs.Prelude.{◌≡◌};
+ghost use Rattle.typed.specs.declared.left_recursion.RecursionFault.TheVariants.{Refused};
 ghost use Rattle.typed.specs.Recursion.{TextRecursionSays};
 
-use reader::owners::line_of_rule;
+use grammar::Grammar;
 use reader::reading::read_lines;
-use recursion::check::recursion_of;
+use recursion::check::find_recursion;
 use refusal::Refusal;
 use scanner::lines::line_offset;
 
-// What the check of a typed grammar for left recursion answers: none; a refusal of the text; or the lowest rule that leads back to itself, and the offset of the name of the line that it is of.
-#[derive(Clone, Copy)]
-pub enum TextRecursion {
-    Passes,
+// Why a typed grammar does not pass: a refusal of the text; or the lowest rule that leads back to itself, and the offset of the name of the line that it is of.
+#[derive(Clone, Copy, Debug, PartialEq, Eq)]
+pub enum RecursionFault {
     Refused(Refusal),
-    Recursive(usize, usize),
+    Recursive { rule: usize, name: usize },
+}
+
+impl From<Refusal> for RecursionFault {
+    ghost from_gives = { λ refusal fault. fault ≡ Refused refusal };
+
+    fn from(refusal: Refusal) -> RecursionFault {
+        RecursionFault::Refused(refusal)
+    }
 }
 
 // Whether a typed grammar is read and no rule of it leads back to itself, and else why not and where.
-pub fn check_text_recursion(text: &[u8]) -> TextRecursion
+pub fn check_text_recursion(text: &[u8]) -> Result<(), RecursionFault>
     ensures { TextRecursionSays text.now result }
 {
-    let answer = read_lines(text);
-    let grammar = answer.grammar;
-    let refusal = grammar.refusal;
-    if refusal.number != 0 {
-        return TextRecursion::Refused(refusal);
+    let read = read_lines(text)?;
+    let bytes = read.grammar.bytes;
+    let grammar = Grammar {
+        bytes: &bytes[..read.grammar.length],
+    };
+    if let Err(recursion) = find_recursion(grammar) {
+        let rule = recursion.place();
+        let name = line_offset(text, read.line_of(rule));
+        return Err(RecursionFault::Recursive { rule, name });
     }
-    let bytes = grammar.bytes;
-    let length = grammar.length;
-    let recursion = recursion_of(&bytes[..length]);
-    if recursion.number == 0 {
-        return TextRecursion::Passes;
-    }
-    let rule = recursion.place;
-    let lines = answer.lines;
-    let ends = answer.ends;
-    let line = line_of_rule(lines, ends, rule);
-    let name = line_offset(text, line);
-    TextRecursion::Recursive(rule, name)
+    Ok(())
 }

@@ -1,37 +1,37 @@
 -- `typed::left_recursion::check_text_recursion` meets its contract: the text's refusal, or what the check of its grammar says. Assumes nothing.
-use mathlib.Core.Path.{sym}
+use mathlib.Core.Path.{refl, sym}
 use lib.Seq.{length-take-le}
+use Rattle.std.proofs.lemmas.Result.{err_from_is_err_and}
+use Rattle.refusal.proofs.Checked.{checked-passes, checked-refuses}
 use Rattle.typed.specs.Recursion.{unread}
 use Rattle.typed.proofs.ReadRight.{text_refused, grammar_read, good_read}
-use Rattle.typed.proofs.RuleNamed.{text_passes, text_recursive}
+use Rattle.typed.proofs.RuleNamed.{refused_some, text_passes, text_recursive}
 use Rattle.typed.proofs.left_recursion.check_text_recursion.Goals as goal
 
-pub returns-then-refusal-ne0 : goal.returns-then-refusal-ne0
-returns-then-refusal-ne0 c =
-    unread (text_refused _ _ c.read_lines-answer.ensures.tells c.if-refusal-ne0.true)
+pub returns-in_err-read : goal.returns-in_err-read
+returns-in_err-read c =
+    let p = err_from_is_err_and c.from_residual.result c.from_residual.ensures.1 in
+    rw (p.1, p.2) (unread (text_refused _ _ c.in_err-read.ensures.tells))
 
 pub slice_bounds-bytes-end : goal.slice_bounds-bytes-end
-slice_bounds-bytes-end c =
-    (grammar_read _ _ c.read_lines-answer.ensures.tells c.if-refusal-ne0.false).fits
+slice_bounds-bytes-end c = (grammar_read _ _ c.in_ok-read.ensures.tells).fits
 
-pub slice_bounds-recursion_of-end : goal.slice_bounds-recursion_of-end
-slice_bounds-recursion_of-end c =
-    sym (length-take-le _ _ (grammar_read _ _ c.read_lines-answer.ensures.tells c.if-refusal-ne0.false).fits)
+pub slice_bounds-grammar-end : goal.slice_bounds-grammar-end
+slice_bounds-grammar-end c = sym (length-take-le _ _ (grammar_read _ _ c.in_ok-read.ensures.tells).fits)
 
-pub recursion_of-recursion-requires : goal.recursion_of-recursion-requires
-recursion_of-recursion-requires c =
-    (good_read _ _ c.read_lines-answer.ensures.tells c.if-refusal-ne0.false).good
+pub invariant_of-grammar : goal.invariant_of-grammar
+invariant_of-grammar c = record { right = (good_read _ _ c.in_ok-read.ensures.tells).good }
 
-pub returns-then-recursion-eq0 : goal.returns-then-recursion-eq0
-returns-then-recursion-eq0 c =
-    text_passes _ _ (grammar_read _ _ c.read_lines-answer.ensures.tells c.if-refusal-ne0.false).says _ c.recursion_of-recursion.ensures c.if-recursion-eq0.true
+pub line_of-requires : goal.line_of-requires
+line_of-requires c = c.in_ok-read.ensures.kept.few
 
-pub line_of_rule-line-requires : goal.line_of_rule-line-requires
-line_of_rule-line-requires c =
-    c.read_lines-answer.ensures.few c.if-refusal-ne0.false
+pub returns-in-Err : goal.returns-in-Err
+returns-in-Err c =
+    let refuses = sym c.in-Err.ensures in
+    rw c.place-rule.ensures
+    (text_recursive _ _ (grammar_read _ _ c.in_ok-read.ensures.tells).says _ (checked-refuses _ _ refuses) (refused_some _ refuses) _ _ _ _
+    c.in_ok-read.ensures.kept.kept (rw c.place-rule.ensures at c.line_of.ensures) c.line_offset-name.ensures)
 
 pub returns : goal.returns
 returns c =
-    let text_read = c.read_lines-answer.ensures in
-    text_recursive _ _ (grammar_read _ _ text_read.tells c.if-refusal-ne0.false).says _ c.recursion_of-recursion.ensures c.if-recursion-eq0.false
-    _ _ _ _ (text_read.kept c.if-refusal-ne0.false) c.line_of_rule-line.ensures c.line_offset-name.ensures
+    text_passes _ _ (grammar_read _ _ c.in_ok-read.ensures.tells).says _ refl (checked-passes _ (sym c.in_default.ensures))

@@ -1,2 +1,0 @@
--- What only the code needs. A reader of the promises can skip this folder.
-pub mod Steps
