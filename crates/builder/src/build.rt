@@ -57,8 +57,8 @@ fn range_has(image: &[u8], classes: u32, range: ByteRange, class: u32) -> bool
     if classes <= class || range.high < range.low {
         return false;
     }
-    let first = u32::from(image[MAP_OFFSET + range.low as usize]);
-    let last = u32::from(image[MAP_OFFSET + range.high as usize]);
+    let first = u32::from(image[MAP_OFFSET + usize::from(range.low)]);
+    let last = u32::from(image[MAP_OFFSET + usize::from(range.high)]);
     first <= class && class <= last
 }
 
