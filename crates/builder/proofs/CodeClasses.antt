@@ -8,7 +8,6 @@ use native.Mathlib.Numerals.{add-one}
 use native.Mathlib.Omega.{arith}
 use lib.ListN.{length}
 use Rattle.codec.specs.Bytes.{byte}
-use Rattle.image.specs.Format
 use Rattle.machine.specs.Run.{how_many}
 use Rattle.image.specs.Image.{machine}
 use Rattle.grammar.specs.Grammar.{max_rules, grammar_refusal}
@@ -89,13 +88,7 @@ pub count_most : (gs : List ℕ) → (grammar_refusal gs).number ≡ 0 → built
 unfolding built_rules
 count_most gs good = product_most gs good (class_count gs) (symbols_of gs) refl refl
 
--- THE CELLS of the grammar's machine, and that they are few
-cells_most : (places g : ℕ) → places ≤ Format.max_places → g ≤ 63 → state_count * places * g ≤ state_count * Format.max_places * 63
-cells_most places g h l = let p : state_count * places ≤ state_count * Format.max_places = omega arith in mul-le-mul p l
-
-pub cells_fit : (gs : List ℕ) → (grammar_refusal gs).number ≡ 0 → (n g : ℕ) → n ≤ Format.max_capture → g ≡ symbols_of gs → state_count * (n + 2) * g ≤ 20644155
-cells_fit gs good n g w e = cells_most (n + 2) g (omega (arith, w)) (omega (arith, symbols_most gs good))
-
+-- THE CELLS of the grammar's machine
 pub cells_told : (gs : List ℕ) (n g : ℕ) → g ≡ symbols_of gs → CellsAre gs n (state_count * (n + 2) * g)
 unfolding how_many machine
 cells_told gs n g e how cs l = rw (built_states how gs, built_symbols how gs, e, l)

@@ -5,10 +5,10 @@ ghost use Rattle.codec.specs.Numbers.{u32_width};
 ghost use Rattle.image.specs.Format.{map_offset, rules_offset, rule_length};
 ghost use Rattle.image.specs.Encoding.{header};
 ghost use Rattle.refusal.specs.Checking.{checked};
-ghost use Rattle.builder.specs.Table.{state_count, finals, rows_at};
+ghost use Rattle.builder.specs.Table.{state_count, finals};
 ghost use Rattle.builder.specs.Image.{built, built_length};
 ghost use Rattle.builder.specs.Calls.{build_refusal, BuildSays, room_refusal};
-ghost use Rattle.builder.specs.Code.Writing.{class_between, inside_by, RowsReady, RuleReady, Picks, MadePair, with_rule, with_rules};
+ghost use Rattle.builder.specs.Code.Writing.{class_between, inside_by, RowsReady, RuleReady, MadePair, with_rule, with_rules};
 
 use crate::byte_classes::write_map;
 use crate::planning::{Plan, plan_of, symbol_count};
@@ -57,8 +57,8 @@ fn range_has(image: &[u8], classes: u32, range: ByteRange, class: u32) -> bool
     if classes <= class || range.high < range.low {
         return false;
     }
-    let first = u32::from(image[MAP_OFFSET + range.low as usize]);
-    let last = u32::from(image[MAP_OFFSET + range.high as usize]);
+    let first = u32::from(image[MAP_OFFSET + usize::from(range.low)]);
+    let last = u32::from(image[MAP_OFFSET + usize::from(range.high)]);
     first <= class && class <= last
 }
 
@@ -73,23 +73,6 @@ fn class_inside(image: &[u8], classes: u32, r: Option<ByteRange>, class: u32) ->
         Some(range) => range_has(image, classes, range, class),
         None => false,
     }
-}
-
-// The rules of rule k's two symbols in a state, for a class; the image has its class map.
-fn rules_at(
-    grammar: Grammar<'_>,
-    image: &[u8],
-    classes: u32,
-    k: u32,
-    class: u32,
-    state: u32,
-) -> RulePair
-    requires { RuleReady grammar.bytes.now image.now classes k }
-    ensures { Picks (rows_at grammar.entry.bytes.now k class) state result }
-{
-    let e = grammar.expression(k as usize);
-    let inside = class_inside(image, classes, range_of(e), class);
-    pair_by(e, k as u8, inside, state)
 }
 
 // The rules that state and class select with rule k's first symbol, and with its second; the image has its class map.
@@ -110,7 +93,9 @@ fn made_pair(
             second: NO_RULE,
         };
     }
-    rules_at(grammar, image, classes, k, class, state)
+    let e = grammar.expression(k as usize);
+    let inside = class_inside(image, classes, range_of(e), class);
+    pair_by(e, k as u8, inside, state)
 }
 
 // The rule with an index.

@@ -20,9 +20,9 @@ fn mark_range(marks: &mut [u8; MAP_LENGTH], r: Option<ByteRange>)
     if high < low {
         return;
     }
-    marks[low as usize] = 1;
+    marks[usize::from(low)] = 1;
     if high < 255 {
-        marks[high as usize + 1] = 1;
+        marks[usize::from(high) + 1] = 1;
     }
 }
 

@@ -24,8 +24,9 @@ unfolding lowest_from
 none_left k rows = refl
 
 -- a row that is there is the same whatever is read where none is
-pub in_row : (rows : List ℕ) (k d : ℕ) {b : Bool} → k < length rows → member (get_or rows k d) k ≡ b → member (get_or rows k 0) k ≡ b
-in_row rows k d below e = ap (λ (n : ℕ). member n k) (sym (get_or_default_zero rows k d below)) ∙ e
+pub in_row :
+    (rows : List ℕ) (count k d : ℕ) {b : Bool} → count ≤ 31 → k < count → length rows ≡ 32 → member (get_or rows k d) k ≡ b → member (get_or rows k 0) k ≡ b
+in_row rows count k d few below long e = ap (λ (n : ℕ). member n k) (sym (get_or_default_zero rows k d (omega arith))) ∙ e
 
 -- THE SEARCH, with the rows from k on still to be looked at
 module _ (count k : ℕ) (rows : List ℕ) (left : lowest_from count 0 rows ≡ lowest_from (count - k) k rows) where

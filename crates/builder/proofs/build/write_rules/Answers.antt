@@ -72,5 +72,5 @@ loop-class-preserved c =
 
 pub returns : goal.returns
 returns c =
-    rules_end _ _ _ _ _ c.loop-state.invariant.written
-    (omega (arith, c.loop-state.invariant.at, all_done c.args.plan.grammar.bytes.now c.loop-state.state (omega (arith, c.loop-state-test.false, c.loop-state.auto.state-end, c.from-state-end.ensures))))
+    let last = all_done c.args.plan.grammar.bytes.now c.loop-state.state (omega (arith, c.loop-state-test.false, c.loop-state.auto.state-end, c.from-state-end.ensures)) in
+    rules_end _ _ _ _ _ c.loop-state.invariant.written (omega (arith, c.loop-state.invariant.at, last))
