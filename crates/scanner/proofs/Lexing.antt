@@ -14,7 +14,7 @@ use borrow.Author.Tests.{eqb-true}
 use Rattle.codec.specs.Bytes.{byte}
 use Rattle.syntax.specs.Tokens.{letter, letters, range_there, token_at, width_at, skipped, lexemes_from}
 use Rattle.grammar.proofs.Bools.{both_true}
-use Rattle.scanner.specs.Code.Scanning.{lexemes_at, Skips}
+use Rattle.scanner.specs.Code.Scanning.{lexemes_at}
 
 -- A RUN OF LETTERS
 pub letters_fit : (bs : List ℕ) → length (letters bs) ≤ length bs
@@ -133,21 +133,12 @@ abbrev pub Skipping : (text : List ℕ) → (at i : ℕ) → Type 0
 Skipping text at i = (lexemes_at text at ≡ lexemes_at text i) × (at ≤ i)
 
 module _ (text : List ℕ) (at i : ℕ) (come : Skipping text at i) where
-  pub skip_end : length text ≤ i → Skips text at i
-  skip_end h = record { rest = come.0; from = come.1; stops = λ l. absurd (omega arith) }
-
-  pub skip_stop : skipped (byte text i) ≡ false → Skips text at i
-  skip_stop e = record { rest = come.0; from = come.1; stops = λ l. e }
-
   pub skip_next : i < length text → skipped (byte text i) ≡ true → Skipping text at (i + 1)
   skip_next more e = (come.0 ∙ lexemes_skipped text i more e ∙ ap (lexemes_at text) (sym (add-one i)), omega arith)
 
 -- COUNTING LETTERS, as far as a place
 abbrev pub LettersLeft : (text : List ℕ) → (at i : ℕ) → Type 0
 LettersLeft text at i = (length (letters (drop at text)) ≡ i - at + length (letters (drop i text))) × (at ≤ i)
-
-pub count_start : (text : List ℕ) (at : ℕ) → LettersLeft text at at
-count_start text at = (omega arith, omega arith)
 
 module _ (text : List ℕ) (at i : ℕ) (come : LettersLeft text at i) where
   pub letters_whole :

