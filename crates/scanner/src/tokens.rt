@@ -43,12 +43,15 @@ pub fn skip(text: &[u8], at: usize) -> usize
 pub fn letters_from(text: &[u8], at: usize) -> &[u8]
     ensures { result.now ≡ letters (drop at text.now) }
 {
-    for i in at..text.len() {
-        if !is_letter(text[i]) {
-            return &text[at..i];
+    let Some(rest) = text.get(at..) else {
+        return &[];
+    };
+    for (i, byte) in rest.iter().enumerate() {
+        if !is_letter(*byte) {
+            return &rest[..i];
         }
     }
-    &text[at.min(text.len())..]
+    rest
 }
 
 // Whether two words are the same letters.
