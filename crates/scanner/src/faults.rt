@@ -1,5 +1,5 @@
 // The check of a text: its earliest fault, token by token.
-ghost use Rattle.std.specs.Prelude.{◌≡◌, true, false, cond, List, ℕ, suc, ◌<◌, ◌≤◌, ltb, length, take};
+ghost use Rattle.std.specs.Prelude.{◌≡◌, true, false, cond, List, ℕ, suc, ◌<◌, ltb, length, take};
 ghost use Rattle.refusal.specs.Checking.{checked};
 ghost use Rattle.syntax.specs.Tokens.{range, word as word_read, sign_of};
 ghost use Rattle.syntax.specs.Faults as faults;

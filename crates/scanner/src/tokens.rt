@@ -1,5 +1,5 @@
 // The scanner: the first token of a text from a place on, for every text and every place.
-ghost use Rattle.std.specs.Prelude.{◌≡◌, List, ℕ, ◌+◌, ◌<◌, ◌≤◌, length, drop};
+ghost use Rattle.std.specs.Prelude.{◌≡◌, List, ℕ, ◌+◌, ◌<◌, length, drop};
 ghost use Rattle.std.specs.Str.{bytes_eq};
 ghost use Rattle.syntax.specs.Tokens.{letter, letters, sign_of, range_there, skipped};
 ghost use Rattle.scanner.specs.Code.Scanning.{token_of, reserved, Scans, Skips, ScansWord, ScansToken};
