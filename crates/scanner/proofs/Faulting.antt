@@ -14,8 +14,7 @@ use Rattle.refusal.specs.declared.Refusal.{Refusal}
 use Rattle.refusal.specs.First.{refusal}
 use Rattle.syntax.specs.declared.Sign.{Sign}
 use Rattle.syntax.specs.declared.Sign.TheVariants.{Operand, Before, After, Slash, Opening, Closing, Equals, Semicolon}
-use Rattle.codec.specs.Bytes.{byte}
-use Rattle.syntax.specs.Tokens.{Token, name, sign, range, unknown, Lexeme, token_at, skipped, lexemes, tokens, is_semicolon, ends_line}
+use Rattle.syntax.specs.Tokens.{Token, name, sign, range, unknown, Lexeme, token_at, lexemes, tokens, is_semicolon, ends_line}
 use Rattle.syntax.specs.Faults.{Spot, at_line, at_equals, inside, Next, to, wrong, to_if, by_sign, is_equals, not_in, next, name_of, defined_after, at_end, first_wrong, fault}
 use Rattle.syntax.specs.Code.Heads.{head_of, heads_from, heads}
 use Rattle.scanner.specs.declared.Spot as Code
@@ -27,7 +26,7 @@ use Rattle.scanner.specs.declared.faults.Moved.{Moved}
 use Rattle.scanner.specs.Code.Scanning.{lexemes_at, Skips}
 use Rattle.scanner.specs.Code.Stepping.{spot_of, next_of, begins, lines_begun, Moves, TextChecked}
 use Rattle.scanner.specs.Code.Scanning.{tokens_at}
-use Rattle.scanner.proofs.Lexing.{lexemes_end, lexemes_token, width_there, width_within}
+use Rattle.scanner.proofs.Lexing.{lexemes_token, width_there, width_within}
 use Rattle.scanner.proofs.Searching.{tokens_start, tokens_end}
 
 -- WHAT A TOKEN LEADS TO: a line's start exactly after the token that ends one, or a refusal

@@ -1,5 +1,5 @@
 // The check of a text: its earliest fault, token by token.
-ghost use Rattle.std.specs.Prelude.{◌≡◌, true, false, cond, List, ℕ, suc, ◌<◌, ◌≤◌, ltb, length, take};
+ghost use Rattle.std.specs.Prelude.{◌≡◌, true, false, cond, List, ℕ, suc, ◌<◌, ltb, length, take};
 ghost use Rattle.refusal.specs.Checking.{checked};
 ghost use Rattle.syntax.specs.Tokens.{range, word as word_read, sign_of};
 ghost use Rattle.syntax.specs.Faults as faults;
@@ -176,6 +176,7 @@ fn at_end(spot: Spot, lines: usize, long: usize) -> Result<(), Refusal>
 
 // The earliest fault of a text, or none with the count of its lines.
 // It looks at the bytes itself: `scan` is too big to be inlined, and its answer would go through memory.
+// kept: a turn passes a token.
 pub fn check_text(text: &[u8]) -> TextCheck
     ensures { TextChecked text.now result }
 {

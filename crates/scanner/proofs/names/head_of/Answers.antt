@@ -17,12 +17,14 @@ pub returns-then-same : goal.returns-then-same
 returns-then-same c =
     elim c.if-is_empty.branch [
       | goal.then-is_empty w ↦ cc
-      | goal.else-is_empty w ↦ head_named _ _ (eqb-false _ _ (sym w.if-is_empty.ensures)) (sym c.if-is_reserved.false ∙ w.value-is ∙ w.is_reserved.ensures) true (c.if-same.ensures ∙ same_bytes _ _)
+      | goal.else-is_empty w ↦
+          head_named _ _ (eqb-false _ _ (sym w.if-is_empty.ensures)) (sym c.if-is_reserved.false ∙ w.value-is ∙ w.is_reserved.ensures) true (c.if-same.ensures ∙ same_bytes _ _)
     ]
 
 pub returns-else-same : goal.returns-else-same
 returns-else-same c =
     elim c.if-is_empty.branch [
       | goal.then-is_empty w ↦ cc
-      | goal.else-is_empty w ↦ head_named _ _ (eqb-false _ _ (sym w.if-is_empty.ensures)) (sym c.if-is_reserved.false ∙ w.value-is ∙ w.is_reserved.ensures) false (c.if-same.ensures ∙ same_bytes _ _)
+      | goal.else-is_empty w ↦
+          head_named _ _ (eqb-false _ _ (sym w.if-is_empty.ensures)) (sym c.if-is_reserved.false ∙ w.value-is ∙ w.is_reserved.ensures) false (c.if-same.ensures ∙ same_bytes _ _)
     ]
