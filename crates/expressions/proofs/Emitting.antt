@@ -36,7 +36,7 @@ four_stored (x ∷ bs) (suc i) k b c d h =
     rw (one, two, three) (ap (λ (ys : List ℕ). x ∷ ys) (four_stored bs i k b c d (omega arith)))
 
 -- so one rule's bytes are put
-pub one_put :
+one_put :
     (bs : List ℕ) (n k : ℕ) (x : Expression) (four : List ℕ) → four ≡ rule_bytes x → k ≡ 4 → 4 * n + 4 ≤ length bs →
     put_mid (4 * n) k bs four ≡ rule_put bs n x
 unfolding rule_put rule_bytes
@@ -45,6 +45,11 @@ one_put bs n k (Choice b c) four e f h = rw (e, f) (four_stored bs (4 * n) 2 b c
 one_put bs n k (Not b) four e f h = rw (e, f) (four_stored bs (4 * n) 3 b 0 0 h)
 one_put bs n k Empty four e f h = rw (e, f) (four_stored bs (4 * n) 4 0 0 0 h)
 one_put bs n k (Range b c) four e f h = rw (e, f) (four_stored bs (4 * n) 5 b c 0 h)
+
+pub rule_placed :
+    (r : Rules) (n k : ℕ) (x : Expression) (four made : List ℕ) → made ≡ four → four ≡ rule_bytes x → k ≡ 4 → 4 * n + 4 ≤ length r.bytes →
+    ◌≡◌ {A = Rules} (record { bytes = put_mid (4 * n) k r.bytes made; next = r.next; left = r.left }) (placed_at r n x)
+rule_placed r n k x four made e f g h = rules_by _ _ _ _ _ _ (one_put r.bytes n k x made (e ∙ f) g h) refl refl
 
 -- and the next number after it
 pub one_added :
@@ -80,6 +85,9 @@ advanced_next r s xs k e = ap (λ (x : Rules). x.next) e
 pub advanced_left : (r s : Rules) (xs : List Expression) (k : ℕ) → s ≡ advanced r xs k → s.left ≡ r.left - k
 unfolding advanced
 advanced_left r s xs k e = ap (λ (x : Rules). x.left) e
+
+pub one_further : (r s : Rules) (x : Expression) → s ≡ advanced r (x ∷ []) 0 → s.next ≡ r.next + 1
+one_further r s x e = advanced_next r s (x ∷ []) 0 e
 
 -- the three rules of e*
 pub three_added :

@@ -25,6 +25,7 @@ fn bytes_of(x: Expression) -> [u8; 4]
 
 impl Rules {
     // A rule written at a number.
+    #[tactic(auto, using(crate::proofs::Emitting::rule_placed))]
     pub fn put(&mut self, k: usize, x: Expression)
         requires { k < max_rules }
         ensures { self.new ≡ placed_at self.old k x }
@@ -34,6 +35,7 @@ impl Rules {
     }
 
     // One helper rule more.
+    #[tactic(auto, using(crate::proofs::Emitting::one_added))]
     pub fn add(&mut self, x: Expression)
         requires { self.old.next < max_rules }
         ensures { self.new ≡ advanced self.old (x ∷ []) 0 }
@@ -43,6 +45,7 @@ impl Rules {
     }
 
     // The three rules of e*, A ← eA / ε.
+    #[tactic(auto, using(crate::proofs::Emitting::three_added))]
     pub fn repeat(&mut self, operand: u8)
         requires { self.old.next + 3 ≤ max_rules }
         ensures { self.new ≡ advanced self.old (repetition_rules operand self.old.next) 0 }

@@ -25,7 +25,9 @@ use Rattle.syntax.proofs.Encoding.{length_encode}
 use Rattle.reader.specs.declared.Lines.{Lines}
 use Rattle.reader.specs.declared.GrammarBytes.{GrammarBytes}
 use Rattle.expressions.specs.declared.Unfit.{Unfit}
-use Rattle.std.specs.Prelude.{Result, Ok, Err}
+use Rattle.std.specs.Prelude.{Result, Ok, Err, IsErrAnd}
+use Rattle.expressions.proofs.Emitting.{handed_on}
+use Rattle.reader.specs.declared.ReadText.{ReadText}
 use Rattle.reader.specs.Calls.{padded, grammar_answer, ReadTells}
 use Rattle.reader.specs.Code.Lines.{LinesMade, LinesRight, LinesRead, TextRead}
 use Rattle.scanner.proofs.Searching.{tokens_start}
@@ -180,5 +182,15 @@ many_rules_text text f is none defined n counted e built =
     (refused_text text (refusal 16 (length text))
     (many_rules_tell text (checked-passes (fault text) none) (checked-passes (undefined_name text) defined) n counted (Err e) built e refl))
 
--- many lines are refused at a test, which no answer names: so a test that is turned round is refused at a goal that is then false
+-- the same at the exit of a `?`
+pub fault_handed :
+    (text : List ℕ) (r : Result ReadText Refusal) (e : Refusal) → IsErrAnd r (λ y. y ≡ e) → checked (fault text) ≡ Err e → TextRead text r
+fault_handed text r e h is = rw (handed_on r e h) (fault_text text e is)
+
+pub undefined_handed :
+    (text : List ℕ) (r : Result ReadText Refusal) (e : Refusal) → IsErrAnd r (λ y. y ≡ e) → checked (fault text) ≡ Ok tt →
+    checked (undefined_name text) ≡ Err e → TextRead text r
+undefined_handed text r e h none is = rw (handed_on r e h) (undefined_text text e none is)
+
+-- too many lines are refused at a test that no answer names: one that is turned round is refused at a goal that is then false
 pub ruleset refusal_laws = (many_lines_text)
