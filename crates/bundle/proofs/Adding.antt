@@ -28,7 +28,6 @@ refused_most (Err f) = omega arith
 refused_most (Ok j) = omega arith
 
 pub room_added : {n : ℕ} {t : Totals} (r : Judged) → line_readings r ≤ max_u32 → RoomAfter n t → RoomAfter (n + 1) (with_line t r)
-unfolding with_line
 room_added {n} {t} r few room =
     record {
       accepted = let g = gives_most Accepted r in let h = room.accepted in omega (arith, g, h);

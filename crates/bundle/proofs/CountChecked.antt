@@ -43,3 +43,6 @@ module _ (xs : List ℕ) where
           let q = p ∙ ap pair_place e in
           let right : CountRight xs = record { some = omega (arith, e, some); few = omega (arith, e, few); room = omega (arith, q, room) } in
           (rw e at r) ∙ ap checked (sym (count_passed xs right))
+
+-- for the function that checks the count
+pub ruleset by_tests = (no_count, no_capture, many_captures, no_room, by_pairs)

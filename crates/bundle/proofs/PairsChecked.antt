@@ -15,7 +15,7 @@ use Rattle.refusal.specs.First.{refusal, no_refusal}
 use Rattle.refusal.specs.Checking.{checked}
 use Rattle.refusal.proofs.Checked.{refuses-made}
 use Rattle.bundle.specs.Format.{pair_place, offset, end, pairs_from}
-use Rattle.bundle.proofs.PairsRead.{offset_is, end_is}
+use Rattle.bundle.proofs.PairsRead.{pair_room, offset_is, end_is}
 
 -- the answer of the whole is that of the pairs from i on
 pub record PairsLeft (xs : List ℕ) (n floor i : ℕ) : Type 0 where
@@ -62,3 +62,6 @@ none_left {xs} {n} {floor} {i} left h =
     let e : n - i ≡ 0 = omega arith in
     let none : pairs_from n 0 (pair_place n) xs ≡ no_refusal = left.same ∙ (rw e refl) in
     rw none refl
+
+-- for the function that checks the pairs
+pub ruleset pairs = (pair_room, at_first, starts_early, ends_late, next_left, none_left)

@@ -27,9 +27,9 @@ sum_snoc f [] r = omega arith
 sum_snoc f (q ∷ rs) r = let h = sum_snoc f rs r in omega (arith, h)
 
 pub totals_snoc : (rs : List Judged) (r : Judged) → with_line (totals rs) r ≡ totals (rs ++ (r ∷ []))
-unfolding totals with_line
+unfolding totals
 totals_snoc rs r =
-    rw (sum_snoc _ rs r, sum_snoc _ rs r, sum_snoc _ rs r, sum_snoc _ rs r, sum_snoc _ rs r, sum_snoc _ rs r, sum_snoc _ rs r) refl
+    simp sum_snoc
 
 pub record SoFar (bs xs : List ℕ) (i : ℕ) (t : Totals) (l l_now a a_now b b_now : List ℕ) : Type 0 where
   pub lines : List Judged

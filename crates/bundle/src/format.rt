@@ -37,7 +37,7 @@ pub fn count(bundle: &[u8]) -> usize
 }
 
 // The pairs one by one, of a bundle with room for them: each starts no earlier than the one before ends, and ends inside the bundle.
-#[tactic(auto, using(crate::proofs::PairsRead::pair_room, crate::proofs::PairsChecked::at_first, crate::proofs::PairsChecked::starts_early, crate::proofs::PairsChecked::ends_late, crate::proofs::PairsChecked::next_left, crate::proofs::PairsChecked::none_left))]
+#[tactic(auto, using(crate::proofs::PairsChecked::pairs))]
 fn check_pairs(bundle: &[u8], count: usize) -> Result<(), Refusal>
     requires { (count ≤ max_captures) × (pair_place count ≤ length bundle.now) }
     ensures { result ≡ checked (pairs_from count 0 (pair_place count) bundle.now) }
@@ -57,7 +57,7 @@ fn check_pairs(bundle: &[u8], count: usize) -> Result<(), Refusal>
 }
 
 // Refusal 18.
-#[tactic(auto, using(crate::proofs::CountChecked::no_count, crate::proofs::CountChecked::no_capture, crate::proofs::CountChecked::many_captures, crate::proofs::CountChecked::no_room, crate::proofs::CountChecked::by_pairs))]
+#[tactic(auto, using(crate::proofs::CountChecked::by_tests))]
 pub fn check_bundle(bundle: &[u8]) -> Result<(), Refusal>
     ensures { result ≡ checked (bundle_refusal bundle.now) }
 {

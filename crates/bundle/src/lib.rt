@@ -28,7 +28,7 @@ impl Totals {
     ghost use Rattle.bundle.specs.Code.Judging.{RoomAfter, with_line};
 
     // One line more.
-    #[tactic(auto, unfolding(crate::specs::Code::Judging::with_line, crate::specs::Report::gives, crate::specs::Report::is_refused, crate::specs::Report::line_readings, machine::specs::Replies::verdict_number))]
+    #[tactic(auto, unfolding(crate::specs::Report::gives, crate::specs::Report::is_refused, crate::specs::Report::line_readings, machine::specs::Replies::verdict_number))]
     pub fn add(&mut self, line: &Result<Judgement, Refusal>)
         requires { RoomAfter max_captures self.old }
         ensures { self.new ≡ with_line self.old line.now }

@@ -41,6 +41,9 @@ module _ (bs : List ℕ) (n : ℕ) (g : (image_refusal bs).number ≡ 0) (s : n 
   unfolding how_many machine
   few_cells_of = let f = few_cells some_capture in rw (length-replicate {A = ℕ} n 0) at f
 
+-- for the function that counts them
+pub ruleset counting = (counts_there, few_places_of, few_cells_of)
+
 -- the answer of the call
 module _ (f : Refusal) (n : ℕ) where
   pub needs_none : {e : Refusal} → checked f ≡ Err e → Err e ≡ needs f n

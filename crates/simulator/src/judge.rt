@@ -42,6 +42,7 @@ pub fn start(sizes: Sizes, finals: u32) -> JudgeState
 }
 
 // The chain: steps until the verdict stands.
+// kept: notes and work stay two parameters here, as the public calls and a step of the chain take them.
 fn run(image: &[u8], capture: &[u8], notes: &mut [u32], work: &mut [u32]) -> Judgement
     requires { Cleared image.now capture.now notes.old work.old }
     ensures { JudgementRight image.now capture.now result notes.new work.new }
@@ -71,7 +72,7 @@ pub fn judge_checked(image: &[u8], capture: &[u8], notes: &mut [u32], work: &mut
 }
 
 // N, the count of configurations with a capture of n bytes.
-#[tactic(auto, using(crate::proofs::Needing::counts_there, crate::proofs::Needing::few_places_of, crate::proofs::Needing::few_cells_of), unfolding(crate::specs::Calls::cells_needed, image::specs::Image::states, image::specs::Image::symbols))]
+#[tactic(auto, using(crate::proofs::Needing::counting), unfolding(crate::specs::Calls::cells_needed, image::specs::Image::states, image::specs::Image::symbols))]
 fn cells_needed(image: &[u8], n: usize) -> usize
     requires { ((image_refusal image.now).number ≡ 0) × (n ≤ max_capture) }
     ensures { result ≡ cells_needed image.now n }

@@ -20,7 +20,7 @@ pub record RoomAfter (lines : ℕ) (t : Totals) : Type 0 where
   pub readings : t.readings ≤ lines * max_u32
 
 -- totals with one line more
-unfoldable pub with_line : Totals → Judged → Totals
+abbrev pub with_line : Totals → Judged → Totals
 with_line t r =
     record {
       accepted = t.accepted + gives Accepted r;
