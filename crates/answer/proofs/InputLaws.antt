@@ -12,6 +12,9 @@ use Rattle.codec.specs.declared.Pair.{Pair}
 use Rattle.refusal.specs.declared.Refusal.{Refusal}
 use Rattle.codec.specs.Numbers.{pair_at}
 use Rattle.refusal.specs.First.{refusal, no_refusal}
+use Rattle.refusal.specs.Checking.{checked}
+use Rattle.refusal.proofs.Checked.{checked-passes}
+use Rattle.std.specs.Prelude.{Ok}
 use Rattle.answer.specs.Input.{pairs_length, grammar_pair, capture_pair, max_input, capture_offset, first_pair_right, second_pair_right, input_refusal, input_grammar, input_capture}
 
 module _ (xs : List ℕ) where
@@ -74,8 +77,8 @@ parted_as xs h = go (ltb (length xs) pairs_length) (ltb max_input (length xs)) (
           within = λ middle is. omega (arith, is, first_within xs f);
         }
 
-pub parted : (xs : List ℕ) (f : Refusal) → f ≡ input_refusal xs → f.number ≡ 0 → Parted xs
-parted xs f e z = parted_as xs (ap (λ (r : Refusal). r.number) (sym e) ∙ z)
+pub parted : (xs : List ℕ) → Ok tt ≡ checked (input_refusal xs) → Parted xs
+parted xs e = parted_as xs (checked-passes _ (sym e))
 
 -- the parts that are lent
 pub grammar_part : (xs : List ℕ) (middle : ℕ) → middle ≡ capture_offset xs → take (middle - pairs_length) (drop pairs_length xs) ≡ input_grammar xs
@@ -88,36 +91,3 @@ pub capture_part : (xs : List ℕ) (middle : ℕ) → middle ≡ capture_offset 
 unfolding input_capture
 capture_part xs middle e =
     take_all (length xs - middle) (drop middle xs) (omega (arith, length-drop middle xs)) ∙ ap (λ (k : ℕ). drop k xs) e
-
--- WHAT THE PAIRS THAT WERE READ SAY
-module _ (xs : List ℕ) (p : Pair) where
-  pub middle_read : p ≡ pair_at xs grammar_pair → pairs_length + p.long ≡ capture_offset xs
-  unfolding capture_offset
-  middle_read read = ap (λ (q : Pair). pairs_length + q.long) read
-
-  module _ (read : p ≡ pair_at xs grammar_pair) where
-    pub first_offset_wrong : (p.offset ≡ pairs_length → ⊥) → false ≡ first_pair_right xs
-    unfolding first_pair_right
-    first_offset_wrong n = simp (ne_eqb (pair_at xs grammar_pair).offset pairs_length (λ e. n (ap (λ (q : Pair). q.offset) read ∙ e)))
-
-    pub first_offset_right :
-        (middle : ℕ) → p.offset ≡ pairs_length → middle ≡ capture_offset xs → leb middle (length xs) ≡ first_pair_right xs
-    unfolding first_pair_right
-    first_offset_right middle e m =
-        ap (λ (k : ℕ). leb k (length xs)) m
-        ∙ simp (eq-eqb (pair_at xs grammar_pair).offset pairs_length (ap (λ (q : Pair). q.offset) (sym read) ∙ e))
-
-  module _ (read : p ≡ pair_at xs capture_pair) (middle : ℕ) (m : middle ≡ capture_offset xs) where
-    pub second_offset_wrong : (p.offset ≡ middle → ⊥) → false ≡ second_pair_right xs
-    unfolding second_pair_right
-    second_offset_wrong n =
-        simp (ne_eqb (pair_at xs capture_pair).offset (capture_offset xs) (λ e. n (ap (λ (q : Pair). q.offset) read ∙ e ∙ sym m)))
-
-    pub second_offset_right : p.offset ≡ middle → eqb (middle + p.long) (length xs) ≡ second_pair_right xs
-    unfolding second_pair_right
-    second_offset_right e =
-        ap (λ (k : ℕ). eqb (k + p.long) (length xs)) m ∙ ap (λ (q : Pair). eqb (capture_offset xs + q.long) (length xs)) read
-        ∙ simp (eq-eqb (pair_at xs capture_pair).offset (capture_offset xs) (ap (λ (q : Pair). q.offset) (sym read) ∙ e ∙ m))
-
--- what input_refusal answers, case by case
-pub ruleset input_laws = (short_refused, long_refused, first_refused, second_refused, not_refused)

@@ -3,66 +3,46 @@
 
 pub mod input;
 
-ghost use Rattle.builder.specs.Code.Building.{Planned};
-ghost use Rattle.answer_line.specs.Line.{Lined};
 ghost use Rattle.grammar_judge.specs.Calls.{lent};
-ghost use Rattle.answer.specs.Calls.{judged_line, PartsTold, AnswerSays};
+ghost use Rattle.answer.specs.Calls.{judged_line, PartsSay, InputSays, AnswerSays};
 
 use answer_line::{put_answer, put_refusal};
-use builder::Plan;
-use builder::planning::plan_of;
-use grammar::check::refusal_of;
-use grammar_judge::{build_and_judge, lent_refusal};
-use input::{PAIRS_LENGTH, capture_offset, input_refusal};
+use grammar::Grammar;
+use grammar::check::check_grammar;
+use grammar_judge::judge_by_grammar;
+use input::{PAIRS_LENGTH, capture_offset, check_input};
+use refusal::Refusal;
 use simulator::Judgement;
 
-// The line of a judgement.
-fn put_judgement(out: &mut [u8], j: Judgement) -> usize
-    ensures { Lined (judged_line (Ok j)) out.old out.new result }
-{
-    let verdict = j.verdict;
-    put_answer(out, verdict, j.readings, j.end)
-}
-
-// The answer for a grammar that is not refused: all checks come before the first byte is written.
-fn answer_planned(
-    grammar: &[u8],
-    plan: Plan,
-    capture: &[u8],
-    image: &mut [u8],
-    notes: &mut [u32],
-    work: &mut [u32],
-    out: &mut [u8],
-) -> usize
-    requires { Planned grammar.now plan }
-    ensures { PartsTold grammar.now capture.now (lent image.old notes.old work.old)
-        (lent image.new notes.new work.new) out.old out.new result }
-{
-    let refusal = lent_refusal(grammar, plan, capture, image.len(), notes.len(), work.len());
-    if refusal.number != 0 {
-        return put_refusal(out, refusal);
-    }
-    let judgement = build_and_judge(grammar, plan, capture, image, notes, work);
-    put_judgement(out, judgement)
-}
-
-// The answer for a grammar and a capture.
-fn answer_parts(
+// Judging a capture by a grammar's bytes: all checks come before the first byte is written.
+fn judge_parts(
     grammar: &[u8],
     capture: &[u8],
     image: &mut [u8],
     notes: &mut [u32],
     work: &mut [u32],
-    out: &mut [u8],
-) -> usize
-    ensures { PartsTold grammar.now capture.now (lent image.old notes.old work.old)
-        (lent image.new notes.new work.new) out.old out.new result }
+) -> Result<Judgement, Refusal>
+    ensures { PartsSay grammar.now capture.now (lent image.old notes.old work.old)
+        (lent image.new notes.new work.new) (judged_line result) }
 {
-    let refusal = refusal_of(grammar);
-    if refusal.number != 0 {
-        return put_refusal(out, refusal);
-    }
-    answer_planned(grammar, plan_of(grammar), capture, image, notes, work, out)
+    check_grammar(grammar)?;
+    let grammar = Grammar { bytes: grammar };
+    judge_by_grammar(grammar, capture, image, notes, work)
+}
+
+// Judging by an input.
+fn judge_input(
+    input: &[u8],
+    image: &mut [u8],
+    notes: &mut [u32],
+    work: &mut [u32],
+) -> Result<Judgement, Refusal>
+    ensures { InputSays input.now (lent image.old notes.old work.old)
+        (lent image.new notes.new work.new) (judged_line result) }
+{
+    check_input(input)?;
+    let middle = capture_offset(input);
+    judge_parts(&input[PAIRS_LENGTH..middle], &input[middle..], image, notes, work)
 }
 
 // The answer for an input, as a line at the start of out; answers the line's length. Where out is shorter, the line is cut off there.
@@ -76,17 +56,8 @@ pub fn answer(
     ensures { AnswerSays input.now (lent image.old notes.old work.old)
         (lent image.new notes.new work.new) out.old out.new result }
 {
-    let refusal = input_refusal(input);
-    if refusal.number != 0 {
-        return put_refusal(out, refusal);
+    match judge_input(input, image, notes, work) {
+        Ok(j) => put_answer(out, j.verdict, j.readings, j.end),
+        Err(refusal) => put_refusal(out, refusal),
     }
-    let middle = capture_offset(input);
-    answer_parts(
-        &input[PAIRS_LENGTH..middle],
-        &input[middle..],
-        image,
-        notes,
-        work,
-        out,
-    )
 }

@@ -1,32 +1,12 @@
--- `answer::answer` meets its contract. Assumes nothing.
-use Rattle.answer.proofs.InputLaws.{parted, grammar_part, capture_part}
-use Rattle.answer.proofs.Answering.{input_refused, input_parts}
+-- `answer::answer` meets its contract: the line of what judging says is written. Assumes nothing.
+use mathlib.Core.Path.{sym}
+use Rattle.answer.specs.Calls.{judged_line, AnswerSays}
 use Rattle.answer.proofs.answer.Goals as goal
 
-pub returns-then-refusal-ne0 : goal.returns-then-refusal-ne0
-returns-then-refusal-ne0 c =
-    input_refused _ _ _ _ _ _ c.input_refusal-refusal.ensures c.if-refusal-ne0.true c.put_refusal.ensures
+pub returns-in-Ok : goal.returns-in-Ok
+unfolding AnswerSays judged_line
+returns-in-Ok c = record { line = _; right = c.in-Ok.ensures; lined = c.put_answer.ensures }
 
-pub capture_offset-middle-requires : goal.capture_offset-middle-requires
-capture_offset-middle-requires c = (parted _ _ c.input_refusal-refusal.ensures c.if-refusal-ne0.false).enough
-
-pub slice_bounds-answer_parts-count : goal.slice_bounds-answer_parts-count
-slice_bounds-answer_parts-count c = (parted _ _ c.input_refusal-refusal.ensures c.if-refusal-ne0.false).least _ c.capture_offset-middle.ensures
-
-pub slice_bounds-answer_parts-start : goal.slice_bounds-answer_parts-start
-slice_bounds-answer_parts-start c = (parted _ _ c.input_refusal-refusal.ensures c.if-refusal-ne0.false).least _ c.capture_offset-middle.ensures
-
-pub slice_bounds-answer_parts-end : goal.slice_bounds-answer_parts-end
-slice_bounds-answer_parts-end c = (parted _ _ c.input_refusal-refusal.ensures c.if-refusal-ne0.false).within _ c.capture_offset-middle.ensures
-
-pub slice_bounds-answer_parts-count-2 : goal.slice_bounds-answer_parts-count-2
-slice_bounds-answer_parts-count-2 c = (parted _ _ c.input_refusal-refusal.ensures c.if-refusal-ne0.false).within _ c.capture_offset-middle.ensures
-
-pub slice_bounds-answer_parts-start-2 : goal.slice_bounds-answer_parts-start-2
-slice_bounds-answer_parts-start-2 c = (parted _ _ c.input_refusal-refusal.ensures c.if-refusal-ne0.false).within _ c.capture_offset-middle.ensures
-
-pub returns : goal.returns
-returns c =
-    input_parts _ _ _ _ _ _ _ _ _ c.input_refusal-refusal.ensures c.if-refusal-ne0.false (grammar_part _ _ c.capture_offset-middle.ensures)
-    (capture_part _ _ c.capture_offset-middle.ensures)
-    c.answer_parts.ensures
+pub returns-in-Err : goal.returns-in-Err
+unfolding AnswerSays judged_line
+returns-in-Err c = record { line = _; right = c.in-Err.ensures; lined = c.put_refusal.ensures }
