@@ -2,7 +2,7 @@
 use Rattle.std.specs.Prelude.{Result, Err, Ok}
 use mathlib.Core.Path.{◌≡◌, refl, sym, ◌∙◌}
 use mathlib.Core.List.{List}
-use Prim.Native.Nat.{ℕ, zero, suc, ◌*◌, ◌≤◌}
+use Prim.Native.Nat.{ℕ, zero, suc, ◌≤◌}
 use native.Mathlib.Omega.{arith}
 use mathlib.Core.Bool.{Bool, true, false, cond}
 use lib.Dec.{eqb}
@@ -13,26 +13,17 @@ use Rattle.refusal.specs.First.{or_else}
 use Rattle.refusal.specs.Checking.{checked}
 use Rattle.refusal.proofs.Checked.{checked-passes, checked-refuses, checked-refused, refused-first, passed-first}
 use Rattle.image.specs.Refusals.{image_refusal}
-use Rattle.bundle.specs.Format.{max_captures, pairs_offset, count, bundle_refusal, bundle_of, call_refusal}
+use Rattle.bundle.specs.Format.{pairs_offset, count, bundle_refusal, bundle_of, call_refusal}
 use Rattle.bundle.specs.Answers.{Report}
 use Rattle.bundle.specs.Answers as answers
 use Rattle.bundle.specs.declared.Totals.{Totals}
-use Rattle.bundle.specs.Report.{line_width}
 use Rattle.bundle.specs.Calls.{BundleJudged, BundleAs, BundleSays}
 use Rattle.bundle.specs.Conditions.{BundleRight}
 use Rattle.bundle.proofs.BundleConditions.{bundle_right}
 use Rattle.bundle.proofs.CountChecked.{past_count}
 
--- of a bundle that is right
-module _ {xs : List ℕ} (right : BundleRight xs) where
-  pub count_there : pairs_offset ≤ length xs
-  count_there =
-      let room = right.counted.room in
-      let past = past_count (count xs) in
-      omega (arith, room, past)
-
-  pub lines_room : (l : List ℕ) → length l ≡ line_width * max_captures → line_width * count xs ≤ length l
-  lines_room l long = let few = right.counted.few in omega (arith, few, long)
+pub count_there : {xs : List ℕ} → BundleRight xs → pairs_offset ≤ length xs
+count_there {xs} right = let room = right.counted.room in let past = past_count (count xs) in omega (arith, room, past)
 
 abbrev Made : Result (List ℕ) Refusal → Result (List ℕ) Refusal → Type 0
 Made a b = a ≡ b

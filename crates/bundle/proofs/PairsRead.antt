@@ -8,6 +8,7 @@ use Rattle.codec.specs.declared.Pair.{Pair}
 use Rattle.codec.specs.Numbers.{pair_width, pair_at}
 use Rattle.bundle.specs.Format.{max_captures, count, pair_place, offset, long, end, capture}
 use Rattle.bundle.specs.Conditions.{BundleRight}
+use Rattle.bundle.specs.Code.Judging.{Listed}
 
 -- pair i stands before the pairs' end
 place_before : {i n : ℕ} → i < n → pair_place i + pair_width ≤ pair_place n
@@ -38,13 +39,18 @@ module _ (xs : List ℕ) (i : ℕ) {at : ℕ} {p : Pair} (e : at ≡ pair_place 
       let long_part : p.offset + p.long - p.offset ≡ p.long = omega arith in
       rw (long_part, offset_is, long_is) refl
 
--- of a bundle that is right
-module _ {xs : List ℕ} {i : ℕ} (right : BundleRight xs) (there : i < count xs) where
+pub listed : {xs : List ℕ} {i : ℕ} → BundleRight xs → i < count xs → Listed xs i
+listed right there = record { good = right; there = there }
+
+module _ {xs : List ℕ} {i : ℕ} (l : Listed xs i) where
   pub few_before : i ≤ max_captures
-  few_before = let few = right.counted.few in omega (arith, few, there)
+  few_before = let few = l.good.counted.few in let h = l.there in omega (arith, few, h)
 
   pub pair_inside : {at : ℕ} → at ≡ pair_place i → at + pair_width ≤ length xs
-  pair_inside e = pair_room right.counted.room there e
+  pair_inside e = pair_room l.good.counted.room l.there e
 
   pub part_inside : {p : Pair} {at : ℕ} → at ≡ pair_place i → p ≡ pair_at xs at → p.offset + p.long ≤ length xs
-  part_inside e q = let z = end_is xs i e q in let h = (right.pairs i there).inside in omega (arith, z, h)
+  part_inside e q = let z = end_is xs i e q in let h = (l.good.pairs i l.there).inside in omega (arith, z, h)
+
+-- for the function that gives a capture
+pub ruleset captures = (few_before, pair_inside, part_inside, part_is)

@@ -3,6 +3,7 @@ ghost use Rattle.std.specs.Prelude.{◌≡◌, ◌<◌, ◌≤◌, ℕ, List, le
 ghost use Rattle.refusal.specs.Checking.{checked};
 ghost use Rattle.bundle.specs.Format.{max_captures, pairs_offset, count as count_of, pair_place, capture, pairs_from, bundle_refusal, bundle_of};
 ghost use Rattle.bundle.specs.Conditions.{BundleRight};
+ghost use Rattle.bundle.specs.Code.Judging.{Listed};
 
 use codec::{read_pair, read_u32};
 use refusal::{Kind, Refusal};
@@ -71,6 +72,18 @@ pub fn check_bundle(bundle: &[u8]) -> Result<(), Refusal>
     check_pairs(bundle, captures)
 }
 
+// Capture i: the bundle's own bytes.
+#[tactic(auto, using(crate::proofs::PairsRead::captures))]
+pub fn capture_of(bundle: &[u8], i: usize) -> &[u8]
+    requires { Listed bundle.now i }
+    ensures { result.now ≡ capture bundle.now i }
+{
+    let pair = read_pair(bundle, place_of(i));
+    let offset = pair.offset as usize;
+    let long = pair.long as usize;
+    &bundle[offset..offset + long]
+}
+
 // A bundle that is not refused: clauses see its bytes.
 #[derive(Drop)]
 pub struct Bundle<'a> {
@@ -103,15 +116,12 @@ impl<'a> Bundle<'a> {
         count(self.bytes)
     }
 
-    // Capture i: the bundle's own bytes.
-    #[tactic(auto, using(crate::proofs::PairsRead::few_before, crate::proofs::PairsRead::pair_inside, crate::proofs::PairsRead::part_inside, crate::proofs::PairsRead::part_is))]
+    // Capture i.
+    #[tactic(auto, using(crate::proofs::PairsRead::listed))]
     pub fn capture(&self, i: usize) -> &'a [u8]
         requires { i < count_of self.now }
         ensures { result.now ≡ capture self.now i }
     {
-        let pair = read_pair(self.bytes, place_of(i));
-        let offset = pair.offset as usize;
-        let long = pair.long as usize;
-        &self.bytes[offset..offset + long]
+        capture_of(self.bytes, i)
     }
 }

@@ -1,9 +1,16 @@
--- What adding a line to totals asks of them, and gives. Assumes nothing: these are definitions.
-use Rattle.std.specs.Prelude.{ℕ, ◌*◌, ◌+◌, ◌≤◌}
+-- What a capture of a bundle asks of it; and what adding a line to totals asks of them, and gives. Assumes nothing: these are definitions.
+use Rattle.std.specs.Prelude.{List, ℕ, ◌*◌, ◌+◌, ◌<◌, ◌≤◌}
 use Rattle.machine.specs.declared.Verdict.TheVariants.{Accepted, Ended, Stuck, Looping, Halted}
 use Rattle.simulator.specs.Answers.{Judged}
 use Rattle.bundle.specs.declared.Totals.{Totals}
+use Rattle.bundle.specs.Format.{count}
+use Rattle.bundle.specs.Conditions.{BundleRight}
 use Rattle.bundle.specs.Report.{gives, is_refused, line_readings}
+
+-- capture i is one of a bundle that is not refused
+pub record Listed (xs : List ℕ) (i : ℕ) : Type 0 where
+  pub good : BundleRight xs
+  pub there : i < count xs
 
 -- the most that 32 bits hold: more readings no line has
 abbrev pub max_u32 : ℕ
