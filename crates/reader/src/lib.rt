@@ -5,6 +5,7 @@ pub mod cursor;
 pub mod definitions;
 pub mod owners;
 pub mod reading;
+pub mod replies;
 
 use expressions::Rules;
 
