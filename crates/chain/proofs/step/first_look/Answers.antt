@@ -19,7 +19,7 @@ popping-requires c =
 pub returns-in-Stop : goal.returns-in-Stop
 unfolding Step.first_look
 returns-in-Stop c =
-    record { is = rw (c.in-Stop.is, sym c.stop_verdict-verdict.ensures) (c.opened.ensures.is c.args.e c.requires.own.is) }
+    record { is = rw (c.in-Stop.is, sym c.from-verdict.ensures) (c.opened.ensures.is c.args.e c.requires.own.is) }
 
 pub returns-in-Change : goal.returns-in-Change
 unfolding Step.first_look
