@@ -23,7 +23,7 @@ use Rattle.expressions.specs.declared.Rules.{Rules}
 use Rattle.expressions.specs.Code.Building.{rule_put, put_rules, advanced, placed_at}
 use Rattle.expressions.specs.Code.Operators.{Part, PartRoom}
 use Rattle.scanner.specs.Code.Scanning.{tokens_at}
-use Rattle.expressions.specs.Code.Levels.{Room, Passes, PartRight, Spent, LevelRead, ReadsTo}
+use Rattle.expressions.specs.Code.Levels.{Room, Passes, PartRight, LevelRead, ReadsTo}
 use Rattle.reader.specs.Code.Lines.{PassesTwo, LineRead, with_left, line_with, topped_by, topped, LineRoom, LineDone, LineIsRead}
 use Rattle.expressions.proofs.Emitting.{advanced_on, advanced_none, advanced_next}
 use Rattle.expressions.proofs.Deriving.{semicolon_stops}
