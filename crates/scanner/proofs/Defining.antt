@@ -66,9 +66,6 @@ module _ (text : List ℕ) (i : ℕ) (more : i < length text) (other : letter (b
       go false e =
           token_passed e ∙ ap (λ (n : ℕ). first_undefined ms (lexemes_at text (i + n))) (sign_token text i (sym other) (range_first text i d)).1
 
-pub names_none : (text : List ℕ) (at : ℕ) → PassesNames text at at
-names_none text at = record { left = λ ms. refl; from = omega arith }
-
 module _ (text : List ℕ) (at i : ℕ) (come : PassesNames text at i) (more : i < length text) (other : letter (byte text i) ≡ false) where
   pub names_quote : byte text i ≡ 39 → (to : ℕ) → to ≡ i + width_at (drop i text) → PassesNames text at to
   unfolding skipped

@@ -14,8 +14,7 @@ use Rattle.refusal.specs.declared.Refusal.{Refusal}
 use Rattle.refusal.specs.First.{refusal}
 use Rattle.syntax.specs.declared.Sign.{Sign}
 use Rattle.syntax.specs.declared.Sign.TheVariants.{Operand, Before, After, Slash, Opening, Closing, Equals, Semicolon}
-use Rattle.codec.specs.Bytes.{byte}
-use Rattle.syntax.specs.Tokens.{Token, name, sign, range, unknown, Lexeme, token_at, skipped, lexemes, tokens, is_semicolon, ends_line}
+use Rattle.syntax.specs.Tokens.{Token, name, sign, range, unknown, Lexeme, token_at, lexemes, tokens, is_semicolon, ends_line}
 use Rattle.syntax.specs.Faults.{Spot, at_line, at_equals, inside, Next, to, wrong, to_if, by_sign, is_equals, not_in, next, name_of, defined_after, at_end, first_wrong, fault}
 use Rattle.syntax.specs.Code.Heads.{head_of, heads_from, heads}
 use Rattle.scanner.specs.declared.Spot as Code
@@ -27,7 +26,7 @@ use Rattle.scanner.specs.declared.faults.Moved.{Moved}
 use Rattle.scanner.specs.Code.Scanning.{lexemes_at, Skips}
 use Rattle.scanner.specs.Code.Stepping.{spot_of, next_of, begins, lines_begun, Moves, TextChecked}
 use Rattle.scanner.specs.Code.Scanning.{tokens_at}
-use Rattle.scanner.proofs.Lexing.{lexemes_end, lexemes_token, width_there, width_within}
+use Rattle.scanner.proofs.Lexing.{lexemes_token, width_there, width_within}
 use Rattle.scanner.proofs.Searching.{tokens_start, tokens_end}
 
 -- WHAT A TOKEN LEADS TO: a line's start exactly after the token that ends one, or a refusal
@@ -156,29 +155,17 @@ pub begun_few : (s : Spot) (b : ℕ) → b ≡ lines_begun s → b ≤ 1
 begun_few s b q = omega (arith, few_begun s)
 
 module _ (text : List ℕ) where
-  -- past what is skipped
-  skipped_over : (at : ℕ) (s : Spot) (lines : ℕ) → Checking text at s lines → (o : ℕ) → Skips text at o → Checking text o s lines
-  skipped_over at s lines come o skips =
-      record {
-        there = come.there;
-        left = come.left ∙ ap (λ (ls : List Lexeme). heads_from (begins s) (tokens ls)) skips.rest;
-        first = come.first ∙ ap (λ (ls : List Lexeme). first_wrong (take lines (heads text)) s ls (length text)) skips.rest;
-        few = omega (arith, come.few, skips.from);
-      }
-
-  pub check_start : (o : ℕ) → Skips text 0 o → Checking text o at_line 0
+  pub check_start : Checking text 0 at_line 0
   unfolding begins fault lexemes lexemes_at
-  check_start o skips =
-      skipped_over 0 at_line 0
-      (record { there = omega arith; left = ap (heads_from true) (tokens_start text); first = refl; few = omega arith }) o skips
+  check_start =
+      record { there = omega arith; left = ap (heads_from true) (tokens_start text); first = refl; few = omega arith }
 
   module _ (at : ℕ) (s : Spot) (lines : ℕ) (come : Checking text at s lines) where
     pub check_end :
-        length text ≤ at → (r : Result Unit Refusal) → ((ns : List (List ℕ)) → length ns ≡ lines → r ≡ checked (at_end ns s (length text))) →
+        lexemes_at text at ≡ [] → (r : Result Unit Refusal) → ((ns : List (List ℕ)) → length ns ≡ lines → r ≡ checked (at_end ns s (length text))) →
         TextChecked text (record { checked = r; lines = lines })
     unfolding first_wrong heads_from
-    check_end over r is =
-        let e = lexemes_end text at over in
+    check_end e r is =
         let none_left : drop lines (heads text) ≡ [] = come.left ∙ rw (tokens_end text at e) in
         let all : length (heads text) - lines ≡ 0 = sym (length-drop lines (heads text)) ∙ ap length none_left in
         record {
@@ -186,38 +173,35 @@ module _ (text : List ℕ) where
           counted = λ z. omega (arith, come.there);
         }
 
-    module _ (stops : skipped (byte text at) ≡ false) (more : at < length text) (m : Moved) (moves : Moves text lines s at m) where
-      first_token : lexemes_at text at ≡ record { offset = at; token = token_at (drop at text) } ∷ lexemes_at text m.next
-      first_token = lexemes_token text at more stops ∙ rw moves.wide
+    module _ (o : ℕ) (skips : Skips text at o) (more : o < length text) (m : Moved) (moves : Moves text lines s o m) where
+      first_token : lexemes_at text at ≡ record { offset = o; token = token_at (drop o text) } ∷ lexemes_at text m.next
+      first_token = skips.rest ∙ lexemes_token text o more (skips.stops more) ∙ rw moves.wide
 
       pub check_further : (at < m.next) × (m.next ≤ length text)
-      check_further = (omega (arith, width_there text at more, moves.wide), omega (arith, width_within text at more, moves.wide))
+      check_further =
+          (omega (arith, skips.from, width_there text o more, moves.wide), omega (arith, width_within text o more, moves.wide))
 
-      pub check_wrong : (k : Kind) → m.step ≡ Err k → TextChecked text (record { checked = Err (refusal (number_of k) at); lines = lines })
+      pub check_wrong : (k : Kind) → m.step ≡ Err k → TextChecked text (record { checked = Err (refusal (number_of k) o); lines = lines })
       unfolding next_of checked
       check_wrong k q =
-          let e : next (take lines (heads text)) s (token_at (drop at text)) ≡ wrong (number_of k) = sym moves.led ∙ ap next_of q in
-          let found : fault text ≡ refusal (number_of k) at = come.first ∙ rw first_token (fault_here _ s _ _ (length text) _ e) in
+          let e : next (take lines (heads text)) s (token_at (drop o text)) ≡ wrong (number_of k) = sym moves.led ∙ ap next_of q in
+          let found : fault text ≡ refusal (number_of k) o = come.first ∙ rw first_token (fault_here _ s _ _ (length text) _ e) in
           record {
             first = rw (found, ne_eqb (number_of k) 0 (wrong_some _ s _ _ e));
             counted = λ z. cc;
           }
 
-      pub check_next :
-          (u : Code.Spot) → m.step ≡ Ok u → (b : ℕ) → b ≡ lines_begun s → (o : ℕ) → Skips text m.next o → Checking text o (spot_of u) (lines + b)
+      pub check_next : (u : Code.Spot) → m.step ≡ Ok u → (b : ℕ) → b ≡ lines_begun s → Checking text m.next (spot_of u) (lines + b)
       unfolding next_of tokens
-      check_next u p b q o skips =
-          let e : next (take lines (heads text)) s (token_at (drop at text)) ≡ to (spot_of u) = sym moves.led ∙ ap next_of p in
-          let passed : drop lines (heads text) ≡ heads_from (begins s) (token_at (drop at text) ∷ tokens_at text m.next) =
+      check_next u p b q =
+          let e : next (take lines (heads text)) s (token_at (drop o text)) ≡ to (spot_of u) = sym moves.led ∙ ap next_of p in
+          let passed : drop lines (heads text) ≡ heads_from (begins s) (token_at (drop o text) ∷ tokens_at text m.next) =
           come.left ∙ rw first_token
           in
           let a = advance (heads text) lines s _ _ (spot_of u) e come.there passed in
-          let on : Checking text m.next (spot_of u) (lines + b) =
           rw q (record {
             there = a.there;
             left = a.after ∙ ap (λ (t : Bool). heads_from t (tokens_at text m.next)) (begins_next _ s _ (spot_of u) e);
             first = come.first ∙ rw (first_token, a.taken) (fault_later _ s _ _ (length text) (spot_of u) e);
             few = omega (arith, come.few, check_further.0, few_begun s);
           })
-          in
-          skipped_over m.next (spot_of u) (lines + b) on o skips

@@ -2,19 +2,19 @@
 use mathlib.Core.Path.{◌≡◌, refl, sym, ap, ◌∙◌}
 use mathlib.Core.Bool.{Bool, true, false, cond}
 use mathlib.Core.List.{List, [], ◌∷◌}
-use Prim.Native.Nat.{ℕ, zero, suc, ◌+◌, ◌-◌, ◌<◌, ◌≤◌, min}
+use Prim.Native.Nat.{ℕ, zero, suc, ◌+◌, ◌-◌, ◌<◌, ◌≤◌}
 use native.Mathlib.Nat.{add-zero}
 use native.Mathlib.Numerals.{add-one}
 use native.Mathlib.Decide.{dec_lt}
 use native.Mathlib.Omega.{arith}
 use lib.Dec.{eqb}
 use lib.ListN.{length, take, drop, length-drop, drop_of_length-le, get_or-eq_default}
-use lib.Seq.{drop-nil, drop-cons, drop-drop, get_or-drop}
+use lib.Seq.{take-length, drop-nil, drop-cons, drop-drop, get_or-drop}
 use borrow.Author.Tests.{eqb-true}
 use Rattle.codec.specs.Bytes.{byte}
 use Rattle.syntax.specs.Tokens.{letter, letters, range_there, token_at, width_at, skipped, lexemes_from}
 use Rattle.grammar.proofs.Bools.{both_true}
-use Rattle.scanner.specs.Code.Scanning.{lexemes_at, Skips}
+use Rattle.scanner.specs.Code.Scanning.{lexemes_at}
 
 -- A RUN OF LETTERS
 pub letters_fit : (bs : List ℕ) → length (letters bs) ≤ length bs
@@ -133,44 +133,33 @@ abbrev pub Skipping : (text : List ℕ) → (at i : ℕ) → Type 0
 Skipping text at i = (lexemes_at text at ≡ lexemes_at text i) × (at ≤ i)
 
 module _ (text : List ℕ) (at i : ℕ) (come : Skipping text at i) where
-  pub skip_end : length text ≤ i → Skips text at i
-  skip_end h = record { rest = come.0; from = come.1; stops = λ l. absurd (omega arith) }
-
-  pub skip_stop : skipped (byte text i) ≡ false → Skips text at i
-  skip_stop e = record { rest = come.0; from = come.1; stops = λ l. e }
-
   pub skip_next : i < length text → skipped (byte text i) ≡ true → Skipping text at (i + 1)
   skip_next more e = (come.0 ∙ lexemes_skipped text i more e ∙ ap (lexemes_at text) (sym (add-one i)), omega arith)
 
--- COUNTING LETTERS, as far as a place
-abbrev pub LettersLeft : (text : List ℕ) → (at i : ℕ) → Type 0
-LettersLeft text at i = (length (letters (drop at text)) ≡ i - at + length (letters (drop i text))) × (at ≤ i)
-
-pub count_start : (text : List ℕ) (at : ℕ) → LettersLeft text at at
-count_start text at = (omega arith, omega arith)
-
-module _ (text : List ℕ) (at i : ℕ) (come : LettersLeft text at i) where
-  pub letters_whole :
-      length text ≤ i → (from : ℕ) → from ≡ min at (length text) → take (length text - from) (drop from text) ≡ letters (drop at text)
+-- what is left of a text from a place on, if the place is in it
+module _ (text : List ℕ) (at : ℕ) where
+  pub letters_past : length text ≤ at → [] ≡ letters (drop at text)
   unfolding letters
-  letters_whole h from q = go (dec_lt at (length text))
-    where
-      go : Dec (at < length text) → take (length text - from) (drop from text) ≡ letters (drop at text)
-      go (yes l) =
-          let same : from ≡ at = omega arith in
-          let all : length text - at ≡ length (letters (drop at text)) =
-          omega (arith, come.0, no_letters text i h, letters_fit (drop at text), length-drop at text)
-          in
-          rw (same, all) (letters_taken (drop at text))
-      go (no l) =
-          let none : length text - from ≡ 0 = omega arith in
-          rw (none, drop_of_length-le text {i = at} (omega arith)) refl
+  letters_past h = rw (drop_of_length-le text h)
 
-  module _ (more : i < length text) where
-    pub letters_stopped : letter (byte text i) ≡ false → take (i - at) (drop at text) ≡ letters (drop at text)
+  pub letters_left : (rest : List ℕ) → rest ≡ take (length text - at) (drop at text) → letters rest ≡ letters (drop at text)
+  letters_left rest q = ap letters (q ∙ rw (← length-drop at text) (take-length (drop at text)))
+
+-- COUNTING LETTERS, as far as a place
+abbrev pub LettersLeft : (bs : List ℕ) → (i : ℕ) → Type 0
+LettersLeft bs i = length (letters bs) ≡ i + length (letters (drop i bs))
+
+module _ (bs : List ℕ) (i : ℕ) (come : LettersLeft bs i) where
+  pub letters_whole : length bs ≤ i → bs ≡ letters bs
+  letters_whole h =
+      let all : length bs ≡ length (letters bs) = omega (arith, come, no_letters bs i h, letters_fit bs) in
+      sym (take-length bs) ∙ rw all (letters_taken bs)
+
+  module _ (more : i < length bs) where
+    pub letters_stopped : letter (byte bs i) ≡ false → take i bs ≡ letters bs
     letters_stopped e =
-        let passed : i - at ≡ length (letters (drop at text)) = omega (arith, letters_stop text i more e) in
-        rw passed (letters_taken (drop at text))
+        let passed : i ≡ length (letters bs) = omega (arith, come, letters_stop bs i more e) in
+        rw passed (letters_taken bs)
 
-    pub count_next : letter (byte text i) ≡ true → LettersLeft text at (i + 1)
-    count_next e = (rw add-one (omega (arith, letters_more text i more e)), omega arith)
+    pub count_next : letter (byte bs i) ≡ true → LettersLeft bs (i + 1)
+    count_next e = rw add-one (omega (arith, come, letters_more bs i more e))

@@ -2,7 +2,7 @@
 use mathlib.Core.Path.{◌≡◌, refl, sym, ap, ◌∙◌}
 use mathlib.Core.Bool.{Bool, true, false}
 use mathlib.Core.List.{List, [], ◌∷◌}
-use Prim.Native.Nat.{ℕ, suc, ◌-◌, ◌<◌, ◌≤◌}
+use Prim.Native.Nat.{ℕ, suc, ◌<◌, ◌≤◌}
 use native.Mathlib.Omega.{arith}
 use lib.ListN.{length, get_or}
 use Rattle.syntax.specs.Tokens.{Lexeme, ends_line, lexemes}
@@ -47,11 +47,6 @@ abbrev NextLine : (text : List ℕ) → (at to : ℕ) → Type 0
 NextLine text at to = (offsets_at text false at ≡ offsets_at text true to) × (at < length text → at < to)
 
 module _ (text : List ℕ) (at i : ℕ) (come : InsideLine text at i) where
-  pub line_over : length text ≤ i → NextLine text at i
-  line_over h =
-      let e = lexemes_end text i h in
-      (come.0 ∙ no_offsets text i false e ∙ sym (no_offsets text i true e), λ more. omega arith)
-
   pub line_ended : lexemes_at text i ≡ [] → NextLine text at (length text)
   line_ended e = (come.0 ∙ no_offsets text i false e ∙ sym (no_offsets text _ true (lexemes_end text _ (omega arith))), λ more. more)
 
@@ -63,9 +58,6 @@ module _ (text : List ℕ) (at i : ℕ) (come : InsideLine text at i) where
     pub line_goes_on : ends l.token ≡ false → InsideLine text at l.next
     line_goes_on e =
         (come.0 ∙ offsets_inside text i l s ∙ ap (λ (b : Bool). offsets_at text b l.next) e, omega (arith, s.from, s.some))
-
-    pub token_further : i < length text → length text - l.next < length text - i
-    token_further more = omega (arith, s.from, s.some, s.within)
 
 -- past the first line from a place on
 second : (ls : List Lexeme) (n : ℕ) → get_or (line_offsets true ls) (suc n) 0 ≡ get_or (line_offsets false ls) n 0

@@ -105,9 +105,6 @@ module _ (text : List ℕ) (i : ℕ) (more : i < length text) where
 
 -- PASSING, from one place inside a line to another, and to where the next line begins
 module _ (text : List ℕ) (at : ℕ) where
-  pub pass_none : (begins : Bool) → PassesHeads text begins at begins at
-  pass_none b = record { left = refl; from = omega arith }
-
   module _ (i : ℕ) (come : PassesHeads text false at false i) where
     pub pass_end : length text ≤ i → PassesHeads text false at true i × (at < length text → at < i)
     pass_end h = (record { left = come.left ∙ left_end text i h; from = come.from }, λ l. omega arith)

@@ -1,5 +1,5 @@
 // The check of a text: its earliest fault, token by token.
-ghost use Rattle.std.specs.Prelude.{◌≡◌, true, false, cond, List, ℕ, suc, ◌<◌, ◌≤◌, ltb, length, take};
+ghost use Rattle.std.specs.Prelude.{◌≡◌, true, false, cond, List, ℕ, suc, ◌<◌, ltb, length, take};
 ghost use Rattle.refusal.specs.Checking.{checked};
 ghost use Rattle.syntax.specs.Tokens.{range, word as word_read, sign_of};
 ghost use Rattle.syntax.specs.Faults as faults;
@@ -176,20 +176,25 @@ fn at_end(spot: Spot, lines: usize, long: usize) -> Result<(), Refusal>
 
 // The earliest fault of a text, or none with the count of its lines.
 // It looks at the bytes itself: `scan` is too big to be inlined, and its answer would go through memory.
+// kept: a turn passes a token.
 pub fn check_text(text: &[u8]) -> TextCheck
     ensures { TextChecked text.now result }
 {
-    let mut offset = skip(text, 0);
+    let mut at: usize = 0;
     let mut lines: usize = 0;
     let mut spot = Spot::AtLine;
-    while offset < text.len() {
+    while at < text.len() {
+        let offset = skip(text, at);
+        if text.len() <= offset {
+            break;
+        }
         let first = FirstLines { text, count: lines };
         let moved = step_at(first, spot, offset);
         match moved.step {
             Ok(after) => {
                 lines += begun(spot);
                 spot = after;
-                offset = skip(text, moved.next);
+                at = moved.next;
             }
             Err(kind) => {
                 let checked = Err(Refusal::new(kind, offset));

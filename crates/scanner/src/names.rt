@@ -8,7 +8,7 @@ ghost use Rattle.syntax.specs.Code.Heads.{heads};
 ghost use Rattle.scanner.specs.Code.Naming.{head_in, stops, PassesHeads, PassesNames};
 
 use crate::Head;
-use crate::tokens::{RANGE_BYTES, is_letter, is_reserved, letters_from, range_at, skip};
+use crate::tokens::{RANGE_BYTES, is_letter, is_reserved, letters_from, range_at, same, skip};
 
 // So many lines of a text: the first ones.
 #[derive(Clone, Copy)]
@@ -47,7 +47,7 @@ fn is_stop(byte: u8) -> bool
 }
 
 // The next stop from a place on, or, with no stop before it, a place less than four bytes before the text's end.
-// Four bytes a turn: a turn costs more than a byte.
+// kept: a byte a turn, as `position` passes them, took a quarter longer in the median over four layouts of the code.
 fn next_stop(text: &[u8], at: usize) -> usize
     requires { at ≤ length text.now }
     ensures { PassesHeads text.now false at false result }
@@ -72,6 +72,7 @@ fn next_stop(text: &[u8], at: usize) -> usize
 }
 
 // The place after the next semicolon from a place on, or the text's end; a semicolon inside a range is none.
+// kept: a turn passes what `next_stop` passes, or a range of five bytes, so no iterator goes its way.
 fn after_line(text: &[u8], at: usize) -> usize
     ensures { PassesHeads text.now false at true result × (at < length text.now → at < result) }
 {
@@ -90,6 +91,7 @@ fn after_line(text: &[u8], at: usize) -> usize
 }
 
 // The place of the next letter that is in no range, or the text's end.
+// kept: a turn passes one byte, or a range of five.
 pub fn next_word(text: &[u8], at: usize) -> usize
     ensures { PassesNames text.now at result × (result < length text.now → letter (byte text.now result) ≡ true) }
 {
@@ -114,7 +116,7 @@ fn head_of(name: &[u8], word: &[u8]) -> Head
 {
     if word.is_empty() || is_reserved(word) {
         Head::Nothing
-    } else if name == word {
+    } else if same(name, word) {
         Head::Sought
     } else {
         Head::Other
@@ -122,6 +124,7 @@ fn head_of(name: &[u8], word: &[u8]) -> Head
 }
 
 // The number of the line that a name names, or the count of lines where it names none.
+// kept: a turn passes a line.
 pub fn line_of(text: &[u8], name: &[u8]) -> usize
     ensures { result ≡ index_of name.now (heads text.now) }
 {

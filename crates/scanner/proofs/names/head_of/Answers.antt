@@ -13,16 +13,18 @@ returns-then-is_reserved c =
       | goal.else-is_empty w ↦ head_reserved _ _ (sym c.if-is_reserved.true ∙ w.value-is ∙ w.is_reserved.ensures)
     ]
 
-pub returns-then-eq : goal.returns-then-eq
-returns-then-eq c =
+pub returns-then-same : goal.returns-then-same
+returns-then-same c =
     elim c.if-is_empty.branch [
       | goal.then-is_empty w ↦ cc
-      | goal.else-is_empty w ↦ head_named _ _ (eqb-false _ _ (sym w.if-is_empty.ensures)) (sym c.if-is_reserved.false ∙ w.value-is ∙ w.is_reserved.ensures) true (c.if-eq.ensures ∙ same_bytes _ _)
+      | goal.else-is_empty w ↦
+          head_named _ _ (eqb-false _ _ (sym w.if-is_empty.ensures)) (sym c.if-is_reserved.false ∙ w.value-is ∙ w.is_reserved.ensures) true (c.if-same.ensures ∙ same_bytes _ _)
     ]
 
-pub returns-else-eq : goal.returns-else-eq
-returns-else-eq c =
+pub returns-else-same : goal.returns-else-same
+returns-else-same c =
     elim c.if-is_empty.branch [
       | goal.then-is_empty w ↦ cc
-      | goal.else-is_empty w ↦ head_named _ _ (eqb-false _ _ (sym w.if-is_empty.ensures)) (sym c.if-is_reserved.false ∙ w.value-is ∙ w.is_reserved.ensures) false (c.if-eq.ensures ∙ same_bytes _ _)
+      | goal.else-is_empty w ↦
+          head_named _ _ (eqb-false _ _ (sym w.if-is_empty.ensures)) (sym c.if-is_reserved.false ∙ w.value-is ∙ w.is_reserved.ensures) false (c.if-same.ensures ∙ same_bytes _ _)
     ]

@@ -8,4 +8,4 @@ pub returns-then-text-offset : goal.returns-then-text-offset
 returns-then-text-offset c = c.skip-offset.ensures.rest ∙ lexemes_end _ _ c.if-text-offset.true
 
 pub returns : goal.returns
-returns c = scanned _ _ c.if-text-offset.false _ _ c.skip-offset.ensures c.lexeme_at-lexeme.ensures
+returns c = scanned _ _ c.if-text-offset.false _ _ c.skip-offset.ensures c.lexeme_at.ensures
