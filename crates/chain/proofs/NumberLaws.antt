@@ -151,18 +151,6 @@ module _ {e : Environment} {k : ℕ} (y : Apart e k) where
   pub by_stride : k / e.stride ≡ k / g / m
   by_stride = rw (y.constants.stride_is, mul_comm m g) (sym (div-div-eq-div-mul k g m))
 
-  pub upper_fits : Fits w32 (k / g)
-  upper_fits = omega (arith, div-le_self k g, below_most)
-
-  pub state_fits : Fits w32 (k / e.stride)
-  state_fits = omega (arith, div-le_self k e.stride, below_most)
-
-  pub upper_cast : Fits w32 (k * e.reciprocals.symbols / symbols_scale)
-  upper_cast = rw upper_is upper_fits
-
-  pub state_cast : Fits w32 (k * e.reciprocals.stride / stride_scale)
-  state_cast = rw state_is state_fits
-
   pub upper_least : {u : ℕ} → u ≡ k / g → u * g ≤ k
   upper_least f = rw f (div-mul-le_self k g)
 

@@ -8,8 +8,8 @@ use Rattle.machine.specs.declared.Action.TheVariants.{Pop}
 use Rattle.chain.specs.declared.Mode.TheVariants.{Unwind}
 use Rattle.chain.specs.declared.Environment.{Environment}
 use Rattle.chain.specs.declared.Registers.{Registers}
-use Rattle.chain.specs.Step.{registers_of, after_pop, resumed, with_reading, closed, first_look}
-use Rattle.chain.specs.Code.StepParts.{Pops, FirstLooks}
+use Rattle.chain.specs.Step.{number_in, after_pop, resumed, with_reading, closed, first_look}
+use Rattle.chain.specs.Code.StepParts.{registers_with, Pops, FirstLooks}
 
 module _ (E : Environment) (r : Registers) (p : ℕ) (ws : List ℕ) where
   pub pops_pushed :
@@ -20,10 +20,10 @@ module _ (E : Environment) (r : Registers) (p : ℕ) (ws : List ℕ) where
   pops_pushed e false = simp e
 
   pub pops_changed :
-      r.pushed ≡ false → (b : Bool) →
-      registers_of E Unwind r.at false r.depth (r.readings + 1) ≡ closed E (with_reading E r) r.at (Pop p b) ws
+      r.pushed ≡ false → r.number ≡ number_in E r.at → (b : Bool) →
+      registers_with Unwind r.at r.number r.pushed r.depth (r.readings + 1) ≡ closed E (with_reading E r) r.at (Pop p b) ws
   unfolding closed
-  pops_changed e b = simp e
+  pops_changed e f b = simp (e, f)
 
 -- so a first look at it, whether its pop returns or not
 pub first_pops :

@@ -1,5 +1,5 @@
 // The number kept beside a configuration: adjusted by products of what the environment keeps, and taken apart by reciprocals. No step divides but by powers of two.
-ghost use Rattle.std.specs.Prelude.{◌≡◌, ◌+◌, ◌*◌, ◌/◌, ◌<◌};
+ghost use Rattle.std.specs.Prelude.{◌≡◌, ◌+◌, ◌*◌, ◌/◌, ◌^◌, ◌<◌};
 ghost use Rattle.chain.specs.Step.{number_in, config_in};
 ghost use Rattle.chain.specs.Chain.{reciprocals_by};
 ghost use Rattle.chain.specs.Code.NumberParts.{u32_end, Numbered, Moves, Apart};
@@ -17,34 +17,20 @@ pub fn reciprocals_of(symbols: u32, stride: u32) -> Reciprocals
     requires { (0 < symbols) × (0 < stride) }
     ensures { result ≡ reciprocals_by symbols stride }
 {
-    let over_symbols = SYMBOLS_SCALE / (symbols as u64) + 1;
-    let over_stride = STRIDE_SCALE / (stride as u64) + 1;
     Reciprocals {
-        symbols: over_symbols,
-        stride: over_stride,
+        symbols: SYMBOLS_SCALE / u64::from(symbols) + 1,
+        stride: STRIDE_SCALE / u64::from(stride) + 1,
     }
 }
 
-// What a number says without its symbol: k / symbols.
-fn upper_of(e: Environment, k: u32) -> u32
-    requires { Apart e k }
-    ensures { result ≡ k / e.sizes.symbols }
+// A number times a reciprocal, without the power of two that this is scaled by.
+fn divided<const SCALE: u64>(k: u32, reciprocal: u64) -> u32
+    requires some { 0 < SCALE }
+    requires product_fits { k * reciprocal < 2 ^ 64 }
+    requires fits { k * reciprocal / SCALE < 2 ^ 32 }
+    ensures { result ≡ k * reciprocal / SCALE }
 {
-    let reciprocals = e.reciprocals;
-    let product = (k as u64) * reciprocals.symbols;
-    let quotient = product / SYMBOLS_SCALE;
-    quotient as u32
-}
-
-// The state in a number: k / stride.
-fn state_of(e: Environment, k: u32) -> u32
-    requires { Apart e k }
-    ensures { result ≡ k / e.stride }
-{
-    let reciprocals = e.reciprocals;
-    let product = (k as u64) * reciprocals.stride;
-    let quotient = product / STRIDE_SCALE;
-    quotient as u32
+    (u64::from(k) * reciprocal / SCALE) as u32
 }
 
 // The configuration of a number.
@@ -53,8 +39,9 @@ pub fn config_from(e: Environment, k: u32) -> Config
     ensures { result ≡ config_in e k }
 {
     let sizes = e.sizes;
-    let upper = upper_of(e, k);
-    let state = state_of(e, k);
+    // what the number says without its symbol, and its state
+    let upper = divided::<SYMBOLS_SCALE>(k, e.reciprocals.symbols);
+    let state = divided::<STRIDE_SCALE>(k, e.reciprocals.stride);
     let head = upper - state * sizes.places;
     let symbol = k - upper * sizes.symbols;
     Config {

@@ -8,7 +8,7 @@ ghost use Rattle.chain.specs.Code.StepParts.{cleared_with, Openable, Poppable, F
 
 use crate::cells::{OPEN_BIT, head_told, open_note};
 use crate::numbers::{config_from, moved_number, row_of};
-use crate::resuming::{after_pop, registers_of, resumed, unmoved};
+use crate::resuming::{after_pop, resumed};
 use crate::{Environment, Mode, Registers};
 use image::lookup;
 use machine::{Action, Config, Verdict};
@@ -17,13 +17,17 @@ use machine::{Action, Config, Verdict};
 fn cleared(r: Registers, verdict: Verdict, depth: usize) -> Registers
     ensures { result ≡ cleared_with r verdict depth }
 {
-    let at = r.at;
-    let number = r.number;
-    let readings = r.readings;
-    if depth == 0 {
-        return registers_of(Mode::Done(verdict), at, number, false, 0, readings);
+    let mode = if depth == 0 {
+        Mode::Done(verdict)
+    } else {
+        Mode::Clear(verdict)
+    };
+    Registers {
+        mode,
+        pushed: false,
+        depth,
+        ..r
     }
-    registers_of(Mode::Clear(verdict), at, number, false, depth, readings)
 }
 
 // The configuration looked at is open now: its note says what unwinding needs, and its number stands on top of the stack. The next is c.
@@ -39,15 +43,16 @@ fn opened(
     requires { Openable r notes.old work.old }
     ensures { Opens r mode c number pushed result notes.old notes.new work.old work.new }
 {
-    let at = r.at;
-    let k = r.number;
-    let i = k as usize;
-    notes[i] = open_note(at, r.pushed);
-    let j = r.depth;
-    work[j] = k;
-    let depth = r.depth + 1;
-    let readings = r.readings + 1;
-    registers_of(mode, c, number, pushed, depth, readings)
+    notes[r.number as usize] = open_note(r.at, r.pushed);
+    work[r.depth] = r.number;
+    Registers {
+        mode,
+        at: c,
+        number,
+        pushed,
+        depth: r.depth + 1,
+        readings: r.readings + 1,
+    }
 }
 
 // The configuration looked at pops: it is its own terminator. Where it was pushed, its head is the entry's pointer, so a return changes nothing.
@@ -55,17 +60,18 @@ fn popping(e: Environment, r: Registers, state: u32, notes: &mut [u32], work: &[
     requires { Poppable e r state notes.old work.now }
     ensures { Pops e r result state notes.old notes.new work.now }
 {
-    let at = r.at;
     let k = r.number;
-    let depth = r.depth;
-    let count = r.readings + 1;
-    let i = k as usize;
-    notes[i] = k + 2;
+    notes[k as usize] = k + 2;
+    let readings = r.readings + 1;
+    let read = Registers { readings, ..r };
     if r.pushed {
-        let row = row_of(e, k, at);
-        return after_pop(e, at, k, row, state, at.head, depth, count, notes, work);
+        let row = row_of(e, k, r.at);
+        return after_pop(e, read, row, state, r.at.head, notes, work);
     }
-    registers_of(Mode::Unwind, at, k, false, depth, count)
+    Registers {
+        mode: Mode::Unwind,
+        ..read
+    }
 }
 
 // The configuration looked at is new: its rule says how to go on.
@@ -113,13 +119,16 @@ fn closed(
     requires { Closable image.now capture.now e r d number notes.now work.now }
     ensures { result ≡ Step.closed e r d ((machine image.now capture.now).action d) work.now }
 {
-    let at = r.at;
-    let depth = r.depth;
     if r.pushed {
         let action = lookup::action_of(image, capture, e.sizes, d);
-        return resumed(e, r, d, number, action, at.head, depth, notes, work);
+        return resumed(e, r, d, number, action, r.at.head, r.depth, notes, work);
     }
-    registers_of(Mode::Unwind, d, number, false, depth, r.readings)
+    Registers {
+        mode: Mode::Unwind,
+        at: d,
+        number,
+        ..r
+    }
 }
 
 // Look at a configuration: new, open, or closed. One rule is read at most: its own where it is new, its terminator's where it is closed.
@@ -136,22 +145,17 @@ fn look(
     ensures { StepsBy Look image.now capture.now e r result
         notes.old notes.new work.old work.new }
 {
-    let at = r.at;
-    let i = r.number as usize;
-    let cell = notes[i];
+    let cell = notes[r.number as usize];
     if cell == 0 {
-        let action = lookup::action_of(image, capture, e.sizes, at);
+        let action = lookup::action_of(image, capture, e.sizes, r.at);
         return first_look(e, r, action, notes, work);
     }
+    // kept: the cell is tested, since decoded into machine::Note first judging takes 8 percent longer
     if cell >= OPEN_BIT {
-        return registers_of(
-            Mode::Clear(Verdict::Looping),
-            at,
-            r.number,
-            r.pushed,
-            r.depth,
-            r.readings,
-        );
+        return Registers {
+            mode: Mode::Clear(Verdict::Looping),
+            ..r
+        };
     }
     let number = cell - 2;
     let d = config_from(e, number);
@@ -181,7 +185,12 @@ fn unwind(
     work[depth] = 0;
     let odd = told % 2;
     if odd == 0 {
-        return registers_of(Mode::Unwind, at, number, false, depth, r.readings);
+        return Registers {
+            mode: Mode::Unwind,
+            pushed: false,
+            depth,
+            ..r
+        };
     }
     let action = lookup::action_of(image, capture, e.sizes, at);
     let pointer = head_told(told);
@@ -213,11 +222,10 @@ pub fn step(
     ensures { StepSays image.now capture.now e r result
         notes.old notes.new work.old work.new }
 {
-    let mode = r.mode;
-    match mode {
+    match r.mode {
         Mode::Look => look(image, capture, e, r, notes, work),
         Mode::Unwind => unwind(image, capture, e, r, notes, work),
         Mode::Clear(verdict) => clear(r, verdict, notes, work),
-        Mode::Done(_) => unmoved(r),
+        Mode::Done(_) => r,
     }
 }

@@ -9,6 +9,7 @@ pub mod operators;
 use syntax::Node;
 
 // The rules made so far, four bytes each: the number of the next helper rule, and how many more rules the line may need. They are lent while lines are read.
+// kept: no heap, so the bytes are an array for the most rules and not a Vec, and how many rules are made stands beside it.
 #[derive(Clone, Copy)]
 pub struct Rules {
     pub bytes: [u8; 124],

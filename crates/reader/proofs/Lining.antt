@@ -23,7 +23,7 @@ use Rattle.expressions.specs.declared.Rules.{Rules}
 use Rattle.expressions.specs.Code.Building.{rule_put, put_rules, advanced, placed_at}
 use Rattle.expressions.specs.Code.Operators.{Part, PartRoom}
 use Rattle.scanner.specs.Code.Scanning.{tokens_at}
-use Rattle.expressions.specs.Code.Levels.{Room, Passes, PartRight, Spent, LevelRead, ReadsTo}
+use Rattle.expressions.specs.Code.Levels.{Room, Passes, PartRight, LevelRead, ReadsTo}
 use Rattle.reader.specs.Code.Lines.{PassesTwo, LineRead, with_left, line_with, topped_by, topped, LineRoom, LineDone, LineIsRead}
 use Rattle.expressions.proofs.Emitting.{advanced_on, advanced_none, advanced_next}
 use Rattle.expressions.proofs.Deriving.{semicolon_stops}
@@ -217,6 +217,3 @@ module _ (text : List ℕ) (at k from : ℕ) (before : Rules) (room : LineRoom t
 pub line_ready : (text : List ℕ) (k : ℕ) (before ready : Rules) → LineRoom text k before → ready ≡ with_left before → Room text ready
 line_ready text k before ready room e =
     subst (λ (y : Rules). Room text y) (sym e) (record { few = room.few; fit = omega (arith, room.fit) })
-
-pub line_part : (text : List ℕ) (k : ℕ) (before ready : Rules) (x : Part) → LineRoom text k before → ready ≡ with_left before → Spent ready 0 x → PartRoom x
-line_part text k before ready x room e spent = omega (arith, spent.room, (line_ready text k before ready room e).fit)

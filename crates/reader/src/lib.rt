@@ -5,6 +5,7 @@ pub mod cursor;
 pub mod definitions;
 pub mod owners;
 pub mod reading;
+pub mod replies;
 
 use expressions::Rules;
 
@@ -19,6 +20,7 @@ pub struct Lines {
 }
 
 // The grammar that was read: so many bytes. The bytes after those are 0.
+// kept: no heap, so the bytes are an array for the longest grammar and not a Vec, and their number stands beside it.
 #[derive(Clone, Copy)]
 pub struct GrammarBytes {
     pub bytes: [u8; 124],
@@ -26,6 +28,7 @@ pub struct GrammarBytes {
 }
 
 // The same, and what reading knows of the lines: how many there are, and for each the number after its last helper rule.
+// kept: no heap, so the numbers are an array for the most lines and not a Vec, and how many lines there are stands beside it.
 #[derive(Clone, Copy)]
 pub struct ReadText {
     pub grammar: GrammarBytes,

@@ -25,15 +25,13 @@ pub fn read_lines(text: &[u8]) -> Result<ReadText, Refusal>
     let Ok(read) = lines_at(text, 0, check.lines) else {
         return Err(too_many);
     };
-    let rules = read.rules;
-    let bytes = rules.bytes;
+    let bytes = read.rules.bytes;
     let ends = read.ends;
-    let grammar = GrammarBytes {
-        bytes,
-        length: RULE_BYTES * rules.next,
-    };
     Ok(ReadText {
-        grammar,
+        grammar: GrammarBytes {
+            bytes,
+            length: RULE_BYTES * read.rules.next,
+        },
         lines: check.lines,
         ends,
     })

@@ -14,12 +14,13 @@ use Rattle.simulator.specs.Replies.{of_needs, of_judged}
 use Rattle.interpreter.specs.Replies.{of_ran}
 use Rattle.builder.specs.Replies.{of_built}
 use Rattle.recursion.specs.Computed.{recursion_refusal}
-use Rattle.reader.specs.declared.ReadGrammar.{ReadGrammar}
+use Rattle.std.specs.Prelude.{Result}
+use Rattle.refusal.specs.declared.Refusal.{Refusal}
+use Rattle.reader.specs.declared.GrammarBytes.{GrammarBytes}
 use Rattle.reader.specs.Calls.{ReadTells}
 use Rattle.grammar_judge.specs.Calls.{Lent}
 use Rattle.typed.specs.Calls.{BuildTextSays, JudgeTextSays}
-use Rattle.typed.specs.declared.left_recursion.TextRecursion.{TextRecursion}
-use Rattle.typed.specs.Recursion.{TextRecursionSays}
+use Rattle.typed.specs.Recursion.{TextRecursion, TextRecursionSays}
 use Rattle.typed.specs.Replies.{of_read, grammar_left, of_text_recursion}
 use Rattle.bundle.specs.Answers.{Report}
 use Rattle.bundle.specs.Calls.{BundleSays}
@@ -64,7 +65,7 @@ pub record CheckTextRecursionTells (text : List ℕ) (returned : ℕ) (answer : 
 
 -- reading a text: the grammar's bytes at the start of the buffer, later ones as they were; refused, none changes
 pub record ReadGrammarTells (text grammar grammar_now : List ℕ) (returned : ℕ) (answer : List ℕ) : Type 0 where
-  pub read : ReadGrammar
+  pub read : Result GrammarBytes Refusal
   pub says : ReadTells text read
   pub left : grammar_now ≡ grammar_left read grammar
   pub kept : (returned ≡ 0 → ⊥) → grammar_now ≡ grammar

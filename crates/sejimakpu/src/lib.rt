@@ -5,6 +5,9 @@
 pub mod reply;
 pub mod version;
 
+ghost use Rattle.std.specs.Prelude.{◌≡◌, List, ℕ};
+ghost use Rattle.reader.specs.Calls.{ReadTells};
+ghost use Rattle.typed.specs.Replies.{grammar_left};
 ghost use Rattle.builder.specs.declared.Matching.TheVariants.{Whole};
 ghost use Rattle.builder.specs.Matching.{default_matching};
 ghost use Rattle.grammar_judge.specs.Calls.{lent};
@@ -14,7 +17,9 @@ use builder::build::build_image;
 use builder::{Matching, default_matching};
 use bundle::judging::judge_bundle;
 use interpreter::plain_run;
+use reader::GrammarBytes;
 use reader::reading::read;
+use refusal::Refusal;
 use recursion::check::check_recursion;
 use machine::replies::Answer;
 use reply::{write_reply, write_totals};
@@ -91,6 +96,16 @@ pub fn sejimakpu_check_recursion_nonnull(grammar: &[u8], answer: &mut [u64; 6]) 
     write_reply(answer, check_recursion(grammar).reply())
 }
 
+// What reading a text answered: the grammar at the start of a buffer, and the later bytes as they were; of a refused text nothing.
+fn put_grammar(buffer: &mut [u8; 124], got: &Result<GrammarBytes, Refusal>)
+    requires { (text : List ℕ) × ReadTells text got.now }
+    ensures { buffer.new ≡ grammar_left got.now buffer.old }
+{
+    if let Ok(read) = got {
+        buffer[..read.length].copy_from_slice(&read.bytes[..read.length]);
+    }
+}
+
 // Reading a text: the bytes of its grammar, of which there are 124 at most.
 pub fn sejimakpu_read_grammar_nonnull(
     text: &[u8],
@@ -100,9 +115,7 @@ pub fn sejimakpu_read_grammar_nonnull(
     ensures { ReadGrammarTells text.now grammar.old grammar.new result answer.new }
 {
     let got = read(text);
-    if let Ok(read) = got {
-        grammar[..read.length].copy_from_slice(&read.bytes[..read.length]);
-    }
+    put_grammar(grammar, &got);
     write_reply(answer, got.reply())
 }
 
@@ -152,6 +165,6 @@ pub fn sejimakpu_judge_bundle_nonnull(
         result answer.new }
 {
     let report = judge_bundle(image, bundle, notes, work, lines);
-    write_totals(totals, report);
+    write_totals(totals, &report);
     write_reply(answer, report.reply())
 }

@@ -9,8 +9,8 @@ use refusal::Refusal;
 
 // The ten cells of the totals: a verdict's at its number, then refusals and readings. A refused call writes none.
 #[tactic(auto, unfolding(bundle::specs::Replies::totals_left, bundle::specs::Replies::totals_cells))]
-pub fn write_totals(cells: &mut [u64; 10], report: Result<Lines, Refusal>)
-    ensures { cells.new ≡ totals_left report cells.old }
+pub fn write_totals(cells: &mut [u64; 10], report: &Result<Lines, Refusal>)
+    ensures { cells.new ≡ totals_left report.now cells.old }
 {
     if let Ok(Lines { totals: t, .. }) = report {
         *cells = [

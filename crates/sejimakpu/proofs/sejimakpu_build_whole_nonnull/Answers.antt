@@ -1,5 +1,6 @@
 -- `sejimakpu::sejimakpu_build_whole_nonnull` meets its contract. Assumes nothing.
-use Rattle.sejimakpu.proofs.Told.{told_as}
+use mathlib.Core.Path.{◌∙◌}
+use Rattle.sejimakpu.proofs.Told.{told_as, built_told}
 use Rattle.sejimakpu.proofs.sejimakpu_build_whole_nonnull.Goals as goal
 
 pub returns : goal.returns
@@ -7,5 +8,5 @@ returns c =
     record {
       built = _;
       says = c.build_image-built.ensures;
-      tells = told_as c.build_reply.ensures c.write_reply.ensures;
+      tells = told_as (c.reply.ensures ∙ built_told _) c.write_reply.ensures;
     }

@@ -1,8 +1,9 @@
 -- `sejimakpu::sejimakpu_check_nonnull` meets its contract. Assumes nothing.
-use Rattle.sejimakpu.proofs.Told.{told_as}
-use Rattle.machine.specs.Replies.{of_checked}
 use mathlib.Core.Path.{ap, ◌∙◌}
+use Rattle.machine.proofs.RepliesAlike.{checked_told}
+use Rattle.machine.specs.Replies.{of_checked}
+use Rattle.sejimakpu.proofs.Told.{told_as}
 use Rattle.sejimakpu.proofs.sejimakpu_check_nonnull.Goals as goal
 
 pub returns : goal.returns
-returns c = told_as (c.check_reply.ensures ∙ ap of_checked c.check_image.ensures) c.write_reply.ensures
+returns c = told_as (c.reply.ensures ∙ checked_told _ ∙ ap of_checked c.check_image.ensures) c.write_reply.ensures

@@ -1,5 +1,6 @@
 -- `sejimakpu::sejimakpu_judge_bundle_nonnull` meets its contract. Assumes nothing.
-use Rattle.sejimakpu.proofs.Told.{told_as}
+use mathlib.Core.Path.{◌∙◌}
+use Rattle.sejimakpu.proofs.Told.{told_as, report_told}
 use Rattle.sejimakpu.proofs.sejimakpu_judge_bundle_nonnull.Goals as goal
 
 pub returns : goal.returns
@@ -8,5 +9,5 @@ returns c =
       report = _;
       says = c.judge_bundle-report.ensures;
       left = c.write_totals.ensures;
-      tells = told_as c.bundle_reply.ensures c.write_reply.ensures;
+      tells = told_as (c.reply.ensures ∙ report_told _) c.write_reply.ensures;
     }

@@ -1,4 +1,6 @@
 -- `sejimakpu::sejimakpu_judge_text_nonnull` meets its contract. Assumes nothing.
+use mathlib.Core.Path.{◌∙◌}
+use Rattle.simulator.proofs.Replying.{judged_told}
 use Rattle.sejimakpu.proofs.Told.{told_as}
 use Rattle.sejimakpu.proofs.sejimakpu_judge_text_nonnull.Goals as goal
 
@@ -7,5 +9,5 @@ returns c =
     record {
       judged = _;
       says = c.judge_text-judged.ensures;
-      tells = told_as c.judge_reply.ensures c.write_reply.ensures;
+      tells = told_as (c.reply.ensures ∙ judged_told _) c.write_reply.ensures;
     }

@@ -1,5 +1,5 @@
 -- `chain::step::closed` meets its contract. Assumes nothing.
-use mathlib.Core.Path.{sym}
+use mathlib.Core.Path.{refl}
 use Rattle.chain.specs.Step
 use Rattle.image.specs.Image.{machine}
 use Rattle.chain.proofs.StepSafe.{closed_resumes}
@@ -11,9 +11,8 @@ resumed-requires c =
 
 pub returns-then-r : goal.returns-then-r
 unfolding Step.closed machine
-returns-then-r c = simp c.if-r.true (rw (c.resumed.ensures, c.action_of-action.ensures))
+returns-then-r c = simp c.if-r.true (rw (c.resumed.ensures, c.action_of-action.ensures) refl)
 
 pub returns : goal.returns
-unfolding Step.closed machine
-returns c =
-    simp (c.if-r.false, sym c.requires.terminator.is) c.registers_of.ensures
+unfolding Step.closed
+returns c = rw (c.if-r.false, c.requires.terminator.is) refl

@@ -4,8 +4,8 @@ use Rattle.chain.proofs.StepSafe.{note_there, at_lookup, first_ready, apart, clo
 use Rattle.chain.proofs.LookBy.{note_unseen, note_closed, look_unseen, look_closed, closed_least}
 use Rattle.chain.proofs.step.look.Goals as goal
 
-pub bounds-notes-i : goal.bounds-notes-i
-bounds-notes-i c =
+pub bounds-notes-r : goal.bounds-notes-r
+bounds-notes-r c =
     note_there c.requires.ready
 
 pub action_of-action-requires : goal.action_of-action-requires

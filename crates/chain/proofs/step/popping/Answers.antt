@@ -15,6 +15,6 @@ returns-then-r c =
 pub returns : goal.returns
 returns c =
     record {
-      closes = λ b. rw (c.registers_of.ensures, c.requires.own.is) (pops_changed c.args.e c.args.r c.args.state _ c.if-r.false b);
+      closes = λ b. pops_changed c.args.e c.args.r c.args.state _ c.if-r.false c.requires.own.is b;
       notes_are = refl;
     }

@@ -1,4 +1,5 @@
 -- `chain::step::unwind` meets its contract, by how the newest open configuration was entered. Assumes nothing.
+use mathlib.Core.Path.{refl}
 use native.Mathlib.Omega.{arith}
 use Rattle.chain.proofs.StepSafe.{at_lookup, number_room}
 use Rattle.chain.proofs.OpenNotes.{number_cast, number_offset}
@@ -39,7 +40,7 @@ bounds-work-depth-2 c =
 
 pub returns-then-odd-eq0 : goal.returns-then-odd-eq0
 returns-then-odd-eq0 c =
-    unwinds_on c.requires c.if-odd-eq0.true c.registers_of.ensures
+    unwinds_on c.requires c.if-odd-eq0.true refl
 
 pub action_of-action-requires : goal.action_of-action-requires
 action_of-action-requires c =

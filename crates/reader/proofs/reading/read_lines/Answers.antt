@@ -20,8 +20,8 @@ pub returns-in_default : goal.returns-in_default
 returns-in_default c =
     many_rules_text _ _ c.new-too_many.ensures (grind arith) (grind arith) _ (grind arith) c.in_default.field-0 c.in_default.ensures
 
-pub overflow_mul-grammar : goal.overflow_mul-grammar
-overflow_mul-grammar c =
+pub overflow_mul-result : goal.overflow_mul-result
+overflow_mul-result c =
     let none : checked (fault c.args.text.now) ≡ Ok tt = grind arith in
     let defined : checked (undefined_name c.args.text.now) ≡ Ok tt = grind arith in
     omega (
