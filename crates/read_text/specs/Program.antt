@@ -1,12 +1,11 @@
 -- What the program that reads a text, or checks it for left recursion, writes for an input. Assumes nothing: these are definitions.
-use Rattle.std.specs.Prelude.{◌≡◌, Bool, true, false, List, ℕ, ◌+◌, ◌≤◌, ◌<◌, length, take}
+use Rattle.std.specs.Prelude.{◌≡◌, Bool, true, false, List, ℕ, ◌+◌, ◌≤◌, ◌<◌, length, take, Ok, Err}
 use Rattle.refusal.specs.declared.Refusal.{Refusal}
 use Rattle.refusal.specs.First.{refusal}
 use Rattle.answer_line.specs.Line.{refusal_line, recursion_line, passes_line}
 use Rattle.syntax.specs.Reading.{Refused, Grammar, ReadSays}
-use Rattle.typed.specs.declared.left_recursion.TextRecursion.{TextRecursion}
-use Rattle.typed.specs.declared.left_recursion.TextRecursion.TheVariants.{Passes, Refused as Unread, Recursive}
-use Rattle.typed.specs.Recursion.{TextRecursionSays}
+use Rattle.typed.specs.declared.left_recursion.RecursionFault.TheVariants.{Refused as Unread, Recursive}
+use Rattle.typed.specs.Recursion.{TextRecursion, TextRecursionSays}
 use Rattle.transfer.specs.declared.Stop.{Stop}
 use Rattle.transfer.specs.Transfers.{Outcome, has_failed, Stopped}
 use Rattle.read_text.specs.declared.Output.{Output}
@@ -17,9 +16,9 @@ max_text = 65536
 
 -- the line of what the check for left recursion answers
 unfoldable pub check_line : TextRecursion → List ℕ
-check_line Passes = passes_line
-check_line (Unread f) = refusal_line f
-check_line (Recursive k o) = recursion_line k o
+check_line (Ok _) = passes_line
+check_line (Err (Unread f)) = refusal_line f
+check_line (Err (Recursive k o)) = recursion_line k o
 
 -- of a text: where it is read, its refusal's line or the grammar's bytes; where it is checked, the check's line
 pub data TextOutput (xs : List ℕ) : (checks : Bool) → (output : List ℕ) → Type 0 where

@@ -8,12 +8,12 @@ ghost use Rattle.read_text.specs.Program.{check_line, Holds, Buffer, TextSays, W
 
 use answer_line::{put_passes, put_recursion, put_refusal};
 use reader::reading::read;
-use refusal::Refusal;
+use refusal::{Kind, Refusal};
 use std::env::FillError;
 use std::io::Write;
 use std::rt::Env;
 use transfer::{Stop, complain, read_on, write_on};
-use typed::left_recursion::{TextRecursion, check_text_recursion};
+use typed::left_recursion::{RecursionFault, check_text_recursion};
 
 // The longest text, in bytes.
 const MAX_TEXT: usize = 65536;
@@ -38,10 +38,7 @@ fn refused(refusal: Refusal) -> Output
 fn no_text() -> Output
     ensures { Holds result (refusal_line (refusal 14 0)) }
 {
-    refused(Refusal {
-        number: 14,
-        place: 0,
-    })
+    refused(Refusal::new(Kind::Input, 0))
 }
 
 // The line for an input that could not be read; why not is said on standard error.
@@ -52,14 +49,25 @@ fn unread<E: Write>(errors: &mut E, stop: Stop) -> Output
     no_text()
 }
 
-// The line of what the check for left recursion answers.
-fn put_check(out: &mut [u8], checked: TextRecursion) -> usize
+// The line of why a typed grammar does not pass the check for left recursion.
+#[tactic(auto, unfolding(crate::specs::Program::check_line))]
+fn put_fault(out: &mut [u8], fault: RecursionFault) -> usize
+    ensures { Lined (check_line (Err fault)) out.old out.new result }
+{
+    match fault {
+        RecursionFault::Refused(refusal) => put_refusal(out, refusal),
+        RecursionFault::Recursive { rule, name } => put_recursion(out, rule, name),
+    }
+}
+
+// The line of what that check answers.
+#[tactic(auto, unfolding(crate::specs::Program::check_line))]
+fn put_check(out: &mut [u8], checked: Result<(), RecursionFault>) -> usize
     ensures { Lined (check_line checked) out.old out.new result }
 {
     match checked {
-        TextRecursion::Passes => put_passes(out),
-        TextRecursion::Refused(refusal) => put_refusal(out, refusal),
-        TextRecursion::Recursive(rule, name) => put_recursion(out, rule, name),
+        Ok(()) => put_passes(out),
+        Err(fault) => put_fault(out, fault),
     }
 }
 
@@ -77,14 +85,14 @@ fn check_of_text(text: &[u8]) -> Output
 fn output_of_text(text: &[u8]) -> Output
     ensures { TextSays false text.now result }
 {
-    let answer = read(text);
-    let refusal = answer.refusal;
-    if refusal.number != 0 {
-        return refused(refusal);
+    match read(text) {
+        Ok(grammar) => {
+            let bytes = grammar.bytes;
+            let length = grammar.length;
+            Output { bytes, length }
+        }
+        Err(refusal) => refused(refusal),
     }
-    let bytes = answer.bytes;
-    let length = answer.length;
-    Output { bytes, length }
 }
 
 // What is written for a text, by what is asked for.
