@@ -42,7 +42,13 @@ fn judge_input(
 {
     check_input(input)?;
     let middle = capture_offset(input);
-    judge_parts(&input[PAIRS_LENGTH..middle], &input[middle..], image, notes, work)
+    judge_parts(
+        &input[PAIRS_LENGTH..middle],
+        &input[middle..],
+        image,
+        notes,
+        work,
+    )
 }
 
 // The answer for an input, as a line at the start of out; answers the line's length. Where out is shorter, the line is cut off there.

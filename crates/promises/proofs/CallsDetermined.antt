@@ -1,7 +1,9 @@
 -- What each call of the library returns and leaves follows from what it is given, by what its crate says of its own answer. Assumes nothing.
+use Rattle.std.specs.Prelude.{Result}
 use mathlib.Core.Path.{◌≡◌, sym, ap, ◌∙◌}
 use mathlib.Core.List.{List}
 use Prim.Native.Nat.{ℕ}
+use Rattle.refusal.specs.declared.Refusal.{Refusal}
 use Rattle.machine.specs.declared.Reply.{Reply}
 use Rattle.simulator.specs.Replies.{of_judged}
 use Rattle.simulator.proofs.Determined.{judge_determined}
@@ -12,7 +14,7 @@ use Rattle.builder.proofs.Answered.{build_determined}
 use Rattle.bundle.specs.Answers.{Report}
 use Rattle.bundle.specs.Replies.{of_report, totals_left}
 use Rattle.bundle.proofs.Reporting.{bundle_determined}
-use Rattle.reader.specs.declared.ReadGrammar.{ReadGrammar}
+use Rattle.reader.specs.declared.GrammarBytes.{GrammarBytes}
 use Rattle.typed.specs.Replies.{of_read, of_text_recursion, grammar_left}
 use Rattle.typed.proofs.ReadRight.{read_determined}
 use Rattle.typed.proofs.Determined.{build_text_determined, judge_text_determined}
@@ -51,7 +53,7 @@ calls_determined =
       read_grammar =
           λ a g g₁ g₂ r s x y t u.
           let e = read_determined a t.read u.read t.says u.says in
-          (told (ap of_read e) t.tells u.tells, t.left ∙ ap (λ (d : ReadGrammar). grammar_left d g) e ∙ sym u.left);
+          (told (ap of_read e) t.tells u.tells, t.left ∙ ap (λ (d : Result GrammarBytes Refusal). grammar_left d g) e ∙ sym u.left);
       build_text =
           λ a i i₁ i₂ r s x y t u.
           let (e, is) = build_text_determined a i t.built u.built i₁ i₂ t.says u.says in

@@ -1,17 +1,16 @@
 -- Reading, building, judging and testing the verdict, joined: by the C calls, by either choice of a match, and by a text. Assumes nothing.
-use mathlib.Core.Path.{◌≡◌, refl, sym, ap, ◌∙◌}
-use mathlib.Core.Bool.{Bool, true, false, cond}
+use Rattle.std.specs.Prelude.{Result, Ok, Err}
+use mathlib.Core.Path.{◌≡◌, sym, ap, subst, ◌∙◌}
 use mathlib.Core.List.{List, ◌∷◌}
 use mathlib.Core.Logic.{◌↔◌}
 use Prim.Native.Nat.{ℕ}
 use native.Mathlib.Omega.{arith}
-use lib.Dec.{eqb}
 use lib.ListN.{get_or, take, drop}
 use lib.Seq.{take_at, length-take-le}
-use borrow.Author.Tests.{eqb-true, eq-eqb}
+use Rattle.refusal.specs.declared.Refusal.{Refusal}
 use Rattle.codec.specs.Bytes.{Bytes}
 use Rattle.machine.specs.declared.Verdict.{Verdict}
-use Rattle.machine.specs.Replies.{verdict_number, refusal_reply, count_reply}
+use Rattle.machine.specs.Replies.{verdict_number}
 use Rattle.simulator.specs.Answers.{Judged}
 use Rattle.simulator.specs.Replies.{of_judged}
 use Rattle.builder.specs.declared.Matching.{Matching}
@@ -20,24 +19,29 @@ use Rattle.builder.specs.Answers.{Built}
 use Rattle.builder.specs.Replies.{of_built}
 use Rattle.syntax.specs.Reading.{Grammar, ReadSays}
 use Rattle.syntax.proofs.ReadingExact.{unambiguous}
-use Rattle.reader.specs.declared.ReadGrammar.{ReadGrammar}
+use Rattle.reader.specs.declared.GrammarBytes.{GrammarBytes}
+use Rattle.reader.specs.Calls.{ReadTells}
 use Rattle.grammar_judge.specs.Calls.{Lent}
 use Rattle.grammar_judge.specs.TwoCalls.{AsParsed}
 use Rattle.typed.specs.Calls.{BuildTextSays, read, JudgeTextSays, refused, judged}
-use Rattle.typed.specs.Replies.{of_read}
+use Rattle.typed.specs.Replies.{of_read, grammar_left}
 use Rattle.typed.specs.TypedCalls.{TextSays}
-use Rattle.typed.proofs.ReadRight.{lines_read, lines_right, grammar_read, read_fits, text_number}
+use Rattle.typed.proofs.ReadRight.{not_both, lines_read, lines_right, grammar_read, text_refused, text_number, read_determined as one_answer}
 use Rattle.typed.proofs.TypedJudged.{typed_as, parsed_as}
 use Rattle.sejimakpu.specs.Cells.{cells, ReplyWritten}
 use Rattle.sejimakpu.specs.Calls.{BuildTells, ReadGrammarTells}
-use Rattle.promises.specs.Typed.{ReadRight}
+use Rattle.promises.specs.Typed.{ReadDetermined, ReadRight}
 use Rattle.promises.specs.Calls.{TypedTold, BuiltTextTold, TextTold}
 use Rattle.promises.proofs.MatchingTold.{built_there, refused_says, verdict_parsed, told_by, told_parsed}
 
 pub read_right : ReadRight
-read_right text r t z =
-    let l = lines_read (grammar_read text r t z).says in
+read_right text r t =
+    let l = lines_read (grammar_read text r t).says in
     (l.first ∷ l.rest, l.legal, lines_right l)
+
+pub read_determined : ReadDetermined
+read_determined text r s t u =
+    (one_answer text r s t u, λ f e gs read. not_both text gs f (text_refused text f (subst (λ (a : Result GrammarBytes Refusal). ReadTells text a) e t)) read)
 
 -- WHAT A TEXT SAYS is what parsing says of the grammar that was read
 text_says : {how : Matching} {text gs cs : List ℕ} {v : Verdict} → ReadSays text (Grammar gs) → AsParsed how gs cs v → TextSays how text cs v
@@ -60,34 +64,24 @@ by_text s exact =
     (λ a. let (b, p) = exact.0 a in (b, text_says s p), λ (b, t). exact.1 (b, text_parsed s t))
 
 -- A CALL OF READING THAT RETURNS 0 has read the grammar, and counts its bytes
-module _ (r : ReadGrammar) where
-  returns_zero : 0 ≡ (of_read r).refusal → r.refusal.number ≡ 0
-  unfolding of_read
-  returns_zero told = go (eqb r.refusal.number 0) refl told
-    where
-      go :
-          (t : Bool) → eqb r.refusal.number 0 ≡ t → 0 ≡ (cond t (count_reply r.length) (refusal_reply r.refusal)).refusal →
-          r.refusal.number ≡ 0
-      go true e f = eqb-true _ _ e
-      go false e f = sym f
-
-  counts_length : r.refusal.number ≡ 0 → (of_read r).count ≡ r.length
-  unfolding of_read
-  counts_length z = simp (eq-eqb _ _ z)
-
 read_there :
     {text grammar grammar_now answer : List ℕ} → ReadGrammarTells text grammar grammar_now 0 answer →
     ReadSays text (Grammar (take (get_or answer 2 0) grammar_now))
-unfolding cells
-read_there {text} {grammar} {grammar_now} {answer} t =
-    let r : ReadGrammar = t.read in
-    let z = returns_zero r t.tells.number in
-    let long : get_or answer 2 0 ≡ r.length = ap (λ (l : List ℕ). get_or l 2 0) t.tells.written ∙ counts_length r z in
-    let front : take (get_or answer 2 0) grammar_now ≡ take r.length r.bytes =
-    ap (λ (n : ℕ). take n grammar_now) long ∙ ap (take r.length) t.left
-    ∙ take_at (take r.length r.bytes) (drop r.length grammar) r.length (length-take-le r.length r.bytes (read_fits text r t.says).0)
-    in
-    rw front (grammar_read text r t.says z).says
+unfolding of_read cells
+read_there {text} {grammar} {grammar_now} {answer} t = go t.read t.says t.left t.tells
+  where
+    go :
+        (r : Result GrammarBytes Refusal) → ReadTells text r → grammar_now ≡ grammar_left r grammar → ReplyWritten (of_read r) 0 answer →
+        ReadSays text (Grammar (take (get_or answer 2 0) grammar_now))
+    go (Err f) says left w = absurd (omega (arith, text_number (text_refused text f says), w.number))
+    go (Ok g) says left w =
+        let there = grammar_read text g says in
+        let long : get_or answer 2 0 ≡ g.length = ap (λ (l : List ℕ). get_or l 2 0) w.written in
+        let front : take (get_or answer 2 0) grammar_now ≡ take g.length g.bytes =
+        ap (λ (n : ℕ). take n grammar_now) long ∙ ap (take g.length) left
+        ∙ take_at (take g.length g.bytes) (drop g.length grammar) g.length (length-take-le g.length g.bytes there.fits)
+        in
+        rw front there.says
 
 pub typed_told : TypedTold
 typed_told how text grammar grammar_now image image_now capture notes notes_now work work_now returned answered counted answer v bytes reads builds judges =

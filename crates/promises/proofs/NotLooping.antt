@@ -18,7 +18,7 @@ use Rattle.simulator.specs.Answers.{Judged}
 use Rattle.simulator.specs.Calls.{judgement, JudgeSays}
 use Rattle.simulator.proofs.JudgingRight.{looping_exact}
 use Rattle.bundle.specs.declared.Totals.{Totals}
-use Rattle.bundle.specs.declared.Report.TheVariants.{Lines}
+use Rattle.bundle.specs.Answers as answers
 use Rattle.bundle.specs.Format.{offset, long, capture}
 use Rattle.bundle.specs.Report.{sum, gives, totals}
 use Rattle.bundle.specs.Calls.{InOrder, done, next, BundleSays}
@@ -115,7 +115,7 @@ module _ (how : Matching) (gs xs : List ℕ) (none : (recursion_refusal gs).numb
 
 pub bundle_not_looping :
     (how : Matching) (gs xs : List ℕ) (n : ℕ) (t : Totals) (l m a x b y : List ℕ) → (recursion_refusal gs).number ≡ 0 → Bytes xs →
-    BundleSays (built how gs) xs (Lines n t) l m a x b y → t.looping ≡ 0
+    BundleSays (built how gs) xs (answers.lines n t) l m a x b y → t.looping ≡ 0
 unfolding totals
 bundle_not_looping how gs xs n t l m a x b y none bytes says =
     let j = reported (built how gs) xs n t l m a x b y says in

@@ -49,7 +49,7 @@ use Rattle.syntax.proofs.FaultsRight.{faults_right}
 use Rattle.syntax.proofs.ReadingExact.{unambiguous, reading_exact}
 use Rattle.syntax_theory.proofs.TypedRight.{typed_right}
 use Rattle.syntax_theory.proofs.LineRules.{rules_of_lines}
-use Rattle.typed.proofs.ReadRight.{nothing_read, good_read, read_determined}
+use Rattle.typed.proofs.ReadRight.{good_read}
 use Rattle.typed.proofs.Determined.{build_text_determined, build_text_independent, judge_text_determined, judge_text_independent}
 use Rattle.typed.proofs.RecursionDetermined.{text_recursion_determined}
 use Rattle.typed.proofs.TypedJudged.{typed_accepts, typed_stuck, typed_loops, typed_judged}
@@ -75,7 +75,7 @@ use Rattle.recursion_theory.proofs.FirstParts.{no_result, met_loops}
 use Rattle.recursion_theory.proofs.Harmless.{fails_first_harmless, never_reached_harmless}
 use Rattle.promises.specs.Promises.{Promises}
 use Rattle.promises.proofs.MatchingTold.{default_leading, whole_then_leading, judged_whole_leading, built_accepted_told}
-use Rattle.promises.proofs.CallsTold.{read_right, typed_told, built_text_told, text_told}
+use Rattle.promises.proofs.CallsTold.{read_determined, read_right, typed_told, built_text_told, text_told}
 use Rattle.promises.proofs.ChecksTold.{check_told, cells_told, recursion_told}
 use Rattle.promises.proofs.CallsDetermined.{calls_determined}
 use Rattle.promises.proofs.NotLooping.{never_looping, judged_not_looping, line_not_looping, bundle_not_looping}
@@ -169,7 +169,7 @@ promises =
       reading_exact = reading_exact;
       typed_right = typed_right;
       rules_of_lines = rules_of_lines;
-      read_determined = λ text r s t u. (read_determined text r s t u, nothing_read text r t);
+      read_determined = read_determined;
       read_good = good_read;
       read_right = read_right;
       build_text_refuses = build_text_refuses;

@@ -1,5 +1,5 @@
 -- A typed grammar that passes the check for left recursion has a result for every line, and judging by it never says looping; one that does not pass is named; and the numbers that a C caller is told. Assumes nothing.
-use Rattle.std.specs.Prelude.{Ok}
+use Rattle.std.specs.Prelude.{Ok, Err}
 use mathlib.Core.Path.{◌≡◌, refl, sym, ap, subst}
 use mathlib.Core.List.{List, ◌∷◌}
 use mathlib.Core.Logic.{◌↔◌}
@@ -29,11 +29,10 @@ use Rattle.syntax.proofs.ReadingExact.{unambiguous}
 use Rattle.syntax_theory.proofs.Named.{defines_below}
 use Rattle.syntax_theory.proofs.LineRules.{rules_of_lines}
 use Rattle.grammar_judge.specs.Calls.{Lent}
-use Rattle.typed.specs.declared.left_recursion.TextRecursion.{TextRecursion}
-use Rattle.typed.specs.declared.left_recursion.TextRecursion.TheVariants.{Passes, Refused, Recursive}
+use Rattle.typed.specs.declared.left_recursion.RecursionFault.TheVariants.{Refused, Recursive}
 use Rattle.typed.specs.Calls.{JudgeTextSays, refused, judged}
-use Rattle.typed.specs.Recursion.{TextRecursionSays, passes, recursive}
-use Rattle.typed.specs.Replies.{of_text_recursion}
+use Rattle.typed.specs.Recursion.{TextRecursion, TextRecursionSays, passes, recursive}
+use Rattle.typed.specs.Replies.{fault_reply, of_text_recursion}
 use Rattle.typed.proofs.ReadRight.{lines_read, lines_right, rules_needed, one_grammar, text_number}
 use Rattle.typed.proofs.RecursionDetermined.{text_recursion_determined}
 use Rattle.sejimakpu.specs.Cells.{cells, ReplyWritten}
@@ -50,13 +49,13 @@ record Passed (text : List ℕ) : Type 0 where
   read : ReadSays text (Grammar grammar)
   none : (recursion_refusal grammar).number ≡ 0
 
-passed : {text : List ℕ} {r : TextRecursion} → TextRecursionSays text r → r ≡ Passes → Passed text
+passed : {text : List ℕ} {r : TextRecursion} → TextRecursionSays text r → r ≡ Ok tt → Passed text
 passed (TextRecursionSays.unread s) e = clash cc
 passed (passes {gs = gs} s e) is = record { grammar = gs; read = s; none = ap (λ (f : Refusal). f.number) e }
 passed (recursive l s e p x) is = clash cc
 
 pub typed_results :
-    (text cs : List ℕ) (ds : List Definition) (k i : ℕ) (n : List ℕ) (e : Tree) → TextRecursionSays text Passes → LegalText text ds →
+    (text cs : List ℕ) (ds : List Definition) (k i : ℕ) (n : List ℕ) (e : Tree) → TextRecursionSays text (Ok tt) → LegalText text ds →
     Defines ds k n e → (o : Option ℕ) × Means ds cs e i o
 typed_results text cs ds k i n e says legal defined =
     let p = passed says refl in
@@ -70,7 +69,7 @@ typed_results text cs ds k i n e says legal defined =
     (o, subst (λ (es : List Definition). Means es cs e i o) (sym same) ((t.parses k n e there_too cs i o).0 parses))
 
 pub text_not_looping :
-    (text cs : List ℕ) (x y : Lent) (v : Verdict) (n : ℕ) (d : Config) → TextRecursionSays text Passes → Bytes cs →
+    (text cs : List ℕ) (x y : Lent) (v : Verdict) (n : ℕ) (d : Config) → TextRecursionSays text (Ok tt) → Bytes cs →
     JudgeTextSays text cs (Ok (judgement v n d)) x y → v ≡ Looping → ⊥
 text_not_looping text cs x y v n d says bytes told is = go told refl
   where
@@ -96,10 +95,10 @@ record Named (text : List ℕ) (ds : List Definition) (k o : ℕ) : Type 0 where
   at : NameAt text ds line o
   unrefused : (later_refusal text ds).number ≡ 0
 
-named : {text : List ℕ} {ds : List Definition} {k o : ℕ} → TextRecursionSays text (Recursive k o) → LegalText text ds → Named text ds k o
+named : {text : List ℕ} {ds : List Definition} {k o : ℕ} → TextRecursionSays text (Err (Recursive k o)) → LegalText text ds → Named text ds k o
 named {text} {ds} {k} {o} says legal = go says refl
   where
-    go : {r : TextRecursion} → TextRecursionSays text r → r ≡ Recursive k o → Named text ds k o
+    go : {r : TextRecursion} → TextRecursionSays text r → r ≡ Err (Recursive k o) → Named text ds k o
     go (TextRecursionSays.unread s) e = clash cc
     go (passes s e) is = clash cc
     go (recursive {ds = es} {k = j} {line = line} {offset = a} l s e p x) is =
@@ -127,13 +126,13 @@ recursion_line text ds k o says legal =
     (n.line, n.at, helpers, are, (exactly k).0 n.of_rule)
 
 -- WHAT A C CALLER IS TOLD: 0, 19, or the text's own number, which is neither
-unread_so : {text : List ℕ} {r : TextRecursion} {f : Refusal} → TextRecursionSays text r → r ≡ Refused f → ReadSays text (Unread f)
+unread_so : {text : List ℕ} {r : TextRecursion} {f : Refusal} → TextRecursionSays text r → r ≡ Err (Refused f) → ReadSays text (Unread f)
 unread_so {text} {f = f} (TextRecursionSays.unread {f = g} s) e = let same : g ≡ f = cc in subst (λ (h : Refusal). ReadSays text (Unread h)) same s
 unread_so (passes s h) e = clash cc
 unread_so (recursive l s h p x) e = clash cc
 
 pub text_recursion_told : TextRecursionTold
-unfolding of_text_recursion cells
+unfolding of_text_recursion fault_reply cells
 text_recursion_told text returned answer t = go t.checked t.says t.tells
   where
     only : {q r : TextRecursion} → TextRecursionSays text q → TextRecursionSays text r → q ≡ r
@@ -141,22 +140,22 @@ text_recursion_told text returned answer t = go t.checked t.says t.tells
 
     go :
         (r : TextRecursion) → TextRecursionSays text r → ReplyWritten (of_text_recursion r) returned answer →
-        ((returned ≡ 0) ↔ TextRecursionSays text Passes)
-        × ((returned ≡ 19) ↔ TextRecursionSays text (Recursive (get_or answer 0 0) (get_or answer 2 0)))
+        ((returned ≡ 0) ↔ TextRecursionSays text (Ok tt))
+        × ((returned ≡ 19) ↔ TextRecursionSays text (Err (Recursive (get_or answer 0 0) (get_or answer 2 0))))
         × ((returned ≡ 0 → ⊥) → (returned ≡ 19 → ⊥) → ReadSays text (Unread (refusal returned (get_or answer 0 0))))
-    go Passes s w = (
+    go (Ok tt) s w = (
       (λ z. s, λ p. w.number),
       (λ e. absurd (omega (arith, w.number, e)), λ q. let same = only s q in clash cc),
       λ some other. absurd (some w.number),
     )
-    go (Refused f) s w =
+    go (Err (Refused f)) s w =
         let read = unread_so s refl in
         let place : get_or answer 0 0 ≡ f.place = ap (λ (l : List ℕ). get_or l 0 0) w.written in (
           (λ z. absurd (omega (arith, text_number read, w.number, z)), λ p. let same = only s p in clash cc),
           (λ e. absurd (omega (arith, text_number read, w.number, e)), λ q. let same = only s q in clash cc),
           λ some other. rw (w.number, place) read,
         )
-    go (Recursive k o) s w =
+    go (Err (Recursive k o)) s w =
         let place : get_or answer 0 0 ≡ k = ap (λ (l : List ℕ). get_or l 0 0) w.written in
         let count : get_or answer 2 0 ≡ o = ap (λ (l : List ℕ). get_or l 2 0) w.written in (
           (λ z. absurd (omega (arith, w.number, z)), λ p. let same = only s p in clash cc),

@@ -108,7 +108,7 @@ accepted_by bs cs notes notes_now work work_now (Ok j) says e =
     (refl, accepted_said (machine bs cs) j right.judgement (only_accepted j.verdict e) right.answers right.right.says)
   where
     accepted_said :
-        (M : Machine) (j k : Judgement) → j.verdict ≡ Accepted → Ok j ≡ Ok k → Says M k.verdict k.end →
+        (M : Machine) (j k : Judgement) → j.verdict ≡ Accepted → ◌≡◌ {A = Judged} (Ok j) (Ok k) → Says M k.verdict k.end →
         Says M Accepted j.end
     accepted_said M j k p q s =
         let same : k ≡ j = cc in

@@ -1,5 +1,5 @@
 -- FROM WHAT A PERSON TYPES TO WHAT THE C CALLS TELL: reading a text, building, judging and testing the answer's verdict, joined; each check's number and place are those of its row; and what a call returns and leaves follows from what it is given. Assumes nothing: each claim is a type, and proofs/ has its proof.
-use Rattle.std.specs.Prelude.{◌≡◌, List, ◌↔◌, ℕ, ◌≤◌, length, get_or, take}
+use Rattle.std.specs.Prelude.{◌≡◌, List, ◌↔◌, ℕ, ◌≤◌, length, get_or, take, Ok, Err}
 use Rattle.codec.specs.Bytes.{Bytes}
 use Rattle.refusal.specs.First.{refusal}
 use Rattle.machine.specs.declared.Verdict.{Verdict}
@@ -13,7 +13,7 @@ use Rattle.builder.specs.declared.Matching.{Matching}
 use Rattle.builder.specs.declared.Matching.TheVariants.{Whole}
 use Rattle.syntax.specs.Reading.{Refused as Unread, ReadSays}
 use Rattle.grammar_judge.specs.Calls.{Lent}
-use Rattle.typed.specs.declared.left_recursion.TextRecursion.TheVariants.{Passes, Recursive}
+use Rattle.typed.specs.declared.left_recursion.RecursionFault.TheVariants.{Recursive}
 use Rattle.typed.specs.Recursion.{TextRecursionSays}
 use Rattle.typed.specs.TypedCalls.{TextSays}
 use Rattle.sejimakpu.specs.Calls.{CheckTells, CellsTells, JudgeTells, RunTells, BuildTells, CheckRecursionTells, CheckTextRecursionTells, ReadGrammarTells, BuildTextTells, JudgeTextTells, JudgeBundleTells}
@@ -64,8 +64,8 @@ RecursionTold =
 abbrev pub TextRecursionTold : Type 0
 TextRecursionTold =
     (text : List ℕ) (returned : ℕ) (answer : List ℕ) → CheckTextRecursionTells text returned answer →
-    ((returned ≡ 0) ↔ TextRecursionSays text Passes)
-    × ((returned ≡ 19) ↔ TextRecursionSays text (Recursive (get_or answer 0 0) (get_or answer 2 0)))
+    ((returned ≡ 0) ↔ TextRecursionSays text (Ok tt))
+    × ((returned ≡ 19) ↔ TextRecursionSays text (Err (Recursive (get_or answer 0 0) (get_or answer 2 0))))
     × ((returned ≡ 0 → ⊥) → (returned ≡ 19 → ⊥) → ReadSays text (Unread (refusal returned (get_or answer 0 0))))
 
 -- WHAT A CALL RETURNS AND LEAVES FOLLOWS FROM WHAT IT IS GIVEN: the number returned, the answer's cells and every lent one, of each function of the archive

@@ -1,5 +1,5 @@
 -- LEFT RECURSION FOUND BEFORE THE SHIFT: the check answers 19 with the lowest rule that leads back to itself, after 11 and 12, and a user whose grammar passes never meets the verdict looping, on any capture. Assumes nothing: each claim is a type, and proofs/ has its proof.
-use Rattle.std.specs.Prelude.{◌≡◌, Bool, true, ◌↔◌, ℕ, ◌<◌, length, Ok}
+use Rattle.std.specs.Prelude.{◌≡◌, Bool, true, ◌↔◌, ℕ, ◌<◌, length, Ok, Err}
 use mathlib.Core.List.{List, ◌∷◌, Memᴰ}
 use Rattle.std.proofs.Math.Option.{Option, some}
 use Rattle.codec.specs.Bytes.{Bytes}
@@ -28,10 +28,9 @@ use Rattle.syntax_theory.specs.Meaning.{Means}
 use Rattle.syntax_theory.specs.RuleOf.{LineRules}
 use Rattle.syntax.specs.Compile.{grammar_of}
 use Rattle.syntax.specs.RuleLines.{NameAt}
-use Rattle.typed.specs.declared.left_recursion.TextRecursion.{TextRecursion}
-use Rattle.typed.specs.declared.left_recursion.TextRecursion.TheVariants.{Passes, Recursive}
+use Rattle.typed.specs.declared.left_recursion.RecursionFault.TheVariants.{Recursive}
 use Rattle.typed.specs.Calls.{JudgeTextSays}
-use Rattle.typed.specs.Recursion.{TextRecursionSays}
+use Rattle.typed.specs.Recursion.{TextRecursion, TextRecursionSays}
 use Rattle.answer_line.specs.Line.{answer_line}
 use Rattle.answer.specs.Input.{input_grammar}
 use Rattle.answer.specs.Calls.{answer_refusal, InputSays}
@@ -90,26 +89,26 @@ TextRecursionDetermined =
 -- a rule that has a name is named by it: at the offset the rule's own line begins, and the line's name stands there,
 abbrev pub RecursionNamed : Type 0
 RecursionNamed =
-    (text : List ℕ) (ds : List Definition) (k o : ℕ) → TextRecursionSays text (Recursive k o) → LegalText text ds → k < length ds →
+    (text : List ℕ) (ds : List Definition) (k o : ℕ) → TextRecursionSays text (Err (Recursive k o)) → LegalText text ds → k < length ds →
     NameAt text ds k o
 
 -- any rule by the line that it was made for, itself or as a helper,
 abbrev pub RecursionLine : Type 0
 RecursionLine =
-    (text : List ℕ) (ds : List Definition) (k o : ℕ) → TextRecursionSays text (Recursive k o) → LegalText text ds →
+    (text : List ℕ) (ds : List Definition) (k o : ℕ) → TextRecursionSays text (Err (Recursive k o)) → LegalText text ds →
     (line : ℕ) × (at : NameAt text ds line o) × (helpers : List ℕ) × LineRules (expression (grammar_of ds)) ds at.body line helpers
     × Memᴰ k (line ∷ helpers)
 
 -- in a text that passes the expression of every line has a result, at every place of every capture,
 abbrev pub TypedResults : Type 0
 TypedResults =
-    (text cs : List ℕ) (ds : List Definition) (k i : ℕ) (n : List ℕ) (e : Tree) → TextRecursionSays text Passes → LegalText text ds →
+    (text cs : List ℕ) (ds : List Definition) (k i : ℕ) (n : List ℕ) (e : Tree) → TextRecursionSays text (Ok tt) → LegalText text ds →
     Defines ds k n e → (o : Option ℕ) × Means ds cs e i o
 
 -- and judging by it never says looping
 abbrev pub TextNotLooping : Type 0
 TextNotLooping =
-    (text cs : List ℕ) (x y : Lent) (v : Verdict) (n : ℕ) (d : Config) → TextRecursionSays text Passes → Bytes cs →
+    (text cs : List ℕ) (x y : Lent) (v : Verdict) (n : ℕ) (d : Config) → TextRecursionSays text (Ok tt) → Bytes cs →
     JudgeTextSays text cs (Ok (judgement v n d)) x y → v ≡ Looping → ⊥
 
 -- THE OTHER WAY ROUND, as far as it is true: a rule that leads back to itself by what is tried first alone has no result, at any place of any capture,

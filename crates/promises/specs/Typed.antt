@@ -1,5 +1,5 @@
 -- GRAMMARS AS TEXT: the earliest fault is computed, a text has one reading, the grammar read is right, and a capture judged by it is judged as the typed grammar says. Assumes nothing: each claim is a type, and proofs/ has its proof.
-use Rattle.std.specs.Prelude.{◌≡◌, ◌↔◌, ℕ, ◌*◌, ◌≤◌, length, take, replicate}
+use Rattle.std.specs.Prelude.{◌≡◌, ◌↔◌, ℕ, ◌≤◌, length, take, Result, Ok, Err}
 use mathlib.Core.List.{List, ◌∷◌, Memᴰ}
 use Rattle.std.proofs.Math.Option.{Option, some}
 use Rattle.refusal.specs.declared.Refusal.{Refusal}
@@ -12,7 +12,7 @@ use Rattle.image.specs.Format.{max_capture}
 use Rattle.image.specs.Image.{machine}
 use Rattle.simulator.specs.Answers.{Judged}
 use Rattle.simulator.specs.Replies.{of_judged}
-use Rattle.grammar.specs.Grammar.{max_rules, expression}
+use Rattle.grammar.specs.Grammar.{expression}
 use Rattle.builder.specs.declared.Matching.TheVariants.{Whole}
 use Rattle.builder.specs.Answers.{Built}
 use Rattle.builder.specs.Image.{built, built_length}
@@ -28,7 +28,7 @@ use Rattle.syntax.specs.Compile.{grammar_of}
 use Rattle.syntax.specs.RuleLines.{LineOfRule}
 use Rattle.syntax_theory.specs.RuleOf.{LineRules, TypedRight}
 use Rattle.syntax.specs.Reading.{Reading, Grammar, ReadSays}
-use Rattle.reader.specs.declared.ReadGrammar.{ReadGrammar}
+use Rattle.reader.specs.declared.GrammarBytes.{GrammarBytes}
 use Rattle.reader.specs.Calls.{ReadTells}
 use Rattle.grammar_judge.specs.Calls.{Lent, lent_refusal, SameRoom, SameCells}
 use Rattle.typed.specs.Calls.{BuildTextSays, JudgeTextSays, BuildTextRefused, JudgeTextRefused}
@@ -65,18 +65,18 @@ RulesOfLines =
 -- THE CALL `read`: what it answers follows from the text, and a refused text has no grammar
 abbrev pub ReadDetermined : Type 0
 ReadDetermined =
-    (text : List ℕ) (r s : ReadGrammar) → ReadTells text r → ReadTells text s →
-    (r ≡ s) × ((r.refusal.number ≡ 0 → ⊥) → (r.length ≡ 0) × (r.bytes ≡ replicate (4 * max_rules) 0))
+    (text : List ℕ) (r s : Result GrammarBytes Refusal) → ReadTells text r → ReadTells text s →
+    (r ≡ s) × ((f : Refusal) → r ≡ Err f → (gs : List ℕ) → ReadSays text (Grammar gs) → ⊥)
 
 -- a grammar that was read is never refused by 11 or 12, and has as many rules as the lines need
 abbrev pub ReadGood : Type 0
 ReadGood =
-    (text : List ℕ) (r : ReadGrammar) → ReadTells text r → r.refusal.number ≡ 0 → TypedGrammar text (take r.length r.bytes)
+    (text : List ℕ) (r : GrammarBytes) → ReadTells text (Ok r) → TypedGrammar text (take r.length r.bytes)
 
 -- it is that of the text: every line's rule parses as the line's tree means
 abbrev pub ReadRight : Type 0
 ReadRight =
-    (text : List ℕ) (r : ReadGrammar) → ReadTells text r → r.refusal.number ≡ 0 →
+    (text : List ℕ) (r : GrammarBytes) → ReadTells text (Ok r) →
     (ds : List Definition) × LegalText text ds × TypedRight ds (take r.length r.bytes)
 
 -- A REFUSED CALL TELLS NUMBER AND PLACE AND NO VERDICT, AND CHANGES NO LENT CELL

@@ -14,7 +14,7 @@ use Rattle.image.specs.Image.{machine, states, symbols}
 use Rattle.image.specs.Refusals.{image_refusal}
 use Rattle.simulator.specs.Answers.{Judged}
 use Rattle.simulator.specs.Calls.{judgement, JudgeSays}
-use Rattle.bundle.specs.declared.Report.TheVariants.{Lines}
+use Rattle.bundle.specs.Answers as answers
 use Rattle.bundle.specs.Format.{count, pair_place, offset, long, end, capture, pairs_from, bundle_refusal, call_refusal}
 use Rattle.bundle.specs.Report.{lines_cells, totals}
 use Rattle.bundle.specs.Calls.{InOrder, done, next, BundleAs, BundleSays}
@@ -56,7 +56,7 @@ one_ordered bs r a x b y says =
 
 pub one_says :
     (bs : List ℕ) (r : Judged) (l a x b y : List ℕ) → (image_refusal bs).number ≡ 0 → JudgeSays bs [] r a x b y →
-    BundleSays bs one_empty (Lines 1 (totals (r ∷ []))) l (lines_cells (r ∷ []) ++ drop 7 l) a x b y
+    BundleSays bs one_empty (answers.lines 1 (totals (r ∷ []))) l (lines_cells (r ∷ []) ++ drop 7 l) a x b y
 unfolding BundleSays BundleAs
 one_says bs r l a x b y good says =
     rw
@@ -89,7 +89,7 @@ pub record Reported (l a b : List ℕ) : Type 0 where
   pub a_now : List ℕ
   pub b_now : List ℕ
   pub judged : JudgeSays popping_image [] c10_answer a a_now b b_now
-  pub says : BundleSays popping_image one_empty (Lines 1 (totals (c10_answer ∷ []))) l (lines_cells (c10_answer ∷ []) ++ drop 7 l) a a_now b b_now
+  pub says : BundleSays popping_image one_empty (answers.lines 1 (totals (c10_answer ∷ []))) l (lines_cells (c10_answer ∷ []) ++ drop 7 l) a a_now b b_now
 
 pub reported : (l a b : List ℕ) → 2 ≤ length a → 2 ≤ length b → Reported l a b
 unfolding image_of row_machine
@@ -104,5 +104,5 @@ refused_judged b = rw two_cells at (few_notes_judged popping_image [] [] b c10_h
 
 pub refused_says :
     (l b : List ℕ) →
-    BundleSays popping_image one_empty (Lines 1 (totals (c10_refused ∷ []))) l (lines_cells (c10_refused ∷ []) ++ drop 7 l) [] [] b b
+    BundleSays popping_image one_empty (answers.lines 1 (totals (c10_refused ∷ []))) l (lines_cells (c10_refused ∷ []) ++ drop 7 l) [] [] b b
 refused_says l b = one_says popping_image c10_refused l [] [] b b popping_good (refused_judged b)

@@ -1,4 +1,5 @@
 -- The wrong neighbours of Calls.antt refuted: each by a closed call beside the promise. Assumes nothing.
+use Rattle.std.specs.Prelude.{Err}
 use mathlib.Core.Path.{◌≡◌, refl, sym, ap, subst, ◌∙◌}
 use mathlib.Core.List.{List, [], ◌∷◌}
 use mathlib.Core.Option.{Option, none, some}
@@ -16,7 +17,8 @@ use Rattle.syntax.specs.declared.Leaf.TheVariants.{EmptyString}
 use Rattle.syntax.specs.Trees.{Tree, leaf, Definition, LegalText}
 use Rattle.syntax_theory.specs.Meaning.{Means, nothing}
 use Rattle.grammar_judge.specs.Calls.{Lent}
-use Rattle.typed.specs.declared.left_recursion.TextRecursion.TheVariants.{Recursive}
+use Rattle.typed.specs.declared.left_recursion.RecursionFault.TheVariants.{Recursive}
+use Rattle.typed.specs.Recursion.{TextRecursion}
 use Rattle.typed.specs.TypedCalls.{TextSays}
 use Rattle.recursion_theory.specs.Harmless.{never_reached}
 use Rattle.worked_examples.specs.Examples.{empty_grammar}
@@ -102,7 +104,7 @@ recursion_told wrong =
 pub text_recursion_told : Wrong.TextRecursionTold → ⊥
 text_recursion_told wrong =
     let exchanged = (wrong endless_text 19 _ endless_told).1.0 refl in
-    let bad : Recursive 0 1 ≡ Recursive 1 0 = promises.text_recursion_determined endless_text _ _ endless_recursive exchanged in
+    let bad : ◌≡◌ {A = TextRecursion} (Err (Recursive 0 1)) (Err (Recursive 1 0)) = promises.text_recursion_determined endless_text _ _ endless_recursive exchanged in
     clash cc
 
 -- WHAT EACH CALL IS DETERMINED BY, call by call

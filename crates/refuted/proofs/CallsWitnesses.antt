@@ -30,7 +30,7 @@ use Rattle.builder.specs.Image.{built}
 use Rattle.builder.specs.Replies.{of_built}
 use Rattle.syntax.specs.Reading.{Grammar}
 use Rattle.reader.specs.Calls.{grammar_answer}
-use Rattle.typed.specs.Replies.{of_read, of_text_recursion}
+use Rattle.typed.specs.Replies.{of_read, fault_reply, of_text_recursion}
 use Rattle.sejimakpu.specs.Cells.{cells}
 use Rattle.sejimakpu.specs.Calls.{CheckTells, CellsTells, JudgeTells, RunTells, BuildTells, CheckRecursionTells, CheckTextRecursionTells, ReadGrammarTells, BuildTextTells, JudgeTextTells, JudgeBundleTells}
 use Rattle.worked_examples.specs.Examples.{empty_grammar}
@@ -148,7 +148,7 @@ judge_text_told = record { judged = _; says = c1_by_text.says; tells = record { 
 
 -- THE TEXT a=a a; after a space: 19, at rule 0, whose name stands at 1
 pub endless_told : CheckTextRecursionTells endless_text 19 (count_cells 1)
-unfolding of_text_recursion cells
+unfolding of_text_recursion fault_reply cells
 endless_told = record { checked = _; says = endless_recursive; tells = record { number = refl; written = refl } }
 
 -- A GRAMMAR whose rule 1 leads back to itself: 19, at rule 1

@@ -1,5 +1,6 @@
 -- The wrong neighbours of FirstDemand.antt refuted: each by a closed example beside the promise. Assumes nothing.
 use mathlib.Core.Path.{◌≡◌, refl, sym, ap, ◌∙◌}
+use mathlib.Core.Bool.{true}
 use mathlib.Core.List.{List, [], ◌∷◌}
 use Prim.Native.Nat.{ℕ, suc}
 use native.Mathlib.Omega.{arith}
@@ -8,6 +9,11 @@ use lib.Seq.{get_or-take, get_or-drop}
 use Rattle.refusal.specs.declared.Refusal.{Refusal}
 use Rattle.refusal.specs.First.{refusal, or_else, refuse_if}
 use Rattle.codec.specs.Numbers.{number_at, little_endian, pair_bytes}
+use Rattle.machine.specs.declared.Termination.TheVariants.{Over}
+use Rattle.machine.specs.Run.{config}
+use Rattle.interpreter.specs.declared.Exit.TheVariants.{Terminated, Spent}
+use Rattle.interpreter.specs.declared.RunEnd.{RunEnd}
+use Rattle.interpreter.specs.PlainRun.{run_end}
 use Rattle.grammar.specs.Grammar.{rules, kind_of, b_of, c_of, rule_right, grammar_rules_from, grammar_refusal}
 use Rattle.builder.specs.declared.Matching.TheVariants.{Whole, Leading}
 use Rattle.grammar_judge.specs.Calls.{Lent, lent, SameRoom}
@@ -136,8 +142,8 @@ judge_determined wrong =
 pub run_determined : Wrong.RunDetermined → ⊥
 run_determined wrong =
     let bad = (wrong SmallCalls.c1_bytes [] _ 3 2 _ _ _ _ (SmallCalls.c1_ran 3 0 0 SmallCalls.c1_accepted) (SmallCalls.c1_ran 2 0 0 SmallCalls.c1_spent)).0 in
-    let z : ◌≡◌ {A = ℕ} 3 2 = cc in
-    omega arith
+    let same : run_end (Terminated (Over true)) 3 (config 2 1 0) ≡ run_end Spent 2 (config 2 1 0) = cc in
+    omega (arith, ap (λ (e : RunEnd). e.steps) same)
 
 pub build_determined : Wrong.BuildDetermined → ⊥
 build_determined wrong =

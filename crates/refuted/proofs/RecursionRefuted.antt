@@ -32,7 +32,7 @@ use Rattle.syntax.specs.Tokens as Tokens
 use Rattle.syntax.specs.RuleLines.{line_offsets}
 use Rattle.syntax.specs.Trees.{Tree, Definition, Defines, here, there}
 use Rattle.syntax.specs.Compile.{grammar_of}
-use Rattle.typed.specs.declared.left_recursion.TextRecursion.TheVariants.{Recursive}
+use Rattle.typed.specs.declared.left_recursion.RecursionFault.TheVariants.{Recursive}
 use Rattle.answer_line.specs.Line.{verdict_word, answer_line}
 use Rattle.answer.specs.Input.{input_grammar}
 use Rattle.worked_examples.specs.ProgramLine.{endless_input}

@@ -1,5 +1,5 @@
 -- Texts that are read as the grammars of examples, and judging by them. Assumes nothing.
-use Rattle.std.specs.Prelude.{Ok}
+use Rattle.std.specs.Prelude.{Ok, Err}
 use mathlib.Core.Path.{◌≡◌, refl}
 use mathlib.Core.List.Memᴰ
 use mathlib.Core.List.{List, [], ◌∷◌, ◌++◌}
@@ -32,7 +32,7 @@ use Rattle.syntax.specs.Reading.{Grammar, ReadSays, read}
 use Rattle.syntax.specs.RuleLines.{line_offsets, own}
 use Rattle.grammar_judge.specs.Calls.{Lent, lent, parts_refusal, lent_refusal}
 use Rattle.typed.specs.Calls.{JudgeTextSays, judged}
-use Rattle.typed.specs.declared.left_recursion.TextRecursion.TheVariants.{Recursive}
+use Rattle.typed.specs.declared.left_recursion.RecursionFault.TheVariants.{Recursive}
 use Rattle.typed.specs.Recursion.{TextRecursionSays, recursive}
 use Rattle.worked_examples.specs.Examples.{row, from_grammar, RowHolds, image_of, row_machine, source_refusal, empty_grammar, byte_grammar, endless_grammar}
 use Rattle.refuted.proofs.Witnesses.{row_judged}
@@ -149,7 +149,7 @@ text_judged_in_room text gs cs v n d s reads holds =
     let (image, cells) = room_enough gs cs in text_judged text gs cs v n d s (room gs cs) reads holds image cells cells
 
 -- THE CHECK FOR LEFT RECURSION finds rule 0, whose name stands at offset 1
-pub endless_recursive : TextRecursionSays endless_text (Recursive 0 1)
+pub endless_recursive : TextRecursionSays endless_text (Err (Recursive 0 1))
 unfolding recursion_refusal recursion_from leads_on leads_through leads_by nothing_after nothing_by
     rules kind_of b_of c_of expression_by expression rule_right grammar_rules_from grammar_refusal or_else
     line_offsets Tokens.ends_line Tokens.lexemes Tokens.lexemes_from Tokens.skipped Tokens.token_at Tokens.letter Tokens.word Tokens.same Tokens.letters Tokens.width_at

@@ -1,5 +1,5 @@
 -- The wrong neighbours of Typed.antt refuted: each by a closed example beside the promise. Assumes nothing.
-use Rattle.std.specs.Prelude.{Err, Ok}
+use Rattle.std.specs.Prelude.{Result, Err, Ok}
 use mathlib.Core.Path.{◌≡◌, refl, sym, ap, subst, ◌∙◌}
 use mathlib.Core.List.Memᴰ
 use mathlib.Core.List.{List, [], ◌∷◌, ◌++◌, Memᴰ}
@@ -37,7 +37,7 @@ use Rattle.syntax.specs.Compile as Compile
 use Rattle.syntax.specs.RuleLines.{own}
 use Rattle.syntax_theory.specs.RuleOf.{RuleOf, LineRules, own_line, bare_line}
 use Rattle.syntax.specs.Reading.{Refused, Grammar, ReadSays, at_fault}
-use Rattle.reader.specs.declared.ReadGrammar.{ReadGrammar}
+use Rattle.reader.specs.declared.GrammarBytes.{GrammarBytes}
 use Rattle.reader.specs.Calls.{grammar_answer, ReadTells}
 use Rattle.grammar_judge.specs.Calls.{Lent, lent, parts_refusal, lent_refusal}
 use Rattle.typed.specs.TypedCalls.{EnoughLent}
@@ -98,11 +98,11 @@ empty_tells = record { reading = _; says = empty_read; told = refl }
 
 pub read_determined : Wrong.ReadDetermined → ⊥
 unfolding grammar_answer
-read_determined wrong = omega (arith, ((wrong empty_text _ _ empty_tells empty_tells).1 refl).0)
+read_determined wrong = omega (arith, ((wrong empty_text _ _ empty_tells empty_tells).1 _ refl).0)
 
 pub read_good : Wrong.ReadGood → ⊥
 unfolding grammar_answer rules kind_of b_of c_of rule_right grammar_rules_from grammar_refusal
-read_good wrong = omega (arith, (wrong empty_text _ empty_tells refl).good)
+read_good wrong = omega (arith, (wrong empty_text _ empty_tells).good)
 
 -- BUILDING. The image of a=empty; is C1's
 pub empty_built : (a : List ℕ) → 468 ≤ length a → BuildTextSays empty_text (Ok 468) a (c1_left Whole a)
@@ -245,4 +245,6 @@ text_examples wrong =
     let tells : ReadTells (bytes_of "a=b;c") (grammar_answer reading) = record { reading = _; says = says; told = refl } in
     let at_end = first (rows_from 9 refused_table promises.text_examples.1) _ tells in
     let at_name = first (rows_from 9 _ wrong.1) _ tells in
-    omega (arith, ap (λ (r : ReadGrammar). r.refusal.place) (sym at_end ∙ at_name))
+    let bad : ◌≡◌ {A = Result GrammarBytes Refusal} (Err (refusal 15 5)) (Err (refusal 15 2)) = sym at_end ∙ at_name in
+    let same : refusal 15 5 ≡ refusal 15 2 = cc in
+    omega (arith, ap (λ (f : Refusal). f.place) same)

@@ -1,5 +1,5 @@
 -- Wrong neighbours of the promises of Recursion.antt, each under its promise's name, with what is wrong in it. Assumes nothing: each is a type, and proofs/ has a proof that nothing is of it.
-use Rattle.std.specs.Prelude.{◌≡◌, Bool, true, ◌↔◌, ℕ, suc, ◌*◌, ◌<◌, length, Ok}
+use Rattle.std.specs.Prelude.{◌≡◌, Bool, true, ◌↔◌, ℕ, suc, ◌*◌, ◌<◌, length, Ok, Err}
 use mathlib.Core.List.{List, [], ◌∷◌, Memᴰ}
 use Rattle.std.proofs.Math.Option.{Option, some}
 use Rattle.codec.specs.Bytes.{Bytes}
@@ -28,7 +28,7 @@ use Rattle.syntax.specs.RuleLines.{NameAt}
 use Rattle.syntax_theory.specs.Meaning.{Means}
 use Rattle.syntax_theory.specs.RuleOf.{LineRules}
 use Rattle.syntax.specs.Compile.{grammar_of}
-use Rattle.typed.specs.declared.left_recursion.TextRecursion.TheVariants.{Recursive}
+use Rattle.typed.specs.declared.left_recursion.RecursionFault.TheVariants.{Recursive}
 use Rattle.typed.specs.Calls.{JudgeTextSays}
 use Rattle.typed.specs.Recursion.{TextRecursionSays}
 use Rattle.answer_line.specs.Line.{answer_line}
@@ -85,13 +85,13 @@ BundleNotLooping =
 -- rule and offset swapped
 abbrev pub TextRecursionDetermined : Type 0
 TextRecursionDetermined =
-    (text : List ℕ) (k o l p : ℕ) → TextRecursionSays text (Recursive k o) → TextRecursionSays text (Recursive l p) →
+    (text : List ℕ) (k o l p : ℕ) → TextRecursionSays text (Err (Recursive k o)) → TextRecursionSays text (Err (Recursive l p)) →
     Recursive k o ≡ Recursive p l
 
 -- the line begins at the rule's number, not at the offset
 abbrev pub RecursionNamed : Type 0
 RecursionNamed =
-    (text : List ℕ) (ds : List Definition) (k o : ℕ) → TextRecursionSays text (Recursive k o) → LegalText text ds → k < length ds →
+    (text : List ℕ) (ds : List Definition) (k o : ℕ) → TextRecursionSays text (Err (Recursive k o)) → LegalText text ds → k < length ds →
     NameAt text ds k k
 
 -- the lines of every legal text: the premise that it passes is dropped
@@ -129,6 +129,6 @@ RecursionExamples =
 -- the line begins at the rule's number, not at the offset
 abbrev pub RecursionLine : Type 0
 RecursionLine =
-    (text : List ℕ) (ds : List Definition) (k o : ℕ) → TextRecursionSays text (Recursive k o) → LegalText text ds →
+    (text : List ℕ) (ds : List Definition) (k o : ℕ) → TextRecursionSays text (Err (Recursive k o)) → LegalText text ds →
     (line : ℕ) × (at : NameAt text ds line k) × (helpers : List ℕ) × LineRules (expression (grammar_of ds)) ds at.body line helpers
     × Memᴰ k (line ∷ helpers)

@@ -1,5 +1,5 @@
 -- Wrong neighbours of the promises of Typed.antt, each under its promise's name, with what is wrong in it. Assumes nothing: each is a type, and proofs/ has a proof that nothing is of it.
-use Rattle.std.specs.Prelude.{◌≡◌, ◌↔◌, ℕ, suc, ◌*◌, ◌≤◌, length, take, drop, replicate}
+use Rattle.std.specs.Prelude.{◌≡◌, ◌↔◌, ℕ, suc, ◌*◌, ◌≤◌, length, take, drop, replicate, Result, Ok}
 use mathlib.Core.List.{List, [], ◌∷◌, ◌++◌, Memᴰ}
 use Rattle.std.proofs.Math.Option.{Option, none, some}
 use Rattle.refusal.specs.declared.Refusal.{Refusal}
@@ -29,7 +29,7 @@ use Rattle.syntax.specs.Compile.{grammar_of}
 use Rattle.syntax.specs.RuleLines.{LineOfRule}
 use Rattle.syntax_theory.specs.RuleOf.{LineRules, TypedRight}
 use Rattle.syntax.specs.Reading.{Reading, Refused, Grammar, ReadSays}
-use Rattle.reader.specs.declared.ReadGrammar.{ReadGrammar}
+use Rattle.reader.specs.declared.GrammarBytes.{GrammarBytes}
 use Rattle.reader.specs.Calls.{ReadTells}
 use Rattle.grammar_judge.specs.Calls.{Lent, lent, lent_refusal, SameCells}
 use Rattle.typed.specs.Calls.{BuildTextSays, JudgeTextSays, BuildTextRefused, JudgeTextRefused}
@@ -58,12 +58,12 @@ TypedParses = (text : List ℕ) (ds : List Definition) → LegalText text ds →
 -- a text that is read has no grammar, where one that is refused has none
 abbrev pub ReadDetermined : Type 0
 ReadDetermined =
-    (text : List ℕ) (r s : ReadGrammar) → ReadTells text r → ReadTells text s →
-    (r ≡ s) × (r.refusal.number ≡ 0 → (r.length ≡ 0) × (r.bytes ≡ replicate (4 * max_rules) 0))
+    (text : List ℕ) (r s : Result GrammarBytes Refusal) → ReadTells text r → ReadTells text s →
+    (r ≡ s) × ((g : GrammarBytes) → r ≡ Ok g → (g.length ≡ 0) × (g.bytes ≡ replicate (4 * max_rules) 0))
 
 -- the zero bytes behind the grammar are taken for rules
 abbrev pub ReadGood : Type 0
-ReadGood = (text : List ℕ) (r : ReadGrammar) → ReadTells text r → r.refusal.number ≡ 0 → TypedGrammar text r.bytes
+ReadGood = (text : List ℕ) (r : GrammarBytes) → ReadTells text (Ok r) → TypedGrammar text r.bytes
 
 -- the room taken for one byte less than it is: a buffer that just holds the image is refused
 abbrev pub BuildTextRefuses : Type 0
@@ -125,11 +125,11 @@ TypedLoops =
 abbrev pub TypedJudged : Type 0
 TypedJudged = (text cs : List ℕ) (r : Judged) (x y : Lent) → EnoughLent text [] x → Bytes cs → JudgeTextSays text cs r x y → TypedGets text cs r
 
--- of a text that is refused too: the premise that it is read is dropped
+-- of a text that is refused too: the premise that it is read is dropped, but for what its rules are
 abbrev pub ReadRight : Type 0
 ReadRight =
-    (text : List ℕ) (r : ReadGrammar) → ReadTells text r →
-    (ds : List Definition) × LegalText text ds × TypedRight ds (take r.length r.bytes)
+    (text : List ℕ) (r : Result GrammarBytes Refusal) → ReadTells text r →
+    (ds : List Definition) × LegalText text ds × ((g : GrammarBytes) → r ≡ Ok g → TypedRight ds (take g.length g.bytes))
 
 -- the line's own rule is left out
 abbrev pub RulesOfLines : Type 0

@@ -2,23 +2,16 @@
 ghost use Rattle.std.specs.Prelude.{◌≡◌, not, ◌&&◌, ◌||◌, ◌+◌, ◌<◌, ◌≤◌, eqb, ltb, length};
 ghost use Rattle.image.specs.Format.{map_offset, pop_return};
 ghost use Rattle.image.specs.Image.{rule_from};
-ghost use Rattle.image.specs.Refusals.{move_off, stops, rule_bad, rules_refusal_from, rule_count};
+ghost use Rattle.image.specs.Refusals.{move_off, rule_bad, rules_refusal_from, rule_count};
 ghost use Rattle.refusal.specs.Checking.{checked};
 ghost use Rattle.validator.specs.Code.Checking.{RuleInside, LengthChecked};
 
 use image::Selector;
 use image::format::{
-    CLASSES_OFFSET, DIRECTION_LEFT, DIRECTION_RIGHT, KIND_HALT, KIND_NONE, KIND_POP, POP_RETURN,
-    RULE_LENGTH, RULES_OFFSET, STATES_OFFSET, SYMBOLS_OFFSET,
+    CLASSES_OFFSET, DIRECTION_LEFT, DIRECTION_RIGHT, KIND_CHANGE, KIND_HALT, KIND_NONE, KIND_POP,
+    KIND_PUSH, POP_RETURN, RULE_LENGTH, RULES_OFFSET, STATES_OFFSET, SYMBOLS_OFFSET,
 };
 use refusal::{Kind, Refusal};
-
-// Whether a rule of this kind stops a run.
-fn stops_run(kind: u8) -> bool
-    ensures { result ≡ stops kind }
-{
-    kind == KIND_NONE || kind == KIND_HALT
-}
 
 // Whether a rule that stops a run has another byte.
 fn says_more(state: u8, symbol: u8, direction: u8) -> bool
@@ -52,31 +45,22 @@ fn rule_bad(image: &[u8], at: usize, class: u32) -> bool
     requires { RuleInside image.now at }
     ensures { result ≡ rule_bad image.now class (rule_from image.now at) }
 {
-    let kind = image[at];
     let state = image[at + 1];
     let symbol = image[at + 2];
     let direction = image[at + 3];
-    if KIND_HALT < kind {
-        return true;
-    }
-    if stops_run(kind) {
-        return says_more(state, symbol, direction);
-    }
     let states = image[STATES_OFFSET];
-    if states <= state {
-        return true;
-    }
-    if kind == KIND_POP {
-        return pop_wrong(symbol, direction);
-    }
     let symbols = image[SYMBOLS_OFFSET];
-    if symbols <= symbol {
-        return true;
+    match image[at] {
+        KIND_NONE | KIND_HALT => says_more(state, symbol, direction),
+        KIND_POP => states <= state || pop_wrong(symbol, direction),
+        KIND_CHANGE | KIND_PUSH => {
+            states <= state
+                || symbols <= symbol
+                || DIRECTION_LEFT < direction
+                || move_off(image, class, direction)
+        }
+        _ => true,
     }
-    if DIRECTION_LEFT < direction {
-        return true;
-    }
-    move_off(image, class, direction)
 }
 
 // Refusal 6: the rules in order.

@@ -19,13 +19,14 @@ use Rattle.syntax.specs.Needs as Needs
 use Rattle.syntax.specs.Compile as Compile
 use Rattle.syntax.specs.Reading.{Reading, Refused, Grammar, ReadSays, at_fault, refused, read}
 use Rattle.syntax.proofs.ReadingExact.{reading_exact}
-use Rattle.reader.specs.declared.ReadGrammar.{ReadGrammar}
+use Rattle.std.specs.Prelude.{Result}
+use Rattle.reader.specs.declared.GrammarBytes.{GrammarBytes}
 use Rattle.reader.specs.Calls.{grammar_answer, ReadTells}
 use Rattle.worked_examples.specs.Examples.{Each, nil, cons}
 use Rattle.worked_examples.specs.TextExamples.{bytes_of, ReadSo, any_bytes, chained, read_table, refused_table}
 
 -- ONE ANSWER
-answered : (text : List ℕ) {a : Reading} → ReadSays text a → (r : ReadGrammar) → ReadTells text r → r ≡ grammar_answer a
+answered : (text : List ℕ) {a : Reading} → ReadSays text a → (r : Result GrammarBytes Refusal) → ReadTells text r → r ≡ grammar_answer a
 answered text {a} s r t = let (b, says, only) = reading_exact text in t.told ∙ ap grammar_answer (only t.reading t.says ∙ sym (only a s))
 
 -- by a fault,

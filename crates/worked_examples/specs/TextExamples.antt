@@ -1,11 +1,12 @@
 -- Grammars as text with what reading answers to each, as two tables: a grammar's bytes, or a refusal. Assumes nothing: these are definitions.
-use Rattle.std.specs.Prelude.{◌≡◌, List, [], ◌∷◌, ◌++◌, ℕ, zero, suc, ◌-◌}
+use Rattle.std.specs.Prelude.{◌≡◌, List, [], ◌∷◌, ◌++◌, ℕ, zero, suc, ◌-◌, Result}
 use Prim.Native.Char.{code}
 use Prim.Native.String as Characters
+use Rattle.refusal.specs.declared.Refusal.{Refusal}
 use Rattle.refusal.specs.First.{refusal}
 use Rattle.grammar.specs.Grammar.{kind_sequence, kind_empty, range_bytes}
 use Rattle.syntax.specs.Reading.{Reading, Refused, Grammar}
-use Rattle.reader.specs.declared.ReadGrammar.{ReadGrammar}
+use Rattle.reader.specs.declared.GrammarBytes.{GrammarBytes}
 use Rattle.reader.specs.Calls.{grammar_answer, ReadTells}
 
 -- a byte for each character, all of them ASCII
@@ -26,7 +27,7 @@ refused s n p = record { text = s; reading = Refused (refusal n p) }
 
 -- the call `read` answers so, and not otherwise
 unfoldable pub ReadSo : TextExample → Type 0
-ReadSo e = (r : ReadGrammar) → ReadTells (bytes_of e.text) r → r ≡ grammar_answer e.reading
+ReadSo e = (r : Result GrammarBytes Refusal) → ReadTells (bytes_of e.text) r → r ≡ grammar_answer e.reading
 
 -- a rule that is a sequence of two, the empty one, and so many rules for any byte
 abbrev sequence_bytes : (b c : ℕ) → List ℕ
