@@ -2,14 +2,12 @@
 use mathlib.Core.Path.{◌≡◌, refl, sym, ap, ◌∙◌}
 use mathlib.Core.Bool.{Bool, true, false, ◌&&◌, ◌||◌, cond}
 use mathlib.Core.List.{List}
-use Prim.Native.Nat.{ℕ, ◌+◌, ◌-◌, ◌<◌, ◌≤◌}
+use Prim.Native.Nat.{ℕ, ◌-◌, ◌≤◌}
 use native.Mathlib.Omega.{arith}
-use lib.Dec.{ltb, leb, eqb}
+use lib.Dec.{ltb, eqb}
 use lib.ListN.{length, take, drop, length-drop}
 use lib.Seq.{take_all}
-use borrow.Author.Tests.{lt-ltb, le-ltb, ltb-false, leb-true, eq-eqb, ne_eqb}
-use Rattle.codec.specs.declared.Pair.{Pair}
-use Rattle.refusal.specs.declared.Refusal.{Refusal}
+use borrow.Author.Tests.{le-ltb, ltb-false, leb-true}
 use Rattle.codec.specs.Numbers.{pair_at}
 use Rattle.refusal.specs.First.{refusal, no_refusal}
 use Rattle.refusal.specs.Checking.{checked}
@@ -18,15 +16,7 @@ use Rattle.std.specs.Prelude.{Ok}
 use Rattle.answer.specs.Input.{pairs_length, grammar_pair, capture_pair, max_input, capture_offset, first_pair_right, second_pair_right, input_refusal, input_grammar, input_capture}
 
 module _ (xs : List ℕ) where
-  pub short_refused : length xs < pairs_length → input_refusal xs ≡ refusal 14 0
-  unfolding input_refusal
-  short_refused h = simp (lt-ltb _ _ h)
-
   module _ (enough : pairs_length ≤ length xs) where
-    pub long_refused : max_input < length xs → input_refusal xs ≡ refusal 14 0
-    unfolding input_refusal
-    long_refused h = simp (le-ltb _ _ enough, lt-ltb _ _ h)
-
     module _ (few : length xs ≤ max_input) where
       pub first_refused : first_pair_right xs ≡ false → input_refusal xs ≡ refusal 14 0
       unfolding input_refusal

@@ -64,11 +64,6 @@ class_done gs p x k most least =
     let last : n * suc (2 * rules gs) + (1 + 2 * k) ≡ suc n * suc (2 * rules gs) + 0 = omega (arith, suc-mul n (suc (2 * rules gs))) in
     last ∙ ap (λ (m : ℕ). m * suc (2 * rules gs) + 0) (sym one)
 
-pub state_done : (gs : List ℕ) (p x : ℕ) → x ≡ class_count gs + 2 → place gs p x 0 ≡ place gs (p + 1) 0 0
-state_done gs p x last =
-    let all : p * (class_count gs + 2) + x ≡ (p + 1) * (class_count gs + 2) + 0 = omega (arith, suc-mul p (class_count gs + 2)) in
-    ap (λ (m : ℕ). m * symbols_of gs + 0) all
-
 pub all_done : (gs : List ℕ) (p : ℕ) → p ≡ state_count → place gs p 0 0 ≡ built_rules gs
 unfolding built_rules
 all_done gs p last = rw last (omega arith)

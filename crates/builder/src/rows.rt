@@ -1,5 +1,5 @@
 // The table: the rule of a grammar rule's first or second symbol in a state, and the rules of symbol 0.
-ghost use Rattle.std.specs.Prelude.{◌≡◌, Bool, true, false, ◌&&◌, cond, ℕ, ◌+◌, ◌*◌, ◌<◌, eqb};
+ghost use Rattle.std.specs.Prelude.{◌≡◌, Bool, true, false, ◌&&◌, cond, ℕ, ◌+◌, ◌*◌, ◌<◌};
 ghost use Rattle.grammar.specs.Grammar.{max_rules, PartsBelow};
 ghost use Rattle.builder.specs.Table.{push_first, to_second, pass_byte, pop_fail, row, rows, by_state, unruled as unruled_of, select as select_of, on_byte as on_byte_of, row_zero};
 ghost use Rattle.builder.specs.Code.Writing.{rule_of, Few, Picks};

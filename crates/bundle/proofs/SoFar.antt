@@ -135,3 +135,6 @@ one_more {bs} {xs} {cs} {l} {m} {k} {a} {x} {z} {b} {y} {w} {i} {t} {u} {p} r so
       work_long = (lengths_kept bs cs r x z y w s).1 ∙ so.work_long;
       lines_now = written_now ∙ (rw (so.lines_now, q) (line_behind l so.lines r i so.many));
     }
+
+-- for the function that judges the captures in order
+pub ruleset in_order = (none_yet, totals_room, line_room, one_more, all_done)

@@ -15,7 +15,7 @@ use simulator::judge::judge_by_checked;
 use validator::check::check_image;
 
 // The captures of a bundle in order, by an image that is checked.
-#[tactic(auto, using(crate::proofs::SoFar::none_yet, crate::proofs::SoFar::totals_room, crate::proofs::SoFar::line_room, crate::proofs::SoFar::one_more, crate::proofs::SoFar::all_done, simulator::proofs::Replying::judged_told))]
+#[tactic(auto, using(crate::proofs::SoFar::in_order, simulator::proofs::Replying::judged_told))]
 fn judge_captures(
     image: &[u8],
     bundle: &Bundle,

@@ -71,6 +71,3 @@ module _ (s : Selector) (k g i : ℕ) (w : Selects s k g i) where
             state_most = omega (arith, w.state_most);
           }
       go false q = next_row (omega (arith, ltb-false (s.symbol + 1) g q, w.symbol_below)) (ltb (s.class + 1) k) refl
-
-pub selects_as : {s t : Selector} {k g i : ℕ} → t ≡ s → Selects s k g i → Selects t k g i
-selects_as e w = rw e w

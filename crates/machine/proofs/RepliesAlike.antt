@@ -1,14 +1,9 @@
 -- Replies with equal numbers are equal, and a reply defined by cases is what is told case by case. Assumes nothing.
 use mathlib.Core.Path.{◌≡◌, refl, sym}
-use Prim.Native.Nat.{ℕ}
-use Rattle.machine.specs.declared.Config.{Config}
 use Rattle.machine.specs.declared.Reply.{Reply}
 use Rattle.std.specs.Prelude.{Result, Ok, Err}
 use Rattle.refusal.specs.declared.Refusal.{Refusal}
-use Rattle.machine.specs.Replies.{answer_reply, refusal_reply, count_reply, reply_by, of_checked}
-
-pub numbered : {p : Reply} {v w n : ℕ} {end : Config} → v ≡ w → p ≡ answer_reply v n end → p ≡ answer_reply w n end
-numbered e h = rw (← e) h
+use Rattle.machine.specs.Replies.{refusal_reply, count_reply, reply_by, of_checked}
 
 -- a reply defined by cases
 pub told_by_case :

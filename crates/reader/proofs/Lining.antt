@@ -23,7 +23,7 @@ use Rattle.expressions.specs.declared.Rules.{Rules}
 use Rattle.expressions.specs.Code.Building.{rule_put, put_rules, advanced, placed_at}
 use Rattle.expressions.specs.Code.Operators.{Part, PartRoom}
 use Rattle.scanner.specs.Code.Scanning.{tokens_at}
-use Rattle.expressions.specs.Code.Levels.{Room, Passes, PartRight, LevelRead, ReadsTo}
+use Rattle.expressions.specs.Code.Levels.{Passes, PartRight, LevelRead, ReadsTo}
 use Rattle.reader.specs.Code.Lines.{PassesTwo, LineRead, with_left, line_with, topped_by, topped, LineRoom, LineDone, LineIsRead}
 use Rattle.expressions.proofs.Emitting.{advanced_on, advanced_none, advanced_next}
 use Rattle.expressions.proofs.Deriving.{semicolon_stops}
@@ -212,8 +212,3 @@ module _ (text : List ℕ) (at k from : ℕ) (before : Rules) (room : LineRoom t
     where
       ready_room : ready.next + ready.left ≤ suc max_rules
       ready_room = subst (λ (y : Rules). y.next + y.left ≤ suc max_rules) (sym filled) (omega (arith, room.fit))
-
--- what the expression's reading needs
-pub line_ready : (text : List ℕ) (k : ℕ) (before ready : Rules) → LineRoom text k before → ready ≡ with_left before → Room text ready
-line_ready text k before ready room e =
-    subst (λ (y : Rules). Room text y) (sym e) (record { few = room.few; fit = omega (arith, room.fit) })

@@ -1,5 +1,4 @@
 // What the call `read` answers, by numbers.
-ghost use Rattle.std.specs.Prelude.{◌≡◌};
 ghost use Rattle.machine.specs.Replies.{count_reply};
 
 use crate::GrammarBytes;

@@ -1,5 +1,5 @@
 // Sets of rules as numbers: bit k for rule k.
-ghost use Rattle.std.specs.Prelude.{◌≡◌, ◌||◌, ◌&&◌, ℕ, ◌<◌, ◌≤◌, ◌^◌, eqb};
+ghost use Rattle.std.specs.Prelude.{◌≡◌, ◌||◌, ◌&&◌, ℕ, ◌<◌, ◌≤◌, eqb};
 ghost use Rattle.recursion.specs.Code.Sets.{member};
 
 use std::marker::Model;

@@ -5,7 +5,7 @@ use lib.Dec.{eqb}
 use borrow.Author.Tests.{eqb-true}
 use Rattle.std.specs.Prelude.{Result, Ok, Err}
 use Rattle.refusal.specs.declared.Refusal.{Refusal}
-use Rattle.refusal.specs.First.{or_else, refuse_if}
+use Rattle.refusal.specs.First.{or_else}
 use Rattle.refusal.specs.Checking.{checked}
 
 abbrev Checks : (a b : Result Unit Refusal) → Type 0
@@ -56,12 +56,3 @@ passed-first f g h = rw (checked-passes f h) refl
 
 -- for functions that check one thing after another
 pub ruleset in_turn = (refused-first, passed-first, checked-passes)
-
--- ONE BY A TEST
-pub refused-test : (b : Bool) (f : Refusal) → b ≡ true → eqb f.number 0 ≡ false → Err f ≡ checked (refuse_if b f)
-unfolding refuse_if checked
-refused-test b f e h = rw (e, h) refl
-
-pub passed-test : (b : Bool) (f : Refusal) → b ≡ false → Ok tt ≡ checked (refuse_if b f)
-unfolding refuse_if checked
-passed-test b f e = rw e refl

@@ -1,7 +1,5 @@
 -- What is told of judging and of the cells that it needs, case by case, is the definition's reply. Assumes nothing.
 use mathlib.Core.Path.{◌≡◌, refl}
-use Prim.Native.Nat.{ℕ}
-use Rattle.refusal.specs.declared.Refusal.{Refusal}
 use Rattle.machine.specs.declared.Reply.{Reply}
 use Rattle.machine.specs.Replies.{verdict_number, refusal_reply, answer_reply, count_reply, reply_by}
 use Rattle.machine.proofs.RepliesAlike.{told_by_case}

@@ -1,5 +1,4 @@
 // What the call `judge` answers, by numbers.
-ghost use Rattle.std.specs.Prelude.{◌≡◌};
 ghost use Rattle.machine.specs.Replies.{verdict_number, answer_reply};
 
 use crate::Judgement;

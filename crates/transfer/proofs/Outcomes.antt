@@ -1,9 +1,8 @@
 -- What one more call adds to the bytes that were moved, and what writing bytes leaves. Assumes nothing.
-use Rattle.std.proofs.Common.{◌≡◌, Bool, true, false, not, ltb, refl, length, ℕ, zero, suc, ◌+◌, ◌-◌, ◌≤◌, ◌<◌, List, ◌++◌, take, drop, None, Some, Ok, Err, sym, ap, subst, ◌∙◌, arith}
+use Rattle.std.proofs.Common.{◌≡◌, Bool, true, false, refl, length, ℕ, zero, suc, ◌+◌, ◌-◌, ◌≤◌, ◌<◌, List, ◌++◌, take, drop, None, Some, Ok, Err, sym, ap, subst, ◌∙◌, arith}
 use Rattle.std.proofs.Math.Seq.{take-add, take-append-add, take-length}
 use Rattle.std.proofs.lemmas.List.{take-append-le, take_all, length-append, length-drop, length-take-le}
 use Rattle.std.proofs.KnownBytes.{Appends-kept, Appends-trans, Consumes-kept, Consumes-trans}
-use borrow.Author.Tests.{ltb-false, not-true}
 use Rattle.std.specs.Io.{ReadsAtMost}
 use Rattle.std.specs.Io.KnownBytes.{Appends, Consumes, ReadConsumes, WriteAppends}
 use Rattle.std.specs.declared.io.Error.{Error}
@@ -52,16 +51,6 @@ write_more (Ok n) count line a b c before m =
     let all : take (length line - count) (drop count line) ≡ drop count line = take_all _ _ (omega (arith, length-drop count line)) in
     subst (Appends a c) (sym (take-add count n line)) (Appends-trans a b c _ _ before (subst (λ l. Appends b c (take n l)) all m))
 write_more (Err e) count line a b c before m = Appends-kept a b c _ before m
-
--- what writing bytes leaves: all of them were written where it stopped no sooner
-pub front_written :
-    (o : Outcome) (n : ℕ) (bytes : List ℕ) (a b : Option (List ℕ)) → Stopped o n (length bytes) → Appends a b (take n bytes) →
-    WritesFront bytes (not (ltb n (length bytes))) a b
-front_written o n bytes a b s m =
-    record { count = n; within = stops_within o n (length bytes) s; written = m; whole = λ t. not_short n (length bytes) (stops_within o n (length bytes) s) t }
-  where
-    not_short : (n long : ℕ) → n ≤ long → not (ltb n long) ≡ true → n ≡ long
-    not_short n long h t = let e : long ≤ n = ltb-false n long (not-true _ t) in omega arith
 
 -- bytes written behind others that were written whole, and bytes before which a part of others was not written
 pub written_then :

@@ -1,7 +1,7 @@
 // Reading all of an input and writing all of a line or of other bytes, over the library's read and write. The end of the input and a read that failed are told apart, and a call that a signal interrupted is made again.
 #![tactic(auto)]
 
-ghost use Rattle.std.specs.Prelude.{◌≡◌, ◌≤◌, ◌++◌, false, ltb, length, take};
+ghost use Rattle.std.specs.Prelude.{◌≡◌, ◌++◌, false, ltb, length, take};
 ghost use Rattle.std.specs.Io.KnownBytes.{Appends, Consumes, IsAtEnd};
 ghost use Rattle.transfer.specs.Transfers.{has_failed, whole_of, Stopped, WholeInput, WritesFront, complaint_line, Complains};
 

@@ -1,5 +1,4 @@
 // Why a typed grammar does not pass the check for left recursion, by numbers.
-ghost use Rattle.std.specs.Prelude.{◌≡◌};
 ghost use Rattle.typed.specs.Replies.{fault_reply};
 
 use crate::left_recursion::RecursionFault;

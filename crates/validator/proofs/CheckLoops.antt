@@ -109,9 +109,6 @@ module _ (bs : List ℕ) (s : Selector) (at : ℕ) (w : RulesLeft bs s at) (long
     one_more : w.left ≡ suc (w.left - 1)
     one_more = omega arith
 
-    pub whole_rule : at + Format.rule_length ≤ length bs
-    whole_rule = omega arith
-
     -- there are few rules, so that counting on fits
     pub rules_count : rule_count bs ≤ 4294967295 → CountsOn s (classes bs + 2) (symbols bs)
     rules_count h = counts_on s (classes bs + 2) (symbols bs) w.index w.selects (omega (arith, w.at_is))

@@ -1,5 +1,4 @@
 -- `answer::answer` meets its contract: the line of what judging says is written. Assumes nothing.
-use mathlib.Core.Path.{sym}
 use Rattle.answer.specs.Calls.{judged_line, AnswerSays}
 use Rattle.answer.proofs.answer.Goals as goal
 

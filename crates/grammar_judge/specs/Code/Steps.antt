@@ -1,9 +1,6 @@
 -- What the steps of an answer may assume, and what they leave: only the code needs these. Assumes nothing: these are definitions.
-use Rattle.std.specs.Prelude.{◌≡◌, List, ◌++◌, ℕ, ◌≤◌, length, drop, Ok}
-use Rattle.simulator.specs.declared.Judgement.{Judgement}
-use Rattle.simulator.specs.Calls.{JudgeSays}
+use Rattle.std.specs.Prelude.{List, ℕ, ◌≤◌, length}
 use Rattle.simulator.specs.Code.Checked.{Sized}
-use Rattle.grammar_judge.specs.Calls.{Lent}
 
 -- a good image, a capture that is not too long, and cells enough
 pub record JudgeReady (bs cs : List ℕ) (cells : ℕ) (notes work : List ℕ) : Type 0 where
