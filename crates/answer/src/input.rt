@@ -18,6 +18,7 @@ const CAPTURE_PAIR: usize = 8;
 pub const MAX_INPUT: usize = 65536;
 
 // Where the grammar ends and the capture begins.
+// kept: the fact stands in three clauses, since this function, which the pages name, takes bytes and may ask for no type.
 #[tactic(auto, unfolding(crate::specs::Input::capture_offset))]
 pub fn capture_offset(input: &[u8]) -> usize
     requires { pairs_length ≤ length input.now }

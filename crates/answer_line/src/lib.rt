@@ -102,6 +102,7 @@ pub fn put_recursion(out: &mut [u8], rule: usize, name: usize) -> usize
     ensures { Lined (recursion_line rule name) out.old out.new result }
 {
     let mut line = Line { out, at: 0 };
+    // kept: the number is text here, as in recursion_line
     line.word(b"refused 19");
     line.field(rule as u64);
     line.field(name as u64);

@@ -48,6 +48,7 @@ fn write_header(image: &mut [u8], classes: u8, symbols: u8, count: u32)
     write_u32(image, FINALS_OFFSET, FINALS);
 }
 
+// kept: three functions ask for the class map's bytes in a clause, since the image is written in between, which no type of it could follow.
 // Whether a byte class, and no marker, is in a range, by the classes of its two bytes. None is where the low byte is above the high byte, though both may be of one class.
 #[tactic(auto, unfolding(crate::specs::Code::Writing::class_between))]
 fn range_has(image: &[u8], classes: u32, range: ByteRange, class: u32) -> bool

@@ -11,6 +11,7 @@ ghost use Rattle.builder.specs.Matching.{default_matching};
 
 pub use planning::Plan;
 
+// kept: an enum and no closure, since the choice is one rule of the table, which on_byte gives.
 // What of a capture a grammar must match for the built machine to accept: the whole of it, or a leading part (a prefix match).
 #[derive(Clone, Copy, Debug, PartialEq, Eq)]
 pub enum Matching {

@@ -63,6 +63,7 @@ const BACK_FAIL: ImageRule = ImageRule {
 };
 
 // A push of a rule's first symbol.
+// kept: three functions ask `k < max_rules` of one number each; a type for the number would be made and taken apart in each.
 fn push(k: u8) -> ImageRule
     requires { k < max_rules }
     ensures { rule_of result ≡ push_first k }

@@ -9,6 +9,7 @@ pub mod step;
 use image::Sizes;
 use machine::{Config, Verdict};
 
+// kept: a step is chosen by the mode and by no closure, since the definition of a step (Step.judge_step) and the theorems of the chain go by it.
 // What the next step does: look at a configuration, close open ones with a known terminator, clear the open ones after a run that has no end or is stuck, nothing.
 #[derive(Clone, Copy)]
 pub enum Mode {

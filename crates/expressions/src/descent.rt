@@ -46,6 +46,7 @@ fn named(text: &[u8], name: usize, long: usize, at: usize) -> Part
     }
 }
 
+// kept: PartRoom and Room are clauses, since they speak of rules that are lent and change with each call.
 // The suffixes after an expression, as many as stand there.
 fn suffixes(text: &[u8], x: Part, rules: &mut Rules) -> Result<Part, Unfit>
     requires { PartRoom (read_of x rules.old) }

@@ -18,8 +18,8 @@ use Rattle.refusal.specs.Checking.{checked}
 use Rattle.refusal.proofs.Checked.{checked-refuses, checked-refused, refused-first, passed-first}
 use Rattle.refusal.proofs.Refused.{neither, not_refused as passed}
 use Rattle.image.proofs.CaptureRefused.{capture_fine, then_long, then_fine}
-use Rattle.simulator.specs.Calls.{judge_refusal}
-use Rattle.simulator.proofs.JudgeRefusals.{cells_refused, notes_refused, work_refused, not_refused}
+use Rattle.simulator.specs.Calls.{short_refusal, judge_refusal}
+use Rattle.simulator.proofs.JudgeRefusals.{cells_refused, short_decides}
 use Rattle.grammar.specs.Grammar.{grammar_refusal}
 use Rattle.builder.specs.declared.Matching.{Matching}
 use Rattle.builder.specs.declared.Matching.TheVariants.{Whole}
@@ -40,15 +40,8 @@ module _ (gs cs : List ℕ) (good : (grammar_refusal gs).number ≡ 0) (a b : �
     fine_so_far : (capture_refusal (built Whole gs) (length cs)).number ≡ 0
     fine_so_far = ap (λ (f : Refusal). f.number) (sym (then_fine (built Whole gs) (length cs) (image_refusal (built Whole gs)) refl (built_good Whole gs good) short))
 
-    pub refused_notes : a < cells → refusal 8 cells ≡ judge_refusal (built Whole gs) cs a b
-    refused_notes h = ap (refusal 8) is ∙ sym (notes_refused (built Whole gs) cs a b fine_so_far (omega arith))
-
-    module _ (enough : cells ≤ a) where
-      pub refused_work : b < cells → refusal 9 cells ≡ judge_refusal (built Whole gs) cs a b
-      refused_work h = ap (refusal 9) is ∙ sym (work_refused (built Whole gs) cs a b fine_so_far (omega arith) (omega arith))
-
-      pub refused_none : cells ≤ b → no_refusal ≡ judge_refusal (built Whole gs) cs a b
-      refused_none h = sym (not_refused (built Whole gs) cs a b fine_so_far (omega arith) (omega arith))
+    pub cells_decide : checked (short_refusal cells a b) ≡ checked (judge_refusal (built Whole gs) cs a b)
+    cells_decide = short_decides (built Whole gs) cs a b fine_so_far is
 
 -- 11 TO 13 first
 pub first_refused : (gs cs : List ℕ) (m a b : ℕ) (f : Refusal) → Err f ≡ checked (build_refusal gs m) → Err f ≡ checked (parts_refusal gs cs m a b)

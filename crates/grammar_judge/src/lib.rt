@@ -15,8 +15,8 @@ use builder::{Matching, Plan};
 use grammar::Grammar;
 use image::format::MAX_CAPTURE;
 use refusal::{Kind, Refusal};
-use simulator::Judgement;
 use simulator::judge::judge_checked;
+use simulator::{Judgement, judge};
 
 // Refusals 7 to 9: how many cells a grammar's machine needs follows from the grammar and the capture's length.
 fn check_cells(
@@ -31,14 +31,7 @@ fn check_cells(
     if MAX_CAPTURE < n {
         return Err(Refusal::new(Kind::CaptureLong, n));
     }
-    let cells = cells_of(grammar, n);
-    if notes < cells {
-        return Err(Refusal::new(Kind::NotesShort, cells));
-    }
-    if work < cells {
-        return Err(Refusal::new(Kind::WorkShort, cells));
-    }
-    Ok(())
+    judge::check_cells(cells_of(grammar, n), notes, work)
 }
 
 // Refusals 13 and 7 to 9.
@@ -89,6 +82,7 @@ pub fn build_and_judge(
 }
 
 // Judges a capture by a grammar: all checks of what is lent come before the first byte is written.
+// kept: image, notes and work are three parameters here and above, as C lends them (sejimakpu_judge_text).
 pub fn judge_by_grammar(
     grammar: Grammar<'_>,
     capture: &[u8],

@@ -19,6 +19,7 @@ use typed::left_recursion::{RecursionFault, check_text_recursion};
 const MAX_TEXT: usize = 65536;
 
 // What is written: so many bytes, from the first on. There is room for every grammar, and for every line.
+// kept: no heap, so the bytes are an array and not a Vec, and their number stands beside it.
 #[derive(Drop)]
 pub struct Output {
     pub bytes: [u8; 124],
@@ -96,6 +97,7 @@ fn output_of_text(text: &[u8]) -> Output
 }
 
 // What is written for a text, by what is asked for.
+// kept: a truth value and no closure, since it is read once, from the program's argument.
 fn output_by(text: &[u8], checks: bool) -> Output
     ensures { TextSays checks text.now result }
 {

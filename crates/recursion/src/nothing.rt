@@ -30,6 +30,7 @@ fn looked_at(grammar: Grammar, k: usize, known: RuleSet) -> RuleSet
     known.added(k as u8, matches)
 }
 
+// kept: two sweeps, since one over an iterator would have to ask that it yields every rule once.
 // Every rule, from the last to the first, each by what is known when its turn comes.
 fn sweep_down(grammar: Grammar, known: RuleSet) -> RuleSet
     requires { Sweepable grammar.bytes.now known }

@@ -1,4 +1,5 @@
 // The archive for C and Rust: each function of the crate sejimakpu under the name that include/sejimakpu.h declares, with the same contract. It does nothing else.
+// kept: each function stands here again, since what C calls has to stand in a static library, and other crates stand on a library.
 // A slice is never null, not even an empty one: hence the names. The header's inline functions let C pass null with length 0.
 #![tactic(auto)]
 

@@ -1,13 +1,14 @@
 -- Which refusal the call `judge` gives, by the tests that its code makes, and what its answer says then. Assumes nothing.
 use Rattle.std.specs.Prelude.{Err, Ok}
 use mathlib.Core.Path.{◌≡◌, refl, sym, ap, ◌∙◌}
+use mathlib.Core.Bool.{Bool, true, false, cond}
 use mathlib.Core.List.{List, ◌++◌}
 use Prim.Native.Nat.{ℕ, zero, suc, ◌<◌, ◌≤◌}
 use native.Mathlib.Omega.{arith}
 use lib.Dec.{ltb}
 use lib.ListN.{length, take, drop}
 use lib.Seq.{length-take-le}
-use borrow.Author.Tests.{lt-ltb, le-ltb, eq-eqb, ne_eqb, eqb-false}
+use borrow.Author.Tests.{lt-ltb, le-ltb, ltb-true, ltb-false, eq-eqb, ne_eqb, eqb-false}
 use Rattle.refusal.specs.declared.Refusal.{Refusal}
 use Rattle.machine.specs.Run.{how_many}
 use Rattle.codec.specs.Bytes.{byte}
@@ -15,14 +16,15 @@ use Rattle.image.specs.Image.{machine}
 use Rattle.image.proofs.CaptureRefused.{unrefused_by, image_first, capture_fine, then_length}
 use Rattle.refusal.specs.First.{refusal, no_refusal, or_else, refuse_if}
 use Rattle.refusal.specs.Checking.{checked as checks}
-use Rattle.refusal.proofs.Checked.{checked-passes, checked-refuses, checked-refused}
+use Rattle.refusal.proofs.Checked.{checked-passes, checked-refuses, checked-refused, checked-none, passed-first}
+use Rattle.refusal.proofs.Refused.{neither, not_refused as unrefused}
 use Rattle.image.specs.Format
 use Rattle.image.specs.Refusals.{image_refusal, capture_refusal}
 use Rattle.simulator.specs.declared.Judgement.{Judgement}
 use Rattle.simulator.specs.Answers.{Judged}
 use Rattle.simulator.specs.Code.Checked.{Checked, Sized}
 use Rattle.simulator.proofs.Needing.{cells_are}
-use Rattle.simulator.specs.Calls.{cells_needed, judge_refusal, JudgementRight, JudgedRight, JudgeAs, JudgeSays}
+use Rattle.simulator.specs.Calls.{cells_needed, short_refusal, judge_refusal, JudgementRight, JudgedRight, JudgeAs, JudgeSays}
 
 module _ (bs cs : List ℕ) (a b : ℕ) where
   pub cells_refused : ((capture_refusal bs (length cs)).number ≡ 0 → ⊥) → judge_refusal bs cs a b ≡ capture_refusal bs (length cs)
@@ -136,3 +138,34 @@ module _ (bs cs x y : List ℕ) {r : Judged} where
           notes_now = rw e;
           work_now = rw e;
         })
+
+-- BY THE TEST of the lent cells: refused, or they are enough
+pub short_says :
+    (bs cs x y : List ℕ) {n : ℕ} → Sized bs cs n → (e : Refusal) → Err e ≡ checks (short_refusal n (length x) (length y)) →
+    JudgeSays bs cs (Err e) x x y y
+unfolding short_refusal or_else refuse_if checks
+short_says bs cs x y {n} known e = go (ltb (length x) n) refl (ltb (length y) n) refl
+  where
+    go :
+        (t : Bool) → ltb (length x) n ≡ t → (u : Bool) → ltb (length y) n ≡ u →
+        Err e ≡ checks (or_else (cond t (refusal 8 n) no_refusal) (cond u (refusal 9 n) no_refusal)) → JudgeSays bs cs (Err e) x x y y
+    go true p u q h =
+        let is : e ≡ refusal 8 n = cc in
+        notes_says bs cs x y known (ltb-true _ _ p) (ap Err is)
+    go false p true q h =
+        let is : e ≡ refusal 9 n = cc in
+        work_says bs cs x y known (ltb-false _ _ p) (ltb-true _ _ q) (ap Err is)
+    go false p false q h = absurd (let z : ◌≡◌ {A = ℕ} 0 1 = cc in omega arith)
+
+pub enough_cells : (n a b : ℕ) → Ok tt ≡ checks (short_refusal n a b) → (n ≤ a) × (n ≤ b)
+unfolding short_refusal
+enough_cells n a b e =
+    let (notes, work) = neither _ _ (record { none_such = checked-passes _ (sym e) }) in
+    (ltb-false _ _ (unrefused _ 7 n notes), ltb-false _ _ (unrefused _ 8 n work))
+
+-- where nothing is refused before, that test decides
+pub short_decides :
+    (bs cs : List ℕ) (a b : ℕ) {n : ℕ} → (capture_refusal bs (length cs)).number ≡ 0 → n ≡ how_many (machine bs cs) →
+    checks (short_refusal n a b) ≡ checks (judge_refusal bs cs a b)
+unfolding short_refusal judge_refusal
+short_decides bs cs a b {n} fine is = rw is (passed-first (capture_refusal bs (length cs)) _ (checked-none _ fine))

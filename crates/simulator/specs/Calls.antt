@@ -22,6 +22,10 @@ cells_needed bs n = states bs * (n + 2) * symbols bs
 unfoldable pub needs : Refusal → (cells : ℕ) → Needs
 needs f n = cond (eqb f.number 0) (Ok n) (Err f)
 
+-- 8 and 9: where so many cells are needed, fewer notes or fewer work cells
+unfoldable pub short_refusal : (needed notes work : ℕ) → Refusal
+short_refusal n a b = or_else (refuse_if (ltb a n) (refusal 8 n)) (refuse_if (ltb b n) (refusal 9 n))
+
 -- judging refuses by 1 to 7, 8 and 9, the lowest first
 unfoldable pub judge_refusal : (image capture : List ℕ) → (notes work : ℕ) → Refusal
 judge_refusal bs cs a b =

@@ -3,7 +3,8 @@ ghost use Rattle.std.specs.Prelude.{◌≡◌, ◌≤◌};
 ghost use Rattle.image.specs.Format.{max_capture};
 ghost use Rattle.image.specs.Refusals.{image_refusal, capture_refusal};
 ghost use Rattle.chain.specs.Chain.{start_in, environment_by};
-ghost use Rattle.simulator.specs.Calls.{cells_needed, needs, JudgementRight, JudgeSays};
+ghost use Rattle.refusal.specs.Checking.{checked};
+ghost use Rattle.simulator.specs.Calls.{cells_needed, needs, short_refusal, JudgementRight, JudgeSays};
 ghost use Rattle.simulator.specs.Code.Checked.{FewEnough, Checked, Cleared, Sized};
 
 use crate::Judgement;
@@ -92,6 +93,20 @@ pub fn cells(image: &[u8], n: usize) -> Result<usize, Refusal>
     Ok(cells_needed(image, n))
 }
 
+// Refusals 8 and 9, where so many cells are needed.
+#[tactic(auto, unfolding(crate::specs::Calls::short_refusal, refusal::specs::First::or_else, refusal::specs::First::refuse_if, refusal::specs::Checking::checked))]
+pub fn check_cells(needed: usize, notes: usize, work: usize) -> Result<(), Refusal>
+    ensures { result ≡ checked (short_refusal needed notes work) }
+{
+    if notes < needed {
+        return Err(Refusal::new(Kind::NotesShort, needed));
+    }
+    if work < needed {
+        return Err(Refusal::new(Kind::WorkShort, needed));
+    }
+    Ok(())
+}
+
 // Judging of checked input that needs so many cells: the lent ones are checked.
 fn judge_sized(
     image: &[u8],
@@ -104,12 +119,7 @@ fn judge_sized(
     ensures { JudgeSays image.now capture.now result
         notes.old notes.new work.old work.new }
 {
-    if notes.len() < cells {
-        return Err(Refusal::new(Kind::NotesShort, cells));
-    }
-    if work.len() < cells {
-        return Err(Refusal::new(Kind::WorkShort, cells));
-    }
+    check_cells(cells, notes.len(), work.len())?;
     Ok(judge_checked(image, capture, &mut notes[..cells], &mut work[..cells]))
 }
 

@@ -109,6 +109,7 @@ pub fn move_on<M: Moves>(moves: &mut M) -> Stop
         last: None,
     };
     let mut tries = MOST_TRIES;
+    // kept: a turn passes as many bytes as a call moved
     while stop.count < long {
         let answer = moves.once(stop.count);
         stop.last = Some(answer);

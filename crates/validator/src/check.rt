@@ -27,6 +27,7 @@ fn pair_is(image: &[u8], at: usize, offset: usize, long: usize) -> bool
 }
 
 // Refusal 2: a pair of the directory.
+// kept: four functions ask for the first 32 bytes in a clause each; a type for it would be made in check_image and taken apart at once.
 #[tactic(auto, unfolding(image::specs::Refusals::directory, refusal::specs::Checking::checked))]
 fn check_directory(image: &[u8]) -> Result<(), Refusal>
     requires { map_offset ≤ length image.now }

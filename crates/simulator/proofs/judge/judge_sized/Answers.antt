@@ -1,20 +1,33 @@
 -- `simulator::judge::judge_sized` meets its contract. Assumes nothing.
-use native.Mathlib.Omega.{arith}
-use mathlib.Core.Path.{refl, ap}
-use Rattle.std.specs.Prelude.{Err}
-use Rattle.simulator.proofs.JudgeRefusals.{notes_says, work_says, answer_says, checked}
+use mathlib.Core.Path.{refl, sym}
+use lib.Seq.{length-take-le}
+use Rattle.std.proofs.lemmas.Result.{err_from_is_err_and}
+use Rattle.simulator.proofs.JudgeRefusals.{short_says, enough_cells, answer_says, checked}
 use Rattle.simulator.proofs.judge.judge_sized.Goals as goal
 
-pub returns-then-notes-cells : goal.returns-then-notes-cells
-returns-then-notes-cells c = notes_says _ _ _ _ c.requires c.if-notes-cells.true (ap Err c.new.ensures)
+pub returns-in_err-check_cells : goal.returns-in_err-check_cells
+returns-in_err-check_cells c =
+    let p = err_from_is_err_and c.from_residual.result c.from_residual.ensures.1 in
+    rw (p.1, p.2) (short_says _ _ _ _ c.requires _ c.in_err-check_cells.ensures)
 
-pub returns-then-work-cells : goal.returns-then-work-cells
-returns-then-work-cells c =
-    work_says _ _ _ _ c.requires (omega arith) c.if-work-cells.true (ap Err c.new-then-work-cells.ensures)
+pub slice_bounds-judge_checked-end : goal.slice_bounds-judge_checked-end
+slice_bounds-judge_checked-end c = (enough_cells _ _ _ c.in_ok-check_cells.ensures).0
+
+pub slice_bounds-judge_checked-end-2 : goal.slice_bounds-judge_checked-end-2
+slice_bounds-judge_checked-end-2 c = sym (length-take-le _ _ (enough_cells _ _ _ c.in_ok-check_cells.ensures).0)
+
+pub slice_bounds-judge_checked-end-3 : goal.slice_bounds-judge_checked-end-3
+slice_bounds-judge_checked-end-3 c = (enough_cells _ _ _ c.in_ok-check_cells.ensures).1
+
+pub slice_bounds-judge_checked-end-4 : goal.slice_bounds-judge_checked-end-4
+slice_bounds-judge_checked-end-4 c = sym (length-take-le _ _ (enough_cells _ _ _ c.in_ok-check_cells.ensures).1)
 
 pub judge_checked-requires : goal.judge_checked-requires
 judge_checked-requires c =
-    checked _ _ _ _ c.requires (λ i. (c.type_inv.capture i).fits) (omega arith) c.if-work-cells.false
+    let enough = enough_cells _ _ _ c.in_ok-check_cells.ensures in
+    checked _ _ _ _ c.requires (λ i. (c.type_inv.capture i).fits) enough.0 enough.1
 
 pub returns : goal.returns
-returns c = answer_says _ _ _ _ c.requires (omega arith) c.if-work-cells.false refl c.judge_checked.ensures
+returns c =
+    let enough = enough_cells _ _ _ c.in_ok-check_cells.ensures in
+    answer_says _ _ _ _ c.requires enough.0 enough.1 refl c.judge_checked.ensures
