@@ -12,7 +12,7 @@ use Rattle.refusal.specs.declared.Refusal.{Refusal}
 use Rattle.image.specs.Format
 use Rattle.machine.specs.Run.{how_many}
 use Rattle.image.specs.Image.{machine}
-use Rattle.refusal.specs.First.{refusal, no_refusal, or_else, refuse_if}
+use Rattle.refusal.specs.First.{refusal, or_else, refuse_if}
 use Rattle.image.specs.Refusals.{image_refusal, capture_refusal}
 use Rattle.refusal.specs.Checking.{checked}
 use Rattle.refusal.proofs.Checked.{checked-refuses, checked-refused, refused-first, passed-first}

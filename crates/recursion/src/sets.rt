@@ -5,6 +5,7 @@ ghost use Rattle.recursion.specs.Code.Sets.{member};
 use std::marker::Model;
 
 // A set of rules; clauses see the number.
+// kept: three methods ask `k < 32` of a number that a loop, a part or a set gives; a type for it would be made in each call and taken apart at once.
 #[derive(Clone, Copy, PartialEq, Eq)]
 pub struct RuleSet {
     bits: u32,

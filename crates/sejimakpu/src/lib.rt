@@ -123,8 +123,8 @@ pub fn sejimakpu_read_grammar_nonnull(
 pub fn sejimakpu_build_text_nonnull(text: &[u8], image: &mut [u8], answer: &mut [u64; 6]) -> u32
     ensures { BuildTextTells text.now image.old image.new result answer.new }
 {
-    let built = build_text(text, image);
-    write_reply(answer, built.reply())
+    let written = build_text(text, image);
+    write_reply(answer, written.reply())
 }
 
 // Judging, by a text.

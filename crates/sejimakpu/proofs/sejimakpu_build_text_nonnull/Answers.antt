@@ -7,6 +7,6 @@ pub returns : goal.returns
 returns c =
     record {
       built = _;
-      says = c.build_text-built.ensures;
+      says = c.build_text-written.ensures;
       tells = told_as (c.reply.ensures ∙ built_told _) c.write_reply.ensures;
     }
