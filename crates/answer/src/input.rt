@@ -18,7 +18,7 @@ const CAPTURE_PAIR: usize = 8;
 pub const MAX_INPUT: usize = 65536;
 
 // Where the grammar ends and the capture begins.
-// kept: the fact stands in three clauses, since this function, which the pages name, takes bytes and may ask for no type.
+// kept: the fact stands in three clauses: a type for an input of 16 bytes or more would be made in check_input and again in judge_input, for three reads.
 #[tactic(auto, unfolding(crate::specs::Input::capture_offset))]
 pub fn capture_offset(input: &[u8]) -> usize
     requires { pairs_length ≤ length input.now }
@@ -27,6 +27,7 @@ pub fn capture_offset(input: &[u8]) -> usize
     PAIRS_LENGTH + read_pair(input, GRAMMAR_PAIR).long as usize
 }
 
+// kept: two functions, as two definitions, since the grammar may end anywhere in the input and the capture at its end alone.
 #[tactic(auto, unfolding(crate::specs::Input::first_pair_right))]
 fn first_pair_right(input: &[u8]) -> bool
     requires { pairs_length ≤ length input.now }

@@ -1,12 +1,12 @@
 // The answer's line as bytes, written into a buffer one byte after the other as far as there is room.
 #![tactic(auto)]
 
-ghost use Rattle.std.specs.Prelude.{◌≡◌, ◌∷◌, []};
-ghost use Rattle.answer_line.specs.Line.{Lined, line_feed, decimal, field, verdict_word, refusal_line, recursion_line, passes_line, answer_line};
+ghost use Rattle.std.specs.Prelude.{◌≡◌, ◌<◌, ◌^◌, ◌∷◌, ◌++◌, []};
+ghost use Rattle.answer_line.specs.Line.{Lined, line_feed, decimal, field, refused_word, verdict_word, refusal_line, recursion_line, passes_line, answer_line};
 ghost use Rattle.answer_line.specs.Code.Writing.{Writes, WritesConfig};
 
 use machine::{Config, Verdict};
-use refusal::Refusal;
+use refusal::{Kind, Refusal};
 
 // A buffer that a line is written into, and the place to go on at.
 // kept: not written by write!, since no clause says that it succeeds, and where it fails none says what it wrote.
@@ -62,6 +62,16 @@ impl Line<'_> {
         self.field(u64::from(c.symbol));
     }
 
+    // A refusal: the word, its number and its place.
+    fn refusal(&mut self, refusal: Refusal)
+        ensures writes { Writes (refused_word ++ field refusal.number ++ field refusal.place) self.old self.new }
+        ensures few { (refusal.number < 2 ^ 32) × (refusal.place < 2 ^ 64) }
+    {
+        self.word(b"refused");
+        self.field(u64::from(refusal.number()));
+        self.field(refusal.place() as u64);
+    }
+
     // Ends the line, and answers how many bytes of it are in the buffer.
     fn finish(&mut self) -> usize
         ensures feed { Writes (line_feed ∷ []) self.old self.new }
@@ -91,9 +101,7 @@ pub fn put_refusal(out: &mut [u8], refusal: Refusal) -> usize
     ensures { Lined (refusal_line refusal) out.old out.new result }
 {
     let mut line = Line { out, at: 0 };
-    line.word(b"refused");
-    line.field(u64::from(refusal.number()));
-    line.field(refusal.place() as u64);
+    line.refusal(refusal);
     line.finish()
 }
 
@@ -102,9 +110,7 @@ pub fn put_recursion(out: &mut [u8], rule: usize, name: usize) -> usize
     ensures { Lined (recursion_line rule name) out.old out.new result }
 {
     let mut line = Line { out, at: 0 };
-    // kept: the number is text here, as in recursion_line
-    line.word(b"refused 19");
-    line.field(rule as u64);
+    line.refusal(Refusal::new(Kind::LeftRecursion, rule));
     line.field(name as u64);
     line.finish()
 }

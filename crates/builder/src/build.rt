@@ -48,7 +48,7 @@ fn write_header(image: &mut [u8], classes: u8, symbols: u8, count: u32)
     write_u32(image, FINALS_OFFSET, FINALS);
 }
 
-// kept: three functions ask for the class map's bytes in a clause, since the image is written in between, which no type of it could follow.
+// kept: range_has, class_inside and write_map ask for the class map's bytes in a clause: the buffer is written between the calls, so that a type for it would be made anew for each.
 // Whether a byte class, and no marker, is in a range, by the classes of its two bytes. None is where the low byte is above the high byte, though both may be of one class.
 #[tactic(auto, unfolding(crate::specs::Code::Writing::class_between))]
 fn range_has(image: &[u8], classes: u32, range: ByteRange, class: u32) -> bool
@@ -109,6 +109,7 @@ fn write_rule(image: &mut [u8], i: u32, r: ImageRule)
 }
 
 // The rules, in the order of their indices, after the class map: symbol 0 by itself, then the two of a grammar rule at once, which is looked at once for them.
+// kept: i is counted, by one and by two: worked out of state, class and k it would be two products more for each pair.
 fn write_rules(plan: Plan<'_>, image: &mut [u8], matching: Matching)
     requires ready { RowsReady plan.grammar.bytes.now image.old plan.classes }
     requires room { length image.old ≡ built_length plan.grammar.bytes.now }

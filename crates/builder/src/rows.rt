@@ -106,6 +106,7 @@ fn one_byte(k: u8, inside: bool) -> ImageRule
     }
 }
 
+// kept: a state is a number here and in the table's other functions, since these say of any number what the table says (specs/Table.antt), and the loop over the states gives numbers.
 // Whether a grammar rule's symbols have no rule in a state: start and done.
 #[tactic(auto, unfolding(crate::specs::Table::unruled))]
 pub fn unruled(state: u32) -> bool

@@ -17,6 +17,7 @@ pub const LINE_WIDTH: usize = 7;
 pub const LINES_CELLS: usize = LINE_WIDTH * MAX_CAPTURES;
 
 // Line i, in its seven cells.
+// kept: a reply's six cells stand here and in sejimakpu's write_reply: seven are copied at once, and of a number and six cells the copies would be two, with a proof that they are one.
 pub fn put_line(lines: &mut [u64], i: usize, reply: Reply)
     requires { (i < max_captures) × (line_width * i + line_width ≤ length lines.old) }
     ensures { lines.new ≡ written lines.old (line_width * i) (line_cells reply) }

@@ -35,6 +35,7 @@ pub struct Environment {
     pub reciprocals: Reciprocals,
 }
 
+// kept: no heap, so the open ones are lent cells with their count, depth, beside them, and no Vec.
 // What a step moves. `at` is the configuration looked at; while unwinding, the terminator; then the end configuration. `number`: its number.
 // `pushed`: the entry on top was pushed on the way to `at`. `depth`: how many configurations are open, which the work cells name.
 #[derive(Clone, Copy)]

@@ -30,6 +30,7 @@ fn cleared(r: Registers, verdict: Verdict, depth: usize) -> Registers
     }
 }
 
+// kept: notes and work are two parameters here and in the functions below, as C lends them: each writes single cells of either, and the definition of a step has them apart.
 // The configuration looked at is open now: its note says what unwinding needs, and its number stands on top of the stack. The next is c.
 fn opened(
     r: Registers,

@@ -5,6 +5,7 @@ ghost use Rattle.grammar.specs.Grammar.{grammar_refusal};
 use crate::Expression;
 use crate::check::{RULE_BYTES, expression_of};
 
+// kept: no Grammar::new, since a Result of a struct with a lifetime and a ghost field does not go through `?` here: who has bytes checks them first.
 // The bytes of a grammar that is right, as check_grammar says: what needs one takes this.
 #[derive(Clone, Copy)]
 pub struct Grammar<'a> {

@@ -82,7 +82,7 @@ pub fn build_and_judge(
 }
 
 // Judges a capture by a grammar: all checks of what is lent come before the first byte is written.
-// kept: image, notes and work are three parameters here and above, as C lends them (sejimakpu_judge_text).
+// kept: image, notes and work are three parameters, here and in typed and answer: the image goes to build_checked, the others to judge_checked, and a struct of the three would be taken apart for either.
 pub fn judge_by_grammar(
     grammar: Grammar<'_>,
     capture: &[u8],

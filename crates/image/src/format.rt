@@ -35,7 +35,7 @@ pub const ZERO_OFFSET: usize = 27;
 pub const RULE_LENGTH: usize = 4;
 
 // Its kinds.
-// kept: bytes of the format and no enum: the lookup and the validator match the byte itself, and any other byte is no kind.
+// kept: bytes and no enums for kinds and directions, since the contracts of moved_head, rule_bad and the lookup say what any byte there means: an enum would have a case more, for other bytes, and be made of a byte and matched at once.
 pub const KIND_NONE: u8 = 0;
 
 pub const KIND_CHANGE: u8 = 1;

@@ -6,7 +6,7 @@ pub mod format;
 pub mod lookup;
 
 // The counts that every lookup needs: classes K, symbols G, tape places n + 2, and how many rules one state has, (K + 2) G.
-// kept: no struct of image, capture and counts with their fact: the judge's record is made of counts alone (start_in), and lookup::action_of, which the pages name, may ask for no such type.
+// kept: no struct of image, capture and counts with their fact: the judge's record is made of counts alone (start_in), and would take such a struct apart and make it again in each step.
 #[derive(Clone, Copy, Debug, PartialEq, Eq)]
 pub struct Sizes {
     pub classes: u32,

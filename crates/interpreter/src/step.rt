@@ -12,6 +12,7 @@ use std::ops::ControlFlow;
 // A cell of the stack holds pointer * CELL_SYMBOLS + symbol.
 const CELL_SYMBOLS: u32 = 128;
 
+// kept: no heap, so the stack is lent cells with a count beside them, and no Vec.
 // Where a run is: its configuration with the top symbol, the pointer of the top entry, how many entries lie below it, the steps taken.
 #[derive(Clone, Copy)]
 pub struct RunState {

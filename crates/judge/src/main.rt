@@ -9,7 +9,7 @@ use answer::answer;
 use transfer::{complain, read_whole, write_on};
 
 // The line for the input that stands at the start of its buffer, in buffers of the sizes that the program has.
-// kept: the whole buffer and a count, since Buffers says that there is room for one byte more than an input may have.
+// kept: the whole buffer and a count, since Buffers (specs/Program.antt) says how long the whole buffer is: one byte more than an input may have.
 fn line_of(
     input: &[u8],
     count: usize,

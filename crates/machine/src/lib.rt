@@ -54,6 +54,7 @@ pub enum Note {
     Closed(u32),
 }
 
+// kept: numbers with 0 for none, as the C interface gives them.
 // Any call's answer by numbers: the refusal's number, or 0, with its place; the verdict's number, or 0 for none; a count and a configuration.
 // Which number and values each case of an enum has is defined beside that enum, in specs/Replies.antt of its crate.
 #[derive(Clone, Copy, Debug, PartialEq, Eq, Default)]

@@ -7,6 +7,7 @@ use refusal::Refusal;
 
 impl Verdict {
     // A verdict's number.
+    // kept: a match and no discriminants, which could not give two verdicts one number, as must-fail/bodies_1 and bodies_2 do to be refused.
     #[tactic(auto, unfolding(crate::specs::Replies::verdict_number))]
     pub fn number(self) -> u32
         ensures { result ≡ verdict_number self }

@@ -97,7 +97,7 @@ fn output_of_text(text: &[u8]) -> Output
 }
 
 // What is written for a text, by what is asked for.
-// kept: a truth value and no closure, since it is read once, from the program's argument.
+// kept: a truth value and no closure, as TextSays and Writes (specs/Program.antt) take it; it is read once, from the program's argument.
 fn output_by(text: &[u8], checks: bool) -> Output
     ensures { TextSays checks text.now result }
 {

@@ -11,7 +11,7 @@ use grammar::{Expression, Grammar};
 pub const ROWS: usize = 32;
 
 // The rules that an expression leads to.
-// kept: PartsBelow is a clause here, in matches_nothing and in builder's second_rule, since Expression is an enum and can't carry a fact.
+// kept: PartsBelow is a clause here, in matches_nothing and in builder's second_rule, since each caller has it of Grammar::expression and the expression is matched at once; a type between would say no more.
 fn leads_to(e: Expression, nothing: RuleSet) -> RuleSet
     requires { PartsBelow max_rules e }
     ensures { (l : ℕ) → member result l ≡ leads_by (member nothing) e l }

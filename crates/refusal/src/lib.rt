@@ -8,7 +8,7 @@ use std::marker::Model;
 // What is refused, in the order of the table of refusals.
 #[derive(Clone, Copy, Debug, PartialEq, Eq)]
 pub enum Kind {
-    ImageShort,
+    ImageShort = 1,
     Directory,
     Counts,
     RulesLength,
@@ -63,27 +63,7 @@ impl Refusal {
     pub fn number(self) -> u32
         ensures { result ≡ self.number }
     {
-        match self.kind {
-            Kind::ImageShort => 1,
-            Kind::Directory => 2,
-            Kind::Counts => 3,
-            Kind::RulesLength => 4,
-            Kind::ClassMap => 5,
-            Kind::Rule => 6,
-            Kind::CaptureLong => 7,
-            Kind::NotesShort => 8,
-            Kind::WorkShort => 9,
-            Kind::NoStack => 10,
-            Kind::GrammarLength => 11,
-            Kind::GrammarRule => 12,
-            Kind::ImageBufferShort => 13,
-            Kind::Input => 14,
-            Kind::Ungrammatical => 15,
-            Kind::TooManyRules => 16,
-            Kind::TooDeep => 17,
-            Kind::Bundle => 18,
-            Kind::LeftRecursion => 19,
-        }
+        self.kind as u32
     }
 
     pub fn place(self) -> usize

@@ -43,7 +43,7 @@ pub fn start(sizes: Sizes, finals: u32) -> JudgeState
 }
 
 // The chain: steps until the verdict stands.
-// kept: notes and work stay two parameters here, as the public calls and a step of the chain take them.
+// kept: notes and work are two parameters, as C lends them (sejimakpu_judge): the chain's step writes single cells of either, and would take a struct of them apart in each function.
 fn run(image: &[u8], capture: &[u8], notes: &mut [u32], work: &mut [u32]) -> Judgement
     requires { Cleared image.now capture.now notes.old work.old }
     ensures { JudgementRight image.now capture.now result notes.new work.new }
@@ -125,6 +125,7 @@ fn judge_sized(
 
 // Judges a capture by an image that is not refused: 7 to 9 are left to check.
 #[tactic(auto, using(crate::proofs::JudgeRefusals::long_says, crate::proofs::JudgeRefusals::length_short, crate::proofs::JudgeRefusals::sized))]
+// kept: a good image is asked for in three clauses: a type for it would be made in judge and in judge_bundle alone, and taken apart at once for the lookup, which takes bytes.
 pub fn judge_by_checked(
     image: &[u8],
     capture: &[u8],
