@@ -30,6 +30,7 @@ fn next_line(text: &[u8], at: usize) -> usize
 }
 
 // The offset of the token that a line begins with, or 0 where there are not so many lines.
+// kept: 0 and no None, since its clause (get_or) says so, and a function that can't fail stays so.
 pub fn line_offset(text: &[u8], line: usize) -> usize
     ensures { result ≡ get_or (line_offsets true (lexemes text.now)) line 0 }
 {
