@@ -14,8 +14,8 @@ fn ends_after(ends: &[u8], rule: usize) -> Option<usize>
 
 impl ReadText {
     // The line that a rule is of. A line's own rule has the line's number, and helper rules are numbered after those, line by line.
-    #[tactic(auto, using(crate::proofs::Owning::owner_found))]
     // kept: the count of lines and no None for a number that no line has, since RuleOfLine says so.
+    #[tactic(auto, using(crate::proofs::Owning::owner_found))]
     pub fn line_of(&self, rule: usize) -> usize
         requires { self.now.lines ≤ max_rules }
         ensures { RuleOfLine self.now.lines self.now.ends rule result }
