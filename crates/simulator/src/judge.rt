@@ -124,8 +124,8 @@ fn judge_sized(
 }
 
 // Judges a capture by an image that is not refused: 7 to 9 are left to check.
-#[tactic(auto, using(crate::proofs::JudgeRefusals::long_says, crate::proofs::JudgeRefusals::length_short, crate::proofs::JudgeRefusals::sized))]
 // kept: a good image is asked for in three clauses: a type for it would be made in judge and in judge_bundle alone, and taken apart at once for the lookup, which takes bytes.
+#[tactic(auto, using(crate::proofs::JudgeRefusals::long_says, crate::proofs::JudgeRefusals::length_short, crate::proofs::JudgeRefusals::sized))]
 pub fn judge_by_checked(
     image: &[u8],
     capture: &[u8],
