@@ -1,4 +1,4 @@
--- A buffer after a part was written: its front, one part after another, and the stores that write four bytes. Assumes nothing.
+-- A buffer after a part was written: its front, one part after another, and four bytes, by four stores or put in place of as many. Assumes nothing.
 use mathlib.Core.Path.{◌≡◌, refl, sym, ap, ◌∙◌}
 use mathlib.Core.List.{List, [], ◌∷◌, ◌++◌, append_assoc}
 use Prim.Native.Nat.{ℕ, suc, ◌+◌, ◌*◌, ◌-◌, ◌≤◌}
@@ -35,6 +35,13 @@ unfolding written
 u32_written bs b part i v e f =
     let digits : part ≡ little_endian 4 v = f ∙ e ∙ given v in
     rw (Post-is i (i + 4) bs (omega arith), digits, little_endian_length 4 v) (sym (append_assoc (take i bs) (little_endian 4 v) (drop (i + 4) bs)))
+
+-- four bytes in place of as many
+pub four_written :
+    (bs part : List ℕ) (i w x y z : ℕ) → part ≡ w ∷ x ∷ y ∷ z ∷ [] → put_mid i (i + 4 - i) bs part ≡ written bs i (w ∷ x ∷ y ∷ z ∷ [])
+unfolding written
+four_written bs part i w x y z e =
+    rw (Post-is i (i + 4) bs (omega arith), e) (sym (append_assoc (take i bs) (w ∷ x ∷ y ∷ z ∷ []) (drop (i + 4) bs)))
 
 module _ (bs : List ℕ) (i : ℕ) (part : List ℕ) (h : i + length part ≤ length bs) where
   front_length : length (take i bs ++ part) ≡ i + length part

@@ -50,15 +50,11 @@ pub fn read_pair(bytes: &[u8], at: usize) -> Pair
 }
 
 // Four bytes written at a place.
-// kept: four stores, since by copy_from_slice the bytes go through memory and their places are compared first.
 pub fn write_four(bytes: &mut [u8], at: usize, a: u8, b: u8, c: u8, d: u8)
     requires { at + 4 ≤ length bytes.old }
     ensures { bytes.new ≡ written bytes.old at (a ∷ b ∷ c ∷ d ∷ []) }
 {
-    bytes[at] = a;
-    bytes[at + 1] = b;
-    bytes[at + 2] = c;
-    bytes[at + 3] = d;
+    bytes[at..at + 4].copy_from_slice(&[a, b, c, d]);
 }
 
 // A number of 32 bits written at a place.
