@@ -176,7 +176,7 @@ fn at_end(spot: Spot, lines: usize, long: usize) -> Result<(), Refusal>
 
 // The earliest fault of a text, or none with the count of its lines.
 // It looks at the bytes itself: `scan` is too big to be inlined, and its answer would go through memory.
-// kept: a turn passes a token.
+// kept: a while, since a turn passes a whole token, whose width is known only when it is read.
 pub fn check_text(text: &[u8]) -> TextCheck
     ensures { TextChecked text.now result }
 {

@@ -91,7 +91,7 @@ fn after_line(text: &[u8], at: usize) -> usize
 }
 
 // The place of the next letter that is in no range, or the text's end.
-// kept: a turn passes one byte, or a range of five.
+// kept: a while, since a turn passes one byte, or a range of five.
 pub fn next_word(text: &[u8], at: usize) -> usize
     ensures { PassesNames text.now at result × (result < length text.now → letter (byte text.now result) ≡ true) }
 {
@@ -124,7 +124,7 @@ fn head_of(name: &[u8], word: &[u8]) -> Head
 }
 
 // The number of the line that a name names, or the count of lines where it names none.
-// kept: a turn passes a line.
+// kept: a while, since a turn passes a whole line.
 pub fn line_of(text: &[u8], name: &[u8]) -> usize
     ensures { result ≡ index_of name.now (heads text.now) }
 {

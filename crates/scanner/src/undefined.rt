@@ -10,7 +10,7 @@ use crate::tokens::letters_from;
 use refusal::{Kind, Refusal};
 
 // Refuses the first name that no line defines, in a text of so many lines. Only the words are looked at.
-// kept: a turn passes a word and what is between it and the next.
+// kept: a while, since a turn passes a word and what is between it and the next.
 pub fn check_names(text: &[u8], lines: usize) -> Result<(), Refusal>
     requires { lines ≡ length (heads text.now) }
     ensures { result ≡ checked (first_undefined (heads text.now) (lexemes text.now)) }
