@@ -14,15 +14,14 @@ use scanner::undefined::check_names;
 pub fn read_lines(text: &[u8]) -> Result<ReadText, Refusal>
     ensures { TextRead text.now result }
 {
-    let check = check_text(text);
-    check.checked?;
-    check_names(text, check.lines)?;
+    let lines = check_text(text)?;
+    check_names(text, lines)?;
     let too_many = Refusal::new(Kind::TooManyRules, text.len());
     // each line needs a rule
-    if MAX_RULES < check.lines {
+    if MAX_RULES < lines {
         return Err(too_many);
     }
-    let Ok(read) = lines_at(text, 0, check.lines) else {
+    let Ok(read) = lines_at(text, 0, lines) else {
         return Err(too_many);
     };
     let bytes = read.rules.bytes;
@@ -32,7 +31,7 @@ pub fn read_lines(text: &[u8]) -> Result<ReadText, Refusal>
             bytes,
             length: RULE_BYTES * read.rules.next,
         },
-        lines: check.lines,
+        lines,
         ends,
     })
 }

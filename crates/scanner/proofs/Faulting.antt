@@ -163,15 +163,16 @@ module _ (text : List ℕ) where
   module _ (at : ℕ) (s : Spot) (lines : ℕ) (come : Checking text at s lines) where
     pub check_end :
         lexemes_at text at ≡ [] → (r : Result Unit Refusal) → ((ns : List (List ℕ)) → length ns ≡ lines → r ≡ checked (at_end ns s (length text))) →
-        TextChecked text (record { checked = r; lines = lines })
-    unfolding first_wrong heads_from
-    check_end e r is =
+        checked (fault text) ≡ r
+    unfolding first_wrong
+    check_end e r is = ap checked (come.first ∙ rw e) ∙ sym (is (take lines (heads text)) (length-take-le lines (heads text) come.there))
+
+    pub check_counted : lexemes_at text at ≡ [] → lines ≡ length (heads text)
+    unfolding heads_from
+    check_counted e =
         let none_left : drop lines (heads text) ≡ [] = come.left ∙ rw (tokens_end text at e) in
         let all : length (heads text) - lines ≡ 0 = sym (length-drop lines (heads text)) ∙ ap length none_left in
-        record {
-          first = is (take lines (heads text)) (length-take-le lines (heads text) come.there) ∙ ap checked (sym (come.first ∙ rw e));
-          counted = λ z. omega (arith, come.there);
-        }
+        omega (arith, come.there)
 
     module _ (o : ℕ) (skips : Skips text at o) (more : o < length text) (m : Moved) (moves : Moves text lines s o m) where
       first_token : lexemes_at text at ≡ record { offset = o; token = token_at (drop o text) } ∷ lexemes_at text m.next
@@ -181,15 +182,12 @@ module _ (text : List ℕ) where
       check_further =
           (omega (arith, skips.from, width_there text o more, moves.wide), omega (arith, width_within text o more, moves.wide))
 
-      pub check_wrong : (k : Kind) → m.step ≡ Err k → TextChecked text (record { checked = Err (refusal (number_of k) o); lines = lines })
+      pub check_wrong : (k : Kind) → m.step ≡ Err k → TextChecked text (Err (refusal (number_of k) o))
       unfolding next_of checked
       check_wrong k q =
           let e : next (take lines (heads text)) s (token_at (drop o text)) ≡ wrong (number_of k) = sym moves.led ∙ ap next_of q in
           let found : fault text ≡ refusal (number_of k) o = come.first ∙ rw first_token (fault_here _ s _ _ (length text) _ e) in
-          record {
-            first = rw (found, ne_eqb (number_of k) 0 (wrong_some _ s _ _ e));
-            counted = λ z. cc;
-          }
+          rw (found, ne_eqb (number_of k) 0 (wrong_some _ s _ _ e))
 
       pub check_next : (u : Code.Spot) → m.step ≡ Ok u → (b : ℕ) → b ≡ lines_begun s → Checking text m.next (spot_of u) (lines + b)
       unfolding next_of tokens

@@ -10,7 +10,7 @@ ghost use Rattle.scanner.specs.Code.Stepping.{spot_of, next_of, lines_begun, Mov
 
 use crate::names::FirstLines;
 use crate::tokens::{RANGE_BYTES, is_letter, letters_from, range_at, sign_of, skip};
-use crate::{MAX_DEPTH, Spot, TextCheck};
+use crate::{MAX_DEPTH, Spot};
 use refusal::{Kind, Refusal};
 use syntax::{Sign, Token};
 
@@ -174,10 +174,10 @@ fn at_end(spot: Spot, lines: usize, long: usize) -> Result<(), Refusal>
     }
 }
 
-// The earliest fault of a text, or none with the count of its lines.
+// The count of a text's lines, or its earliest fault.
 // It looks at the bytes itself: `scan` is too big to be inlined, and its answer would go through memory.
 // kept: a while, since a turn passes a whole token, whose width is known only when it is read.
-pub fn check_text(text: &[u8]) -> TextCheck
+pub fn check_text(text: &[u8]) -> Result<usize, Refusal>
     ensures { TextChecked text.now result }
 {
     let mut at: usize = 0;
@@ -197,11 +197,10 @@ pub fn check_text(text: &[u8]) -> TextCheck
                 at = moved.next;
             }
             Err(kind) => {
-                let checked = Err(Refusal::new(kind, offset));
-                return TextCheck { checked, lines };
+                return Err(Refusal::new(kind, offset));
             }
         }
     }
-    let checked = at_end(spot, lines, text.len());
-    TextCheck { checked, lines }
+    at_end(spot, lines, text.len())?;
+    Ok(lines)
 }

@@ -7,7 +7,6 @@ pub mod names;
 pub mod tokens;
 pub mod undefined;
 
-use refusal::Refusal;
 use syntax::Token;
 
 // The brackets that may be open at once.
@@ -35,11 +34,4 @@ pub enum Spot {
     AtLine,
     AtEquals,
     Inside(bool, usize),
-}
-
-// What the check of a text says, and the count of lines begun before the refusal, if there is one.
-#[derive(Clone, Copy)]
-pub struct TextCheck {
-    pub checked: Result<(), Refusal>,
-    pub lines: usize,
 }

@@ -1,6 +1,7 @@
 -- The check of a text as the code does it: what its spots and steps stand for, and what it answers. Assumes nothing: these are definitions.
 use Rattle.std.specs.Prelude.{Result, Ok, Err, ◌≡◌, Bool, true, false, cond, List, ℕ, ◌+◌, length, take, drop}
 use Rattle.refusal.specs.declared.Kind.{Kind}
+use Rattle.refusal.specs.declared.Refusal.{Refusal}
 use Rattle.refusal.specs.Kinds.{number_of}
 use Rattle.refusal.specs.Checking.{checked}
 use Rattle.syntax.specs.Tokens.{token_at, width_at}
@@ -8,7 +9,6 @@ use Rattle.syntax.specs.Faults.{Spot, at_line, at_equals, inside, Next, to, wron
 use Rattle.syntax.specs.Code.Heads.{heads}
 use Rattle.scanner.specs.declared.Spot as Code
 use Rattle.scanner.specs.declared.Spot.TheVariants.{AtLine, AtEquals, Inside}
-use Rattle.scanner.specs.declared.TextCheck.{TextCheck}
 use Rattle.scanner.specs.declared.faults.Moved.{Moved}
 
 -- the spot that the code's spot stands for, and what its step does
@@ -36,6 +36,6 @@ pub record Moves (text : List ℕ) (lines : ℕ) (s : Spot) (offset : ℕ) (m : 
   pub wide : m.next ≡ offset + width_at (drop offset text)
 
 -- THE ANSWER: the earliest fault of a text, and where there is none the count of its lines
-pub record TextChecked (text : List ℕ) (r : TextCheck) : Type 0 where
-  pub first : r.checked ≡ checked (fault text)
-  pub counted : r.checked ≡ Ok tt → r.lines ≡ length (heads text)
+abbrev pub TextChecked : (text : List ℕ) → Result ℕ Refusal → Type 0
+TextChecked text (Ok n) = (checked (fault text) ≡ Ok tt) × (n ≡ length (heads text))
+TextChecked text (Err f) = checked (fault text) ≡ Err f

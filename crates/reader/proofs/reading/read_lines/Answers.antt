@@ -1,6 +1,6 @@
 -- `reader::reading::read_lines` meets its contract: the checks in their order, then the grammar. Assumes nothing.
 -- What refuses too many lines is found by refusal_laws, and where lines are read no answer names the checks before: one that is turned round is refused at a goal that is then false.
-use mathlib.Core.Path.{◌≡◌, refl, sym, ◌∙◌}
+use mathlib.Core.Path.{◌≡◌, refl, sym}
 use native.Mathlib.Omega.{arith}
 use Rattle.std.specs.Prelude.{Ok}
 use Rattle.refusal.specs.Checking.{checked}
@@ -9,8 +9,8 @@ use Rattle.syntax.specs.Faults.{fault}
 use Rattle.reader.proofs.ReadRight.{undefined_name, fault_handed, undefined_handed, many_rules_text, read_next, read_grammar}
 use Rattle.reader.proofs.reading.read_lines.Goals as goal
 
-pub returns-in_err-check : goal.returns-in_err-check
-returns-in_err-check c = fault_handed _ _ _ c.from_residual.ensures.1 (sym c.check_text-check.ensures.first ∙ c.in_err-check.was)
+pub returns-in_err-lines : goal.returns-in_err-lines
+returns-in_err-lines c = fault_handed _ _ _ c.from_residual.ensures.1 c.in_err-lines.ensures
 
 pub returns-in_err-check_names : goal.returns-in_err-check_names
 returns-in_err-check_names c =
