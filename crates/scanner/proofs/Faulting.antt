@@ -14,10 +14,9 @@ use Rattle.refusal.specs.declared.Refusal.{Refusal}
 use Rattle.refusal.specs.First.{refusal}
 use Rattle.syntax.specs.declared.Sign.{Sign}
 use Rattle.syntax.specs.declared.Sign.TheVariants.{Operand, Before, After, Slash, Opening, Closing, Equals, Semicolon}
-use Rattle.syntax.specs.Tokens.{Token, name, sign, range, unknown, Lexeme, token_at, lexemes, tokens, is_semicolon, ends_line}
+use Rattle.syntax.specs.Tokens.{Token, name, sign, range, unknown, Lexeme, token_at, width_at, lexemes, tokens, is_semicolon, ends_line}
 use Rattle.syntax.specs.Faults.{Spot, at_line, at_equals, inside, Next, to, wrong, to_if, by_sign, is_equals, not_in, next, name_of, defined_after, at_end, first_wrong, fault}
 use Rattle.syntax.specs.Code.Heads.{head_of, heads_from, heads}
-use Rattle.scanner.specs.declared.Spot as Code
 use Rattle.std.specs.Prelude.{Result, Ok, Err}
 use Rattle.refusal.specs.declared.Kind.{Kind}
 use Rattle.refusal.specs.Kinds.{number_of}
@@ -174,32 +173,36 @@ module _ (text : List ℕ) where
         let all : length (heads text) - lines ≡ 0 = sym (length-drop lines (heads text)) ∙ ap length none_left in
         omega (arith, come.there)
 
-    module _ (o : ℕ) (skips : Skips text at o) (more : o < length text) (m : Moved) (moves : Moves text lines s o m) where
-      first_token : lexemes_at text at ≡ record { offset = o; token = token_at (drop o text) } ∷ lexemes_at text m.next
-      first_token = skips.rest ∙ lexemes_token text o more (skips.stops more) ∙ rw moves.wide
+    module _ (o : ℕ) (skips : Skips text at o) (more : o < length text) where
+      first_token : lexemes_at text at ≡ record { offset = o; token = token_at (drop o text) } ∷ lexemes_at text (o + width_at (drop o text))
+      first_token = skips.rest ∙ lexemes_token text o more (skips.stops more)
 
-      pub check_further : (at < m.next) × (m.next ≤ length text)
-      check_further =
-          (omega (arith, skips.from, width_there text o more, moves.wide), omega (arith, width_within text o more, moves.wide))
-
-      pub check_wrong : (k : Kind) → m.step ≡ Err k → TextChecked text (Err (refusal (number_of k) o))
+      pub check_wrong : (k : Kind) → Moves text lines s o (Err k) → TextChecked text (Err (refusal (number_of k) o))
       unfolding next_of checked
-      check_wrong k q =
-          let e : next (take lines (heads text)) s (token_at (drop o text)) ≡ wrong (number_of k) = sym moves.led ∙ ap next_of q in
+      check_wrong k led =
+          let e : next (take lines (heads text)) s (token_at (drop o text)) ≡ wrong (number_of k) = sym led in
           let found : fault text ≡ refusal (number_of k) o = come.first ∙ rw first_token (fault_here _ s _ _ (length text) _ e) in
           rw (found, ne_eqb (number_of k) 0 (wrong_some _ s _ _ e))
 
-      pub check_next : (u : Code.Spot) → m.step ≡ Ok u → (b : ℕ) → b ≡ lines_begun s → Checking text m.next (spot_of u) (lines + b)
-      unfolding next_of tokens
-      check_next u p b q =
-          let e : next (take lines (heads text)) s (token_at (drop o text)) ≡ to (spot_of u) = sym moves.led ∙ ap next_of p in
-          let passed : drop lines (heads text) ≡ heads_from (begins s) (token_at (drop o text) ∷ tokens_at text m.next) =
-          come.left ∙ rw first_token
-          in
-          let a = advance (heads text) lines s _ _ (spot_of u) e come.there passed in
-          rw q (record {
-            there = a.there;
-            left = a.after ∙ ap (λ (t : Bool). heads_from t (tokens_at text m.next)) (begins_next _ s _ (spot_of u) e);
-            first = come.first ∙ rw (first_token, a.taken) (fault_later _ s _ _ (length text) (spot_of u) e);
-            few = omega (arith, come.few, check_further.0, few_begun s);
-          })
+      module _ (m : Moved) (moves : Moves text lines s o (Ok m)) where
+        pub check_further : (at < m.next) × (m.next ≤ length text)
+        check_further =
+            (omega (arith, skips.from, width_there text o more, moves.1), omega (arith, width_within text o more, moves.1))
+
+        token_then : lexemes_at text at ≡ record { offset = o; token = token_at (drop o text) } ∷ lexemes_at text m.next
+        token_then = first_token ∙ rw moves.1
+
+        pub check_next : (b : ℕ) → b ≡ lines_begun s → Checking text m.next (spot_of m.spot) (lines + b)
+        unfolding next_of tokens
+        check_next b q =
+            let e : next (take lines (heads text)) s (token_at (drop o text)) ≡ to (spot_of m.spot) = sym moves.0 in
+            let passed : drop lines (heads text) ≡ heads_from (begins s) (token_at (drop o text) ∷ tokens_at text m.next) =
+            come.left ∙ rw token_then
+            in
+            let a = advance (heads text) lines s _ _ (spot_of m.spot) e come.there passed in
+            rw q (record {
+              there = a.there;
+              left = a.after ∙ ap (λ (t : Bool). heads_from t (tokens_at text m.next)) (begins_next _ s _ (spot_of m.spot) e);
+              first = come.first ∙ rw (token_then, a.taken) (fault_later _ s _ _ (length text) (spot_of m.spot) e);
+              few = omega (arith, come.few, check_further.0, few_begun s);
+            })

@@ -5,12 +5,13 @@ use mathlib.Core.List.{List}
 use Prim.Native.Nat.{ℕ, ◌+◌}
 use lib.ListN.{length, take, drop}
 use Rattle.codec.specs.Bytes.{byte}
-use Rattle.syntax.specs.Tokens.{Token, name, sign, range, unknown, letter, letters, word, sign_of, range_there}
+use Rattle.syntax.specs.Tokens.{Token, name, sign, range, unknown, letter, letters, word, sign_of, range_there, token_at, width_at}
 use Rattle.syntax.specs.Faults.{Spot, at_line, at_equals, inside, Next, to, wrong, to_if, by_sign, is_equals, undefined_in, next}
 use Rattle.syntax.specs.Code.Heads.{heads}
-use Rattle.std.specs.Prelude.{Result}
+use Rattle.std.specs.Prelude.{Result, Ok, Err}
 use Rattle.refusal.specs.declared.Kind.{Kind}
 use Rattle.scanner.specs.declared.Spot as Code
+use Rattle.scanner.specs.declared.faults.Moved.{Moved}
 use Rattle.syntax.specs.declared.Token as CodeToken
 use Rattle.syntax.specs.declared.Token.TheVariants.{Name, Sign, Range, Unknown}
 use Rattle.scanner.specs.Code.Scanning.{token_of, equals}
@@ -61,25 +62,36 @@ pub line_byte : (ns : List (List ℕ)) (b : ℕ) → next ns at_line (sign_of b)
 line_byte ns b = other_wrong ns (no_name b)
 
 -- THE STEP AT A PLACE: of a word, of a range, of any other byte
-module _ (text : List ℕ) (lines : ℕ) (s : Spot) (o : ℕ) (r : Result Code.Spot Kind) where
+abbrev pub moved_to : Result Code.Spot Kind → (next : ℕ) → Result Moved Kind
+moved_to (Ok u) n = Ok (record { spot = u; next = n })
+moved_to (Err k) n = Err k
+
+module _ (text : List ℕ) (lines : ℕ) (s : Spot) (o : ℕ) where
+  move_by :
+      (r : Result Code.Spot Kind) (t : Token) (w : ℕ) → next_of r ≡ next (take lines (heads text)) s t → token_at (drop o text) ≡ t →
+      width_at (drop o text) ≡ w → Moves text lines s o (moved_to r (o + w))
+  move_by (Ok u) t w is token wide =
+      (is ∙ ap (next (take lines (heads text)) s) (sym token), ap (λ (n : ℕ). o + n) (sym wide))
+  move_by (Err k) t w is token wide = is ∙ ap (next (take lines (heads text)) s) (sym token)
+
   pub move_word :
       true ≡ letter (byte text o) → (w : List ℕ) → w ≡ letters (drop o text) →
-      next_of r ≡ next (take lines (heads text)) s (word w) → Moves text lines s o (record { step = r; next = o + length w })
-  move_word e w q is =
+      (r : Result Code.Spot Kind) → next_of r ≡ next (take lines (heads text)) s (word w) → Moves text lines s o (moved_to r (o + length w))
+  move_word e w q r is =
       let there = word_there text o w e q in
-      record { led = is ∙ ap (next (take lines (heads text)) s) (sym there.0); wide = ap (λ (n : ℕ). o + n) (sym there.1) }
+      move_by r _ _ is there.0 there.1
 
   module _ (other : false ≡ letter (byte text o)) where
     pub move_range :
-        true ≡ range_there (drop o text) → ((ns : List (List ℕ)) (low high : ℕ) → next_of r ≡ next ns s (range low high)) →
-        Moves text lines s o (record { step = r; next = o + 5 })
-    move_range e is =
+        true ≡ range_there (drop o text) → (r : Result Code.Spot Kind) →
+        ((ns : List (List ℕ)) (low high : ℕ) → next_of r ≡ next ns s (range low high)) → Moves text lines s o (moved_to r (o + 5))
+    move_range e r is =
         let there = range_token text o other e in
-        record { led = is _ _ _ ∙ ap (next (take lines (heads text)) s) (sym there.0); wide = ap (λ (n : ℕ). o + n) (sym there.1) }
+        move_by r _ _ (is _ _ _) there.0 there.1
 
     pub move_sign :
-        false ≡ range_there (drop o text) → ((ns : List (List ℕ)) → next_of r ≡ next ns s (sign_of (byte text o))) →
-        Moves text lines s o (record { step = r; next = o + 1 })
-    move_sign e is =
+        false ≡ range_there (drop o text) → (r : Result Code.Spot Kind) →
+        ((ns : List (List ℕ)) → next_of r ≡ next ns s (sign_of (byte text o))) → Moves text lines s o (moved_to r (o + 1))
+    move_sign e r is =
         let there = sign_token text o other e in
-        record { led = is _ ∙ ap (next (take lines (heads text)) s) (sym there.0); wide = ap (λ (n : ℕ). o + n) (sym there.1) }
+        move_by r _ _ (is _) there.0 there.1

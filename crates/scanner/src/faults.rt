@@ -14,10 +14,10 @@ use crate::{MAX_DEPTH, Spot};
 use refusal::{Kind, Refusal};
 use syntax::{Sign, Token};
 
-// What a token leads to, another spot or a refusal, and the place after it.
+// The spot that a token leads to, and the place after it.
 #[derive(Clone, Copy)]
 pub struct Moved {
-    pub step: Result<Spot, Kind>,
+    pub spot: Spot,
     pub next: usize,
 }
 
@@ -126,7 +126,7 @@ fn by_byte(spot: Spot, byte: u8) -> Result<Spot, Kind>
 }
 
 // What the token at a place leads to, after the first lines, and the place after it.
-fn step_at(first: FirstLines<'_>, spot: Spot, offset: usize) -> Moved
+fn step_at(first: FirstLines<'_>, spot: Spot, offset: usize) -> Result<Moved, Kind>
     requires { offset < length first.text.now }
     ensures { Moves first.entry.text.now first.entry.count (spot_of spot) offset result }
 {
@@ -134,24 +134,24 @@ fn step_at(first: FirstLines<'_>, spot: Spot, offset: usize) -> Moved
     let byte = text[offset];
     if is_letter(byte) {
         let word = letters_from(text, offset);
-        let step = by_word(first, spot, word);
-        return Moved {
-            step,
+        let after = by_word(first, spot, word)?;
+        return Ok(Moved {
+            spot: after,
             next: offset + word.len(),
-        };
+        });
     }
     if range_at(text, offset) {
-        let step = by_range(spot);
-        return Moved {
-            step,
+        let after = by_range(spot)?;
+        return Ok(Moved {
+            spot: after,
             next: offset + RANGE_BYTES,
-        };
+        });
     }
-    let step = by_byte(spot, byte);
-    Moved {
-        step,
+    let after = by_byte(spot, byte)?;
+    Ok(Moved {
+        spot: after,
         next: offset + 1,
-    }
+    })
 }
 
 // How many lines a token begins that is not wrong.
@@ -189,11 +189,10 @@ pub fn check_text(text: &[u8]) -> Result<usize, Refusal>
             break;
         }
         let first = FirstLines { text, count: lines };
-        let moved = step_at(first, spot, offset);
-        match moved.step {
-            Ok(after) => {
+        match step_at(first, spot, offset) {
+            Ok(moved) => {
                 lines += begun(spot);
-                spot = after;
+                spot = moved.spot;
                 at = moved.next;
             }
             Err(kind) => {

@@ -31,9 +31,12 @@ unfoldable pub lines_begun : Spot → ℕ
 lines_begun s = cond (begins s) 1 0
 
 -- the step that the token at a place leads to, after so many lines, and the place after the token
-pub record Moves (text : List ℕ) (lines : ℕ) (s : Spot) (offset : ℕ) (m : Moved) : Type 0 where
-  pub led : next_of m.step ≡ next (take lines (heads text)) s (token_at (drop offset text))
-  pub wide : m.next ≡ offset + width_at (drop offset text)
+abbrev pub Led : (text : List ℕ) → (lines : ℕ) → Spot → (offset : ℕ) → Result Code.Spot Kind → Type 0
+Led text lines s o r = next_of r ≡ next (take lines (heads text)) s (token_at (drop o text))
+
+abbrev pub Moves : (text : List ℕ) → (lines : ℕ) → Spot → (offset : ℕ) → Result Moved Kind → Type 0
+Moves text lines s o (Ok m) = Led text lines s o (Ok m.spot) × (m.next ≡ o + width_at (drop o text))
+Moves text lines s o (Err k) = Led text lines s o (Err k)
 
 -- THE ANSWER: the earliest fault of a text, and where there is none the count of its lines
 abbrev pub TextChecked : (text : List ℕ) → Result ℕ Refusal → Type 0

@@ -19,18 +19,17 @@ overflow_add-lines c =
 
 pub loop-at-smaller : goal.loop-at-smaller
 loop-at-smaller c =
-    let further = check_further _ _ _ _ c.loop-at.invariant _ c.skip-offset.ensures c.if-text-offset.false _ c.step_at-moved.ensures in
+    let further = check_further _ _ _ _ c.loop-at.invariant _ c.skip-offset.ensures c.if-text-offset.false _ c.in-Ok.ensures in
     omega (arith, further.0, further.1)
 
 pub loop-at-preserved : goal.loop-at-preserved
 loop-at-preserved c =
-    check_next _ _ _ _ c.loop-at.invariant _ c.skip-offset.ensures c.if-text-offset.false _ c.step_at-moved.ensures _ c.in-Ok.is _
-    c.begun-lines.ensures
+    check_next _ _ _ _ c.loop-at.invariant _ c.skip-offset.ensures c.if-text-offset.false _ c.in-Ok.ensures _ c.begun-lines.ensures
 
 pub returns-in-Err : goal.returns-in-Err
 returns-in-Err c =
     rw c.new.ensures
-    (check_wrong _ _ _ _ c.loop-at.invariant _ c.skip-offset.ensures c.if-text-offset.false _ c.step_at-moved.ensures _ c.in-Err.is)
+    (check_wrong _ _ _ _ c.loop-at.invariant _ c.skip-offset.ensures c.if-text-offset.false _ c.in-Err.ensures)
 
 pub returns-in_err-at_end : goal.returns-in_err-at_end
 returns-in_err-at_end c =
