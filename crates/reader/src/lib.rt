@@ -13,6 +13,7 @@ use expressions::Rules;
 pub const MAX_RULES: usize = 31;
 
 // The lines of a text, read into rules, and for each line the number after its last helper rule.
+// kept: no heap, so the numbers are an array for the most lines, of which the first ones count.
 #[derive(Clone, Copy)]
 pub struct Lines {
     pub rules: Rules,
