@@ -162,16 +162,15 @@ module _ (text : List ℕ) where
   module _ (at : ℕ) (s : Spot) (lines : ℕ) (come : Checking text at s lines) where
     pub check_end :
         lexemes_at text at ≡ [] → (r : Result Unit Refusal) → ((ns : List (List ℕ)) → length ns ≡ lines → r ≡ checked (at_end ns s (length text))) →
-        checked (fault text) ≡ r
-    unfolding first_wrong
-    check_end e r is = ap checked (come.first ∙ rw e) ∙ sym (is (take lines (heads text)) (length-take-le lines (heads text) come.there))
-
-    pub check_counted : lexemes_at text at ≡ [] → lines ≡ length (heads text)
-    unfolding heads_from
-    check_counted e =
+        (checked (fault text) ≡ r) × (lines ≡ length (heads text))
+    unfolding first_wrong heads_from
+    check_end e r is =
         let none_left : drop lines (heads text) ≡ [] = come.left ∙ rw (tokens_end text at e) in
         let all : length (heads text) - lines ≡ 0 = sym (length-drop lines (heads text)) ∙ ap length none_left in
-        omega (arith, come.there)
+        (
+          ap checked (come.first ∙ rw e) ∙ sym (is (take lines (heads text)) (length-take-le lines (heads text) come.there)),
+          omega (arith, come.there),
+        )
 
     module _ (o : ℕ) (skips : Skips text at o) (more : o < length text) where
       first_token : lexemes_at text at ≡ record { offset = o; token = token_at (drop o text) } ∷ lexemes_at text (o + width_at (drop o text))

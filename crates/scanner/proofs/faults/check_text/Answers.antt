@@ -1,12 +1,10 @@
 -- `scanner::faults::check_text` meets its contract: the loop's invariant says that the tokens left decide. Assumes nothing.
-use mathlib.Core.Path.{◌≡◌, ◌∙◌}
-use mathlib.Core.List.{[]}
+use mathlib.Core.Path.{◌∙◌}
 use native.Mathlib.Omega.{arith}
 use Rattle.std.proofs.lemmas.Result.{err_from_is_err_and}
-use Rattle.scanner.specs.Code.Scanning.{lexemes_at}
 use Rattle.scanner.specs.Code.Stepping.{spot_of}
 use Rattle.scanner.proofs.Lexing.{lexemes_end}
-use Rattle.scanner.proofs.Faulting.{check_start, check_end, check_counted, check_further, check_wrong, check_next, begun_few}
+use Rattle.scanner.proofs.Faulting.{check_start, check_end, check_further, check_wrong, check_next, begun_few}
 use Rattle.scanner.proofs.faults.check_text.Goals as goal
 
 pub loop-at-init : goal.loop-at-init
@@ -33,17 +31,20 @@ returns-in-Err c =
 
 pub returns-in_err-at_end : goal.returns-in_err-at_end
 returns-in_err-at_end c =
-    let none_left : lexemes_at c.args.text.now c.loop-at.at ≡ [] = elim c.loop-at-test.branch [
+    let p = err_from_is_err_and c.from_residual.result c.from_residual.ensures.1 in
+    rw (p.1, p.2)
+    (check_end _ _ _ _ c.loop-at.invariant
+    (elim c.loop-at-test.branch [
       | goal.else-loop-at-test w ↦ lexemes_end _ _ w.loop-at-test.false
       | goal.then-loop-at-test+then-text-offset w ↦ w.skip-offset.ensures.rest ∙ lexemes_end _ _ w.if-text-offset.true
-    ] in
-    let p = err_from_is_err_and c.from_residual.result c.from_residual.ensures.1 in
-    rw (p.1, p.2) (check_end _ _ _ _ c.loop-at.invariant none_left _ c.in_err-at_end.ensures)
+    ])
+    _ c.in_err-at_end.ensures).0
 
 pub returns : goal.returns
 returns c =
-    let none_left : lexemes_at c.args.text.now c.loop-at.at ≡ [] = elim c.loop-at-test.branch [
+    check_end _ _ _ _ c.loop-at.invariant
+    (elim c.loop-at-test.branch [
       | goal.else-loop-at-test w ↦ lexemes_end _ _ w.loop-at-test.false
       | goal.then-loop-at-test+then-text-offset w ↦ w.skip-offset.ensures.rest ∙ lexemes_end _ _ w.if-text-offset.true
-    ] in
-    (check_end _ _ _ _ c.loop-at.invariant none_left _ c.in_ok-at_end.ensures, check_counted _ _ _ _ c.loop-at.invariant none_left)
+    ])
+    _ c.in_ok-at_end.ensures
