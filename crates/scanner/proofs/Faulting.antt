@@ -166,8 +166,7 @@ module _ (text : List ℕ) where
     unfolding first_wrong heads_from
     check_end e r is =
         let none_left : drop lines (heads text) ≡ [] = come.left ∙ rw (tokens_end text at e) in
-        let all : length (heads text) - lines ≡ 0 = sym (length-drop lines (heads text)) ∙ ap length none_left in
-        (
+        let all : length (heads text) - lines ≡ 0 = sym (length-drop lines (heads text)) ∙ ap length none_left in (
           ap checked (come.first ∙ rw e) ∙ sym (is (take lines (heads text)) (length-take-le lines (heads text) come.there)),
           omega (arith, come.there),
         )
