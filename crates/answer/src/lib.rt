@@ -64,6 +64,6 @@ pub fn answer(
 {
     match judge_input(input, image, notes, work) {
         Ok(j) => put_answer(out, j.verdict, j.readings, j.end),
-        Err(refusal) => put_refusal(out, refusal),
+        Err(refusal) => put_refusal(out, refusal.number(), refusal.place()),
     }
 }

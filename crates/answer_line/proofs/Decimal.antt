@@ -1,16 +1,15 @@
 -- A number's digits are those of its tenth and then its last one, and a small number has few. Assumes nothing.
-use mathlib.Core.Path.{◌≡◌, refl, sym, ap, ◌∙◌, subst, subst⁻¹}
+use mathlib.Core.Path.{◌≡◌, refl, sym, ap, ◌∙◌, subst⁻¹}
 use mathlib.Core.Bool.{Bool, true, false, cond}
 use mathlib.Core.List.{List, [], ◌∷◌, ◌++◌}
-use Prim.Native.Nat.{ℕ, zero, suc, ◌/◌, ◌%◌, ◌^◌, ◌≤◌, ◌<◌}
-use native.Mathlib.Nat.{not-suc-le-zero}
+use Prim.Native.Nat.{ℕ, zero, suc, ◌+◌, ◌/◌, ◌%◌, ◌^◌, ◌≤◌, ◌<◌}
+use native.Mathlib.Nat.{not-suc-le-zero, pow-succ'}
+use native.Mathlib.Decide.{dec_lt}
 use native.Mathlib.Omega.{arith}
 use lib.Dec.{ltb}
-use lib.ListN.{length}
+use lib.ListN.{length, length-append}
 use borrow.Author.Tests.{lt-ltb, le-ltb, ltb-false}
 use Rattle.answer_line.specs.Line.{digit, digits, decimal}
-use Rattle.std.specs.Fmt as Fmt
-use Rattle.std.proofs.lemmas.Fmt.{decimal_by_steps, length-decimal-le}
 use Rattle.answer_line.specs.declared.Line.{Line}
 use Rattle.answer_line.specs.Code.Writing.{Writes}
 use Rattle.answer_line.proofs.Writing.{write_both}
@@ -54,13 +53,21 @@ one_digit n {x} {y} h f = subst⁻¹ (λ (l : List ℕ). Writes l x y) (decimal_
 pub more_digits : (n : ℕ) {x y z : Line} → 10 ≤ n → Writes (decimal (n / 10)) x y → Writes (digit (n % 10) ∷ []) y z → Writes (decimal n) x z
 more_digits n {x} {z = z} h f g = subst⁻¹ (λ (l : List ℕ). Writes l x z) (decimal_more n h) (write_both f g)
 
--- the library writes a number so too, and says how many digits it has at most
-decimal_is : (n : ℕ) → n < 2 ^ 64 → Fmt.decimal n ≡ decimal n
-decimal_is =
-    decimal_by_steps
-    (λ n ds. ds ≡ decimal n)
-    (λ n h. let same : n ≡ n % 10 = omega arith in ap (λ (d : ℕ). digit d ∷ []) same ∙ sym (decimal_last n h))
-    (λ n ds h e. ap (λ (r : List ℕ). r ++ (digit (n % 10) ∷ [])) e ∙ sym (decimal_more n h))
+-- how many digits a number has at most
+decimal_one_long : (n : ℕ) → n < 10 → length (decimal n) ≡ 1
+decimal_one_long n h = rw (decimal_last n h) refl
 
-pub decimal_long : (k n : ℕ) → 0 < k → n < 10 ^ k → n < 2 ^ 64 → length (decimal n) ≤ k
-decimal_long k n some small h = subst (λ (l : List ℕ). length l ≤ k) (decimal_is n h) (length-decimal-le k n some small h)
+decimal_more_long : (n : ℕ) → 10 ≤ n → length (decimal n) ≡ length (decimal (n / 10)) + 1
+decimal_more_long n h = rw (decimal_more n h) (length-append (decimal (n / 10)) (digit (n % 10) ∷ []))
+
+pub decimal_long : (k n : ℕ) → n < 10 ^ suc k → length (decimal n) ≤ suc k
+decimal_long zero n h =
+    let small : n < 10 = h in
+    omega (arith, decimal_one_long n small)
+decimal_long (suc k) n h = go (dec_lt n 10) (decimal_long k (n / 10))
+  where
+    go : Dec (n < 10) → (n / 10 < 10 ^ suc k → length (decimal (n / 10)) ≤ suc k) → length (decimal n) ≤ suc (suc k)
+    go (yes small) fewer = omega (arith, decimal_one_long n small)
+    go (no big) fewer =
+        let tenth : n / 10 < 10 ^ suc k = omega (arith, pow-succ' 10 (suc k)) in
+        omega (arith, decimal_more_long n (omega arith), fewer tenth)

@@ -29,10 +29,10 @@ field_long n = refl
 
 -- a number of 32 bits has ten digits at most, one of 64 twenty
 field_32 : {n : ℕ} → n < 2 ^ 32 → Long (field n) 11
-field_32 {n} h = record { most = omega (arith, field_long n, decimal_long 10 n (lit< tt) (lt_of_lt_of_le h (lit≤ tt)) (lt_of_lt_of_le h (lit≤ tt))) }
+field_32 {n} h = record { most = omega (arith, field_long n, decimal_long 9 n (lt_of_lt_of_le h (lit≤ tt))) }
 
 field_64 : {n : ℕ} → n < 2 ^ 64 → Long (field n) 21
-field_64 {n} h = record { most = omega (arith, field_long n, decimal_long 20 n (lit< tt) (lt_of_lt_of_le h (lit≤ tt)) h) }
+field_64 {n} h = record { most = omega (arith, field_long n, decimal_long 19 n (lt_of_lt_of_le h (lit≤ tt))) }
 
 word_long : (v : Verdict) → Long (verdict_word v) 8
 unfolding verdict_word

@@ -3,6 +3,7 @@
 
 ghost use Rattle.std.specs.Prelude.{◌≡◌, ◌<◌, ◌^◌, ◌∷◌, ◌++◌, []};
 ghost use Rattle.answer_line.specs.Line.{Lined, line_feed, decimal, field, refused_word, verdict_word, refusal_line, recursion_line, passes_line, answer_line};
+ghost use Rattle.refusal.specs.First.{refusal};
 ghost use Rattle.answer_line.specs.Code.Writing.{Writes, WritesConfig};
 
 use machine::{Config, Verdict};
@@ -63,13 +64,12 @@ impl Line<'_> {
     }
 
     // A refusal: the word, its number and its place.
-    fn refusal(&mut self, refusal: Refusal)
-        ensures writes { Writes (refused_word ++ field refusal.number ++ field refusal.place) self.old self.new }
-        ensures few { (refusal.number < 2 ^ 32) × (refusal.place < 2 ^ 64) }
+    fn refusal(&mut self, number: u32, place: usize)
+        ensures { Writes (refused_word ++ field number ++ field place) self.old self.new }
     {
         self.word(b"refused");
-        self.field(u64::from(refusal.number()));
-        self.field(refusal.place() as u64);
+        self.field(u64::from(number));
+        self.field(place as u64);
     }
 
     // Ends the line, and answers how many bytes of it are in the buffer.
@@ -96,12 +96,12 @@ fn word_of(verdict: Verdict) -> &'static [u8]
     }
 }
 
-// The line of a refusal.
-pub fn put_refusal(out: &mut [u8], refusal: Refusal) -> usize
-    ensures { Lined (refusal_line refusal) out.old out.new result }
+// The line of a refusal, by any number.
+pub fn put_refusal(out: &mut [u8], number: u32, place: usize) -> usize
+    ensures { Lined (refusal_line (refusal number place)) out.old out.new result }
 {
     let mut line = Line { out, at: 0 };
-    line.refusal(refusal);
+    line.refusal(number, place);
     line.finish()
 }
 
@@ -110,7 +110,8 @@ pub fn put_recursion(out: &mut [u8], rule: usize, name: usize) -> usize
     ensures { Lined (recursion_line rule name) out.old out.new result }
 {
     let mut line = Line { out, at: 0 };
-    line.refusal(Refusal::new(Kind::LeftRecursion, rule));
+    let refusal = Refusal::new(Kind::LeftRecursion, rule);
+    line.refusal(refusal.number(), refusal.place());
     line.field(name as u64);
     line.finish()
 }

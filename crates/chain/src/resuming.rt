@@ -9,6 +9,20 @@ use crate::{Environment, Mode, Registers};
 use image::lookup;
 use machine::{Action, Config, Termination, Verdict};
 
+// The same registers, part by part: handed on whole, they would be copied at every step.
+pub fn unmoved(r: Registers) -> Registers
+    ensures { result ≡ r }
+{
+    Registers {
+        mode: r.mode,
+        at: r.at,
+        number: r.number,
+        pushed: r.pushed,
+        depth: r.depth,
+        readings: r.readings,
+    }
+}
+
 // The terminator r.at popped an entry: the newest open configuration, whose symbol its note tells, resumes with this state and head; with none open the run is over.
 pub fn after_pop(
     e: Environment,
@@ -65,7 +79,7 @@ pub fn resumed(
     ensures { result ≡ Step.resumed e r d action pointer depth work.now }
 {
     match action {
-        Action::Stop(_) | Action::Change(_) | Action::Push(_) => r,
+        Action::Stop(_) | Action::Change(_) | Action::Push(_) => unmoved(r),
         Action::Pop { state, returns } => {
             let from = Registers {
                 at: d,

@@ -8,7 +8,7 @@ ghost use Rattle.chain.specs.Code.StepParts.{cleared_with, Openable, Poppable, F
 
 use crate::cells::{OPEN_BIT, head_told, open_note};
 use crate::numbers::{config_from, moved_number, row_of};
-use crate::resuming::{after_pop, resumed};
+use crate::resuming::{after_pop, resumed, unmoved};
 use crate::{Environment, Mode, Registers};
 use image::lookup;
 use machine::{Action, Config, Verdict};
@@ -227,6 +227,6 @@ pub fn step(
         Mode::Look => look(image, capture, e, r, notes, work),
         Mode::Unwind => unwind(image, capture, e, r, notes, work),
         Mode::Clear(verdict) => clear(r, verdict, notes, work),
-        Mode::Done(_) => r,
+        Mode::Done(_) => unmoved(r),
     }
 }

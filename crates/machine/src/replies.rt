@@ -1,6 +1,7 @@
 // An answer by numbers: a verdict's number, and the replies of refused and answered calls.
 ghost use Rattle.std.specs.Prelude.{◌≡◌};
 ghost use Rattle.machine.specs.Replies.{verdict_number, refusal_reply, answer_reply, count_reply, reply_by};
+ghost use Rattle.refusal.specs.First.{refusal};
 
 use crate::{Config, Reply, Verdict};
 use refusal::Refusal;
@@ -58,11 +59,7 @@ impl Answer for Refusal {
     ghost told = { λ f. refusal_reply f };
 
     fn reply(self) -> Reply {
-        Reply {
-            refusal: self.number(),
-            place: self.place(),
-            ..Reply::default()
-        }
+        Reply::refused(self.number(), self.place())
     }
 }
 
@@ -80,6 +77,17 @@ impl<A: Answer, E: Answer> Answer for Result<A, E> {
 }
 
 impl Reply {
+    // The reply of a refused call, by any number.
+    pub fn refused(number: u32, place: usize) -> Reply
+        ensures { result ≡ refusal_reply (refusal number place) }
+    {
+        Reply {
+            refusal: number,
+            place,
+            ..Reply::default()
+        }
+    }
+
     // The reply of a call that was answered.
     pub fn answered(verdict: u32, count: usize, end: Config) -> Reply
         ensures { result ≡ answer_reply verdict count end }

@@ -31,7 +31,7 @@ fn refused(refusal: Refusal) -> Output
     ensures { Holds result (refusal_line refusal) }
 {
     let mut bytes = [0u8; 124];
-    let length = put_refusal(&mut bytes, refusal);
+    let length = put_refusal(&mut bytes, refusal.number(), refusal.place());
     Output { bytes, length }
 }
 
@@ -56,7 +56,7 @@ fn put_fault(out: &mut [u8], fault: RecursionFault) -> usize
     ensures { Lined (check_line (Err fault)) out.old out.new result }
 {
     match fault {
-        RecursionFault::Refused(refusal) => put_refusal(out, refusal),
+        RecursionFault::Refused(refusal) => put_refusal(out, refusal.number(), refusal.place()),
         RecursionFault::Recursive { rule, name } => put_recursion(out, rule, name),
     }
 }

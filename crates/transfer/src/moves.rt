@@ -1,7 +1,7 @@
 // Moving bytes call by call, from a reader into its buffer or from a line into its writer.
-ghost use Rattle.std.specs.Prelude.{◌≡◌, ◌≤◌, ◌<◌, ◌+◌, ◌↔◌, ℕ, length, take, IsTrue, IfOk, refl, ⊤};
+ghost use Rattle.std.specs.Prelude.{◌≡◌, ◌≤◌, ◌<◌, ◌+◌, ◌↔◌, ℕ, length, take, IsTrue, IsSome, IfOk, refl, ⊤};
 ghost use Rattle.std.specs.Io.KnownBytes.{Appends, Consumes, IsAtEnd};
-ghost use Rattle.std.specs.IoError.{error_kind};
+ghost use Rattle.std.specs.IoError.{error_kind, raw_os_error};
 ghost use Rattle.std.proofs.KnownBytes.{Appends-nil, Consumes-nil};
 ghost use Rattle.transfer.specs.Transfers.{with_moved, Stopped};
 
@@ -90,11 +90,11 @@ impl<W: Write> Moves for Writing<'_, W> {
     }
 }
 
-// Whether a signal came before the call moved anything.
+// Whether a signal came before the call moved anything. An error of that kind without errno's number is not the system's, and a failure.
 fn is_interrupted(error: &io::Error) -> bool
-    ensures { IsTrue result ↔ (error_kind error.now ≡ ErrorKind.Interrupted) }
+    ensures { IsTrue result ↔ ((error_kind error.now ≡ ErrorKind.Interrupted) × IsSome (raw_os_error error.now)) }
 {
-    error.kind() == ErrorKind::Interrupted
+    error.kind() == ErrorKind::Interrupted && error.raw_os_error().is_some()
 }
 
 // Moves until all bytes are moved or a call moves none.

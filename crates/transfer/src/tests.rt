@@ -6,7 +6,7 @@ use std::io;
 use std::io::{Read, Write};
 use std::test::Fail;
 
-// An input or an output whose calls go by steps, the last one for all later calls: 0 to 9, so many bytes at most; i, interrupted by a signal; f, a failure.
+// An input or an output whose calls go by steps, the last one for all later calls: 0 to 9, so many bytes at most; i, interrupted by a signal; k, an error of that kind without a number; f, a failure.
 #[derive(Drop)]
 struct Stepped {
     steps: &'static [u8],
@@ -26,6 +26,7 @@ impl Stepped {
         }
         match *step {
             b'i' => Err(io::Error::from_raw_os_error(4)),
+            b'k' => Err(io::ErrorKind::Interrupted.into()),
             b'f' => Err(io::Error::from_raw_os_error(5)),
             digit => Ok(most.min(usize::from(digit).saturating_sub(48))),
         }
@@ -53,12 +54,13 @@ impl Write for Stepped {
 }
 
 // Steps, how many bytes are then an input, and what is told.
-const READS: [(&[u8], usize, &[u8]); 5] = [
+const READS: [(&[u8], usize, &[u8]); 6] = [
     (b"iii3i2ii9", 6, b""),
     (b"1", 6, b""),
     (b"40", 4, b""),
     (b"9f", 0, b"it: Input/output error\n"),
     (b"i", 0, b"it: Interrupted system call\n"),
+    (b"3k9", 0, b"it: operation interrupted\n"),
 ];
 
 #[test]
@@ -81,11 +83,12 @@ fn reads(rt: HostRuntime) -> Result<(), Fail> {
 }
 
 // Steps, how many bytes are then written, and what is told where that is not all.
-const WRITES: [(&[u8], usize, &[u8]); 4] = [
+const WRITES: [(&[u8], usize, &[u8]); 5] = [
     (b"ii4i1i9", 8, b""),
     (b"1", 8, b""),
     (b"40", 4, b"it: Success\n"),
     (b"4f", 4, b"it: Input/output error\n"),
+    (b"4k9", 4, b"it: operation interrupted\n"),
 ];
 
 #[test]

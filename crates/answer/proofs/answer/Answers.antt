@@ -8,4 +8,4 @@ returns-in-Ok c = record { line = _; right = c.in-Ok.ensures; lined = c.put_answ
 
 pub returns-in-Err : goal.returns-in-Err
 unfolding AnswerSays judged_line
-returns-in-Err c = record { line = _; right = c.in-Err.ensures; lined = c.put_refusal.ensures }
+returns-in-Err c = record { line = _; right = c.in-Err.ensures; lined = rw (c.number.ensures, c.place.ensures) at c.put_refusal.ensures }

@@ -28,4 +28,4 @@ returns-in-Clear c =
 
 pub returns-in-Done : goal.returns-in-Done
 returns-in-Done c =
-    done_says c.requires c.in-Done.is
+    rw c.unmoved.ensures (done_says c.requires c.in-Done.is)
