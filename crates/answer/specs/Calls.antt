@@ -52,10 +52,6 @@ pub record Told (LineRight : List ℕ → Type 0) (out out_now : List ℕ) (coun
   pub right : LineRight line
   pub lined : Lined line out out_now count
 
--- the line for a grammar and a capture
-abbrev pub PartsTold : (grammar capture : List ℕ) → (before after : Lent) → (out out_now : List ℕ) → (count : ℕ) → Type 0
-PartsTold gs cs x y o p n = Told (PartsSay gs cs x y) o p n
-
 -- THE CALL
 unfoldable pub AnswerSays : (input : List ℕ) → (before after : Lent) → (out out_now : List ℕ) → (count : ℕ) → Type 0
 AnswerSays xs x y o p n = Told (InputSays xs x y) o p n

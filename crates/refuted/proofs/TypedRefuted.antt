@@ -1,6 +1,7 @@
 -- The wrong neighbours of Typed.antt refuted: each by a closed example beside the promise. Assumes nothing.
 use Rattle.std.specs.Prelude.{Result, Err, Ok}
 use mathlib.Core.Path.{◌≡◌, refl, sym, ap, subst, ◌∙◌}
+use mathlib.Core.Logic.{◌⊎◌, inl, inr}
 use mathlib.Core.List.Memᴰ
 use mathlib.Core.List.{List, [], ◌∷◌, ◌++◌, Memᴰ}
 use mathlib.Core.Option.{some}
@@ -96,9 +97,14 @@ typed_right wrong = omega (arith, (wrong undefined_text (line_of not_there) lega
 empty_tells : ReadTells empty_text (grammar_answer (Grammar empty_grammar))
 empty_tells = record { reading = _; says = empty_read; told = refl }
 
+neither : {A B : Type 0} → A ⊎ B → (A → ⊥) → (B → ⊥) → ⊥
+neither (inl a) no_left no_right = no_left a
+neither (inr b) no_left no_right = no_right b
+
 pub read_determined : Wrong.ReadDetermined → ⊥
 unfolding grammar_answer
-read_determined wrong = omega (arith, ((wrong empty_text _ _ empty_tells empty_tells).1 _ refl).0)
+read_determined wrong =
+    neither ((wrong empty_text _ _ empty_tells empty_tells).1 _ refl) (λ unread. unread _ empty_read) (λ zeros. omega (arith, zeros.0))
 
 pub read_good : Wrong.ReadGood → ⊥
 unfolding grammar_answer rules kind_of b_of c_of rule_right grammar_rules_from grammar_refusal

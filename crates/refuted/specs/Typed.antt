@@ -1,5 +1,5 @@
 -- Wrong neighbours of the promises of Typed.antt, each under its promise's name, with what is wrong in it. Assumes nothing: each is a type, and proofs/ has a proof that nothing is of it.
-use Rattle.std.specs.Prelude.{◌≡◌, ◌↔◌, ℕ, suc, ◌*◌, ◌≤◌, length, take, drop, replicate, Result, Ok}
+use Rattle.std.specs.Prelude.{◌≡◌, ◌↔◌, ◌⊎◌, ℕ, suc, ◌*◌, ◌≤◌, length, take, drop, replicate, Result, Ok}
 use mathlib.Core.List.{List, [], ◌∷◌, ◌++◌, Memᴰ}
 use Rattle.std.proofs.Math.Option.{Option, none, some}
 use Rattle.refusal.specs.declared.Refusal.{Refusal}
@@ -55,11 +55,13 @@ ReadingExact = (text : List ℕ) → (gs : List ℕ) × ReadSays text (Grammar g
 abbrev pub TypedParses : Type 0
 TypedParses = (text : List ℕ) (ds : List Definition) → LegalText text ds → TypedRight ds (grammar_of ds)
 
--- a text that is read has no grammar, where one that is refused has none
+-- a text that is read has no grammar, or one of no rules, its bytes all 0, where one that is refused has none
 abbrev pub ReadDetermined : Type 0
 ReadDetermined =
     (text : List ℕ) (r s : Result GrammarBytes Refusal) → ReadTells text r → ReadTells text s →
-    (r ≡ s) × ((g : GrammarBytes) → r ≡ Ok g → (g.length ≡ 0) × (g.bytes ≡ replicate (4 * max_rules) 0))
+    (r ≡ s) ×
+    ((g : GrammarBytes) → r ≡ Ok g →
+        ((gs : List ℕ) → ReadSays text (Grammar gs) → ⊥) ⊎ ((g.length ≡ 0) × (g.bytes ≡ replicate (4 * max_rules) 0)))
 
 -- the zero bytes behind the grammar are taken for rules
 abbrev pub ReadGood : Type 0
