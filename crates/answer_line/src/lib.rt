@@ -1,7 +1,7 @@
 // The answer's line as bytes, written into a buffer one byte after the other as far as there is room.
 #![tactic(auto)]
 
-ghost use Rattle.std.specs.Prelude.{◌≡◌, ◌<◌, ◌^◌, ◌∷◌, ◌++◌, []};
+ghost use Rattle.std.specs.Prelude.{◌≡◌, ◌<◌, ◌∷◌, ◌++◌, []};
 ghost use Rattle.answer_line.specs.Line.{Lined, line_feed, decimal, field, refused_word, verdict_word, refusal_line, recursion_line, passes_line, answer_line};
 ghost use Rattle.refusal.specs.First.{refusal};
 ghost use Rattle.answer_line.specs.Code.Writing.{Writes, WritesConfig};

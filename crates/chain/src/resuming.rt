@@ -9,7 +9,8 @@ use crate::{Environment, Mode, Registers};
 use image::lookup;
 use machine::{Action, Config, Termination, Verdict};
 
-// The same registers, part by part: handed on whole, they would be copied at every step.
+// The same registers, part by part.
+// kept: with r itself in its place the compiler makes one jump for all modes, and judging takes up to half more time (docs/DECISIONS.md, 91).
 pub fn unmoved(r: Registers) -> Registers
     ensures { result ≡ r }
 {

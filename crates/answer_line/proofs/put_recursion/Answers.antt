@@ -8,5 +8,5 @@ use Rattle.answer_line.proofs.put_recursion.Goals as goal
 pub returns : goal.returns
 unfolding recursion_line
 returns c =
-    let parts = write_both (write_both (rw (c.number.ensures, c.place.ensures, c.new.ensures) at c.refusal.ensures) c.field.ensures) c.finish.ensures.feed in
+    let parts = write_both (write_both (rw (c.number.ensures, c.place.ensures, c.new-refusal.ensures) at c.refusal.ensures) c.field.ensures) c.finish.ensures.feed in
     rw c.finish.ensures.count (line_held parts (recursion_short c.args.rule c.args.name (omega arith) (omega arith)) refl (search rules))
