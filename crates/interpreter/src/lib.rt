@@ -4,7 +4,7 @@
 pub mod replies;
 pub mod step;
 
-ghost use Rattle.std.specs.Prelude.{◌≡◌, length};
+ghost use Rattle.std.specs.Prelude.{◌≡◌, length, replicate};
 ghost use Rattle.refusal.specs.Checking.{checked};
 ghost use Rattle.interpreter.specs.Calls.{run_refusal, RunSays};
 ghost use Rattle.interpreter.specs.Code.Stepping.{RunReady, RunAnswers};
@@ -72,6 +72,13 @@ fn check_run(image: &[u8], capture: &[u8], cells: usize) -> Result<(), Refusal>
     Ok(())
 }
 
+// Every cell becomes 0.
+fn clear(stack: &mut [u32])
+    ensures { stack.new ≡ replicate (length stack.old) 0 }
+{
+    stack.fill(0);
+}
+
 // THE PLAIN RUN of an image on a capture, within a budget of steps, on lent stack cells.
 pub fn plain_run(
     image: &[u8],
@@ -83,6 +90,6 @@ pub fn plain_run(
 {
     check_run(image, capture, stack.len())?;
     let end = run(image, capture, budget, stack);
-    stack.fill(0);
+    clear(stack);
     Ok(end)
 }

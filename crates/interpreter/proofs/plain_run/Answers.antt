@@ -16,4 +16,4 @@ run-end-requires c = run_ready _ _ _ (sym c.in_ok-check_run.ensures) (λ i. (c.t
 pub returns : goal.returns
 returns c =
     says_answer _ _ _ _ _ _ (checked-passes _ (sym c.in_ok-check_run.ensures)) (ap Ok c.run-end.ensures)
-    (c.fill.ensures.after (λ y e. e) ∙ ap (λ (n : ℕ). replicate n 0) c.run-end.auto.stack)
+    (c.clear.ensures ∙ ap (λ (n : ℕ). replicate n 0) c.run-end.auto.stack)
