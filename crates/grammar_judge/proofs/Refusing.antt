@@ -40,8 +40,16 @@ module _ (gs cs : List ℕ) (good : (grammar_refusal gs).number ≡ 0) (a b : �
     fine_so_far : (capture_refusal (built Whole gs) (length cs)).number ≡ 0
     fine_so_far = ap (λ (f : Refusal). f.number) (sym (then_fine (built Whole gs) (length cs) (image_refusal (built Whole gs)) refl (built_good Whole gs good) short))
 
-    pub cells_decide : checked (short_refusal cells a b) ≡ checked (judge_refusal (built Whole gs) cs a b)
+    cells_decide : checked (short_refusal cells a b) ≡ checked (judge_refusal (built Whole gs) cs a b)
     cells_decide = short_decides (built Whole gs) cs a b fine_so_far is
+
+    -- the same of counts that are shown to be those that were lent
+    pub cells_decided : (m n : ℕ) → m ≡ a → n ≡ b → {r : Result Unit Refusal} → r ≡ checked (short_refusal cells m n) → r ≡ checked (judge_refusal (built Whole gs) cs a b)
+    cells_decided m n notes work h =
+        h
+        ∙ ap (λ (k : ℕ). checked (short_refusal cells k n)) notes
+        ∙ ap (λ (k : ℕ). checked (short_refusal cells a k)) work
+        ∙ cells_decide
 
 -- 11 TO 13 first
 pub first_refused : (gs cs : List ℕ) (m a b : ℕ) (f : Refusal) → Err f ≡ checked (build_refusal gs m) → Err f ≡ checked (parts_refusal gs cs m a b)

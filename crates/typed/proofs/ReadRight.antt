@@ -25,6 +25,7 @@ use Rattle.syntax_theory.proofs.TypedRight.{typed_right}
 use Rattle.std.specs.Prelude.{Result, Ok, Err}
 use Rattle.reader.specs.declared.GrammarBytes.{GrammarBytes}
 use Rattle.reader.specs.Calls.{padded, grammar_answer, ReadTells}
+use Rattle.typed.specs.Calls.{BuildTextSays, unread}
 use Rattle.typed.specs.TypedCalls.{TypedGrammar}
 
 -- ONE ANSWER
@@ -160,6 +161,10 @@ module _ (text : List ℕ) (r : GrammarBytes) (t : ReadTells text (Ok r)) where
 
 pub text_refused : (text : List ℕ) (f : Refusal) → ReadTells text (Err f) → ReadSays text (Refused f)
 text_refused text f t = told_refused text f t.reading t.says t.told
+
+-- a text that is refused changes no byte of the lent buffer
+pub unread_told : (text image : List ℕ) (f : Refusal) → ReadTells text (Err f) → BuildTextSays text (Err f) image image
+unread_told text image f t = unread (text_refused _ _ t)
 
 pub read_determined : (text : List ℕ) (r s : Result GrammarBytes Refusal) → ReadTells text r → ReadTells text s → r ≡ s
 read_determined text r s t u =

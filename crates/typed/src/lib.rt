@@ -17,13 +17,14 @@ use refusal::Refusal;
 use simulator::Judgement;
 
 // Building, from a text: the image's length, or the first refusal. Later bytes stay, and a refusal changes none.
+#[tactic(auto, using(crate::proofs::ReadRight::unread_told))]
 pub fn build_text(text: &[u8], image: &mut [u8]) -> Result<usize, Refusal>
     ensures { BuildTextSays text.now result image.old image.new }
 {
-    let read = read(text)?;
-    let bytes = read.bytes;
+    let parsed = read(text)?;
+    let bytes = parsed.bytes;
     let grammar = Grammar {
-        bytes: &bytes[..read.length],
+        bytes: &bytes[..parsed.length],
     };
     build_planned(plan_of(grammar), image, Matching::Whole)
 }
