@@ -55,13 +55,13 @@ ReadingExact = (text : List ℕ) → (gs : List ℕ) × ReadSays text (Grammar g
 abbrev pub TypedParses : Type 0
 TypedParses = (text : List ℕ) (ds : List Definition) → LegalText text ds → TypedRight ds (grammar_of ds)
 
--- a text that is read has no grammar, or one of no rules, its bytes all 0, where one that is refused has none
+-- what holds of a refused text is said of one that is read: no grammar's bytes are a reading of it, or all bytes are 0
 abbrev pub ReadDetermined : Type 0
 ReadDetermined =
     (text : List ℕ) (r s : Result GrammarBytes Refusal) → ReadTells text r → ReadTells text s →
     (r ≡ s) ×
     ((g : GrammarBytes) → r ≡ Ok g →
-        ((gs : List ℕ) → ReadSays text (Grammar gs) → ⊥) ⊎ ((g.length ≡ 0) × (g.bytes ≡ replicate (4 * max_rules) 0)))
+    ((gs : List ℕ) → ReadSays text (Grammar gs) → ⊥) ⊎ ((g.length ≡ 0) × (g.bytes ≡ replicate (4 * max_rules) 0)))
 
 -- the zero bytes behind the grammar are taken for rules
 abbrev pub ReadGood : Type 0
