@@ -69,6 +69,16 @@ lent_refuses gs cs x f e =
     let some : eqb (lent_refusal gs cs x).number 0 ≡ false = checked-refused _ _ (sym e) in
     subst (λ (g : Refusal). JudgesBy gs cs (Err g) x x) (sym is) (refused (eqb-false _ _ some))
 
+-- the same of counts that are shown to be those that were lent
+pub counts_lent :
+    (gs cs : List ℕ) (x : Lent) (m a b : ℕ) → m ≡ length x.image → a ≡ length x.notes → b ≡ length x.work → {r : Result Unit Refusal} →
+    r ≡ checked (parts_refusal gs cs m a b) → r ≡ checked (lent_refusal gs cs x)
+counts_lent gs cs x m a b image notes work h =
+    h
+    ∙ ap (λ (k : ℕ). checked (parts_refusal gs cs k a b)) image
+    ∙ ap (λ (k : ℕ). checked (parts_refusal gs cs (length x.image) k b)) notes
+    ∙ ap (λ (k : ℕ). checked (parts_refusal gs cs (length x.image) (length x.notes) k)) work
+
 -- NOTHING REFUSED: room for the image, a good image with a short capture, and cells enough
 pub record Roomy (gs cs : List ℕ) (x : Lent) : Type 0 where
   pub image_room : built_length gs ≤ length x.image
